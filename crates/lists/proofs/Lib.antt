@@ -1,0 +1,2 @@
+-- The laws of the words on lists.
+pub mod Laws
