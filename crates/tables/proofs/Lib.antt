@@ -1,0 +1,10 @@
+-- What holds of the project's tables.
+pub mod Rows
+pub mod Rise
+pub mod Accepted
+pub mod Scan
+pub mod Lengths
+pub mod Chain
+pub mod Once
+pub mod Number
+pub mod Answering

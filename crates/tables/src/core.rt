@@ -1,0 +1,70 @@
+// Row look-ups, for crates above, on tested tables.
+ghost use mathlib.Core.Path.{_≡_};
+ghost use Prim.Native.Nat.{ℕ, _<_};
+ghost use lib.ListN.{length};
+ghost use Rattle.tables.specs.Lookups.{Rising, FirstRow};
+ghost use Rattle.tables.specs.Readings.{isStatic, resolved, membersOf};
+use crate::ModuleIdx;
+use crate::Target;
+
+// The first row of a rising column that is at least x.
+pub fn first_row(column: &[u32], x: usize) -> usize
+    requires { ⌜ Rising (now column) ⌝ }
+    ensures { λ r. ⌜ FirstRow (now (column .entry)) x r ⌝ }
+{
+    let mut low = 0;
+    let mut high = column.len();
+    while low < high {
+        let middle = low + (high - low) / 2;
+        if (column[middle] as usize) < x {
+            low = middle + 1;
+        } else {
+            high = middle;
+        }
+    }
+    low
+}
+
+// The target of a record row.
+pub fn resolve(normal: &[u32], target: &[u32], row: usize) -> Target
+    requires { ⌜ row < length (now target) ⌝ }
+    ensures { λ r. ⌜ r ≡ resolved (now (normal .entry)) (now (target .entry)) row ⌝ }
+{
+    let t = target[row];
+    if t == ModuleIdx::MISSING {
+        return Target::Missing;
+    }
+    let at = t as usize;
+    if normal.len() <= at {
+        return Target::External(t);
+    }
+    if normal[at] == 1 {
+        return Target::Normal(t);
+    }
+    Target::External(t)
+}
+
+// The members of a chunk: that part of the member column.
+pub fn members<'a, 'b>(chunk: &'b [u32], member: &'a [u32], c: u32) -> &'a [u32]
+    requires rising { ⌜ Rising (now chunk) ⌝ }
+    requires lengths { ⌜ length (now member) ≡ length (now chunk) ⌝ }
+    ensures { λ r. ⌜ now r ≡ membersOf (now (chunk .entry)) (now (member .entry)) c ⌝ }
+{
+    let x = c as usize;
+    let start = first_row(chunk, x);
+    let end = first_row(chunk, x + 1);
+    &member[start..end]
+}
+
+// Whether a record of this kind is static.
+pub fn is_static(dynamic: u32, kind: u32) -> bool
+    ensures { λ r. ⌜ r ≡ isStatic dynamic kind ⌝ }
+{
+    if kind < 2 {
+        return true;
+    }
+    if kind == 2 {
+        return dynamic == 1;
+    }
+    false
+}
