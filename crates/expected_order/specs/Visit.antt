@@ -1,0 +1,26 @@
+-- What the core functions ask and ensure.
+-- Assumes nothing.
+use mathlib.Core.Path.{_≡_}
+use mathlib.Core.List.{List, _++_}
+use Prim.Native.Nat.{ℕ}
+use lib.ListN.{length, drop, replicate}
+use Rattle.walk.specs.Walk.{St, Placed}
+use Rattle.tables.specs.Lookups.{Rising}
+
+-- the columns fit each other: n modules, and records in module order
+pub record Fit (normal included recordModule recordKind recordTarget : List ℕ) (n : ℕ) : Type 0 where
+  pub normals : length normal ≡ n
+  pub includeds : length included ≡ n
+  pub kinds : length recordKind ≡ length recordModule
+  pub targets : length recordTarget ≡ length recordModule
+  pub rising : Rising recordModule
+
+-- the state of the walk as the slices hold it
+abbrev pub held : List ℕ → List ℕ → ℕ → St Placed
+held marks order count = record { marks = marks; made = record { order = order; count = count } }
+
+-- a list is written to a slice from place 0 and the rest stays, the marks are zeroed, and r is the list's length
+pub record Listed (list marks order marks′ order′ : List ℕ) (r : ℕ) : Type 0 where
+  pub count : r ≡ length list
+  pub written : order′ ≡ list ++ drop (length list) order
+  pub cleared : marks′ ≡ replicate (length marks) 0
