@@ -1,0 +1,115 @@
+-- Laws on lists that only this crate needs.
+-- Assumes nothing.
+use mathlib.Core.Path.{_≡_, refl, sym, ap, _∙_}
+use mathlib.Core.Logic.{⊎-elim}
+use mathlib.Core.Bool.{Bool, true, false, cond, not, _&&_, _||_, true≢false}
+use mathlib.Core.List.{List, [], _∷_, _++_, map, List·Memᴰ, Memᴰ·map, Memᴰ·of-map}
+use Prim.Native.Nat.{ℕ, zero, suc, _+_, _≤_, _<_}
+use native.Mathlib.Nat.{eq-or-lt-of-le, zero-add, add-zero, add-suc, suc-add}
+use native.Mathlib.Numerals.{add-one}
+use native.Mathlib.Omega.{arith}
+use lib.ListN.{length, getD, take, drop, length-map, length-append}
+use lib.Seq.{ext-getD, take-at, drop-cons}
+use lib.Dec.{eqb}
+use borrow.Author.Tests.{eqb-true, eq-eqb}
+use Rattle.lists.specs.Words.{isZero, countFrom, upTo, keep, any}
+use Rattle.lists.proofs.Laws.{both, length-countFrom, countFrom-append, any-append, mem-keep, keep-mem, mem-upTo, upTo-mem}
+use Rattle.tables.specs.Readings.{firstOf, rowsOf, valuesOf}
+
+-- the first that passes of a run of numbers is the lowest that passes
+pub first-keep : (f : ℕ → Bool) (i n x : ℕ) → i ≤ x → x < i + n → f x ≡ true
+    → (f (firstOf (keep f (countFrom i n))) ≡ true) × (firstOf (keep f (countFrom i n)) ≤ x) × (i ≤ firstOf (keep f (countFrom i n)))
+first-keep f i zero x a b e = absurd (omega arith)
+first-keep f i (suc n) x a b e =
+    ⊎-elim
+    (λ t. rw t (t, a, omega arith))
+    (λ t. rw t (⊎-elim (λ q. absurd (true≢false (sym e ∙ sym (ap f q) ∙ t))) (λ q. let r = first-keep f (suc i) n x q (omega arith) e in (r .0, r .1, omega (arith, r .2))) (eq-or-lt-of-le a)))
+    (both (f i))
+
+-- a list by a function of its places
+getD-map-from : (f : ℕ → ℕ) (i n k d : ℕ) → k < n → getD (map f (countFrom i n)) k d ≡ f (i + k)
+getD-map-from f i zero k d l = absurd (omega arith)
+getD-map-from f i (suc n) zero d l = ap f (sym (add-zero i))
+getD-map-from f i (suc n) (suc k) d l = getD-map-from f (suc i) n k d (omega arith) ∙ ap f (suc-add i k ∙ sym (add-suc i k))
+
+pub getD-map-upTo : (f : ℕ → ℕ) (n k d : ℕ) → k < n → getD (map f (upTo n)) k d ≡ f k
+getD-map-upTo f n k d l = getD-map-from f 0 n k d l ∙ ap f (zero-add k)
+
+-- the values of an owner, by their rows
+pub values-row : (owner column : List ℕ) (c d : ℕ) → List·Memᴰ d (valuesOf owner column c)
+    → (row : ℕ) × (row < length owner) × (getD owner row 0 ≡ c) × (getD column row 0 ≡ d)
+unfolding valuesOf rowsOf
+values-row owner column c d h =
+    let r = Memᴰ·of-map (λ (row : ℕ). getD column row 0) (keep (λ (row : ℕ). eqb (getD owner row 0) c) (upTo (length owner))) h in
+    let k = mem-keep (λ (row : ℕ). eqb (getD owner row 0) c) (upTo (length owner)) (r .1) in
+    (r .0, mem-upTo (k .0), eqb-true (getD owner (r .0) 0) c (k .1), r .2)
+
+pub row-values : (owner column : List ℕ) (row : ℕ) → row < length owner → List·Memᴰ (getD column row 0) (valuesOf owner column (getD owner row 0))
+unfolding valuesOf rowsOf
+row-values owner column row l =
+    Memᴰ·map (λ (r : ℕ). getD column r 0) (keep-mem (λ (r : ℕ). eqb (getD owner r 0) (getD owner row 0)) (upTo (length owner)) (upTo-mem l) (eq-eqb (getD owner row 0) (getD owner row 0) refl))
+
+-- a mark that is not 0 is in, and one that is 0 is out
+pub mark-in : (x : ℕ) → (x ≡ 0 → ⊥) → not (isZero x) ≡ true
+mark-in zero k = absurd (k refl)
+mark-in (suc x) k = refl
+
+pub mark-out : (x : ℕ) → x ≡ 0 → not (isZero x) ≡ false
+mark-out x e = ap (λ (y : ℕ). not (isZero y)) e
+
+-- two lists by functions of their places
+pub length-map-upTo : (f : ℕ → ℕ) (n : ℕ) → length (map f (upTo n)) ≡ n
+length-map-upTo f n = length-map (upTo n) f ∙ length-countFrom 0 n
+
+pub map-upTo-cong : (f g : ℕ → ℕ) (n : ℕ) → ((d : ℕ) → d < n → f d ≡ g d) → map f (upTo n) ≡ map g (upTo n)
+map-upTo-cong f g n h =
+    ext-getD 0 (map f (upTo n)) (map g (upTo n)) (length-map-upTo f n ∙ sym (length-map-upTo g n))
+    (λ i l. let k : i < n = omega (arith, length-map-upTo f n) in getD-map-upTo f n i 0 k ∙ h i k ∙ sym (getD-map-upTo g n i 0 k))
+
+-- a list is that of its own values
+pub map-upTo-self : (xs : List ℕ) (n : ℕ) → length xs ≡ n → map (λ (d : ℕ). getD xs d 0) (upTo n) ≡ xs
+map-upTo-self xs n e =
+    ext-getD 0 (map (λ (d : ℕ). getD xs d 0) (upTo n)) xs (length-map-upTo (λ (d : ℕ). getD xs d 0) n ∙ sym e)
+    (λ i l. getD-map-upTo (λ (d : ℕ). getD xs d 0) n i 0 (omega (arith, length-map-upTo (λ (d : ℕ). getD xs d 0) n)))
+
+-- the front of a list that was put back in front of the rest
+pub front-room : (xs ys : List ℕ) (n : ℕ) → length xs ≡ n → n ≤ length (xs ++ ys)
+front-room xs ys n e = omega (arith, length-append xs ys)
+
+pub front-length : (xs ys : List ℕ) (n : ℕ) → length xs ≡ n → length (take n (xs ++ ys)) ≡ n
+front-length xs ys n e = ap length (take-at xs ys n e) ∙ e
+
+-- those that pass, from place i on
+pub keep-in : (f : ℕ → Bool) (xs : List ℕ) (i : ℕ) → i < length xs → f (getD xs i 0) ≡ true → length (keep f (drop i xs)) ≡ suc (length (keep f (drop (i + 1) xs)))
+keep-in f xs i l e = rw (add-one, drop-cons xs i 0, e)
+
+pub keep-out : (f : ℕ → Bool) (xs : List ℕ) (i : ℕ) → i < length xs → f (getD xs i 0) ≡ false → length (keep f (drop i xs)) ≡ length (keep f (drop (i + 1) xs))
+keep-out f xs i l e = rw (add-one, drop-cons xs i 0, e)
+
+-- those of a mapped list that pass
+pub keep-map : (f : ℕ → Bool) (g : ℕ → ℕ) (xs : List ℕ) → length (keep f (map g xs)) ≡ length (keep (λ (x : ℕ). f (g x)) xs)
+keep-map f g [] = refl
+keep-map f g (x ∷ xs) =
+    ⊎-elim
+    (λ e. rw e (ap suc (keep-map f g xs)))
+    (λ e. rw e (keep-map f g xs))
+    (both (f (g x)))
+
+-- none below i passes
+pub none-below : (f : ℕ → Bool) (i : ℕ) → any f (upTo i) ≡ false → f i ≡ false → any f (upTo (i + 1)) ≡ false
+none-below f i a b =
+    ap (any f) (countFrom-append 0 i 1)
+    ∙ any-append f (upTo i) (countFrom (0 + i) 1)
+    ∙ ap (λ (t : Bool). t || any f (countFrom (0 + i) 1)) a
+    ∙ ap (λ (k : ℕ). any f (countFrom k 1)) (zero-add i)
+    ∙ ap (λ (t : Bool). cond t true false) b
+
+-- within a list the value that stands past its end does not matter
+pub getD-in : (xs : List ℕ) (i d e : ℕ) → i < length xs → getD xs i d ≡ getD xs i e
+getD-in [] i d e l = absurd (omega arith)
+getD-in (x ∷ xs) zero d e l = refl
+getD-in (x ∷ xs) (suc i) d e l = getD-in xs i d e (omega arith)
+
+pub and-out : (a b : Bool) → b ≡ false → (a && b) ≡ false
+and-out true b e = e
+and-out false b e = refl
