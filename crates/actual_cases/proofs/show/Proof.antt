@@ -1,0 +1,63 @@
+-- `actual_cases::show` is safe and ends.
+-- Assumes nothing.
+use Prim.Native.Nat.{_≤_, _-_}
+use borrow.Author.Needs.{needs}
+use Rattle.actual_cases.proofs.show.Statement.{statement}
+use Rattle.actual_cases.proofs.show.Tie as tie
+
+abbrev Inv-loop : tie.InvT-loop
+Inv-loop word places i₀ t4 i = i ≤ 4
+
+abbrev μ-loop : tie.MeasureT-loop
+μ-loop word places i₀ t4 i = 4 - i
+
+write-all-requires : tie.Need-write-all-requires Inv-loop μ-loop
+write-all-requires c κs = search needs
+
+loop-holds : tie.Need-loop-holds Inv-loop μ-loop
+loop-holds c = search needs
+
+mul-show-place : tie.Need-mul-show-place Inv-loop μ-loop
+mul-show-place c = search needs
+
+shared-slice-read-show-place : tie.Need-shared-slice-read-show-place Inv-loop μ-loop
+shared-slice-read-show-place c = search needs
+
+show-place-requires : tie.Need-show-place-requires Inv-loop μ-loop
+show-place-requires c κs = search needs
+
+add-i : tie.Need-add-i Inv-loop μ-loop
+add-i c = search needs
+
+loop-less : tie.Need-loop-less Inv-loop μ-loop
+loop-less c = search needs
+
+loop-again : tie.Need-loop-again Inv-loop μ-loop
+loop-again c = search needs
+
+slice-aggregate-write-all : tie.Need-slice-aggregate-write-all Inv-loop μ-loop
+slice-aggregate-write-all c = search needs
+
+write-all-requires-2 : tie.Need-write-all-requires-2 Inv-loop μ-loop
+write-all-requires-2 c κs = search needs
+
+returns : tie.Need-returns Inv-loop μ-loop
+returns c = search needs
+
+pub show-spec : {M : Type 1} → statement M
+show-spec =
+    tie.close
+    (tie.spec
+    Inv-loop
+    μ-loop
+    write-all-requires
+    loop-holds
+    mul-show-place
+    shared-slice-read-show-place
+    show-place-requires
+    add-i
+    loop-less
+    loop-again
+    slice-aggregate-write-all
+    write-all-requires-2
+    returns)

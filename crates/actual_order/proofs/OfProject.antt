@@ -1,0 +1,59 @@
+-- What holds of the actual order of a root of a project, and of its hosts.
+-- Assumes nothing.
+use mathlib.Core.Path.{_≡_}
+use mathlib.Core.Logic.{_⊎_, inl, inr, ⊎-elim}
+use mathlib.Core.Bool.{true, false}
+use mathlib.Core.List.{List, List·Memᴰ}
+use Prim.Native.Nat.{ℕ, _≤_, _<_}
+use lib.ListN.{length, getD}
+use Rattle.lists.specs.Words.{Distinct}
+use Rattle.tables.specs.Project.{Project, missing}
+use Rattle.tables.specs.Readings.{modules, chunks, isNormal, flagged, wrapped, membersOf, entryChunkOf}
+use Rattle.actual_order.specs.LoadOrder.{loadOrder}
+use Rattle.actual_order.specs.Actual.{chunkOrder, hostsInTurn, runOf, actualOf, hostsOf}
+use Rattle.actual_order.proofs.Actuals.{run-distinct, run-member, run-length, run-noted, run-hosts-length, turn-host}
+
+module _ (p : Project) (root : ℕ) where
+  abbrev loads : ℕ → List ℕ
+  loads = loadOrder (p .order) (p .importChunk) (p .imports)
+
+  abbrev turns : List ℕ
+  turns = hostsInTurn (p .wrap) (p .memberChunk) (p .member) loads (chunks p) root (entryChunkOf p root)
+
+  -- "no module stands twice"
+  pub actual-distinct : Distinct (actualOf p root)
+  unfolding actualOf runOf
+  actual-distinct = run-distinct (p .normal) (p .included) (p .wrap) (p .recordModule) (p .recordKind) (p .recordTarget) turns
+
+  -- "each is normal and included"
+  pub actual-member : (m : ℕ) → List·Memᴰ m (actualOf p root) → (m < modules p) × (isNormal (p .normal) m ≡ true) × (flagged (p .included) m ≡ true)
+  unfolding actualOf runOf
+  actual-member = run-member (p .normal) (p .included) (p .wrap) (p .recordModule) (p .recordKind) (p .recordTarget) turns
+
+  pub actual-length : length (actualOf p root) ≤ modules p
+  unfolding actualOf runOf
+  actual-length = run-length (p .normal) (p .included) (p .wrap) (p .recordModule) (p .recordKind) (p .recordTarget) turns
+
+  pub hosts-length : length (hostsOf p root) ≡ modules p
+  unfolding hostsOf runOf
+  hosts-length = run-hosts-length (p .normal) (p .included) (p .wrap) (p .recordModule) (p .recordKind) (p .recordTarget) turns
+
+  -- a module with a noted host has wrap not 0; both are listed, and the host was executed by a chunk that is visited, or is the root
+  pub record HasHost (m host : ℕ) : Type 0 where
+    pub wraps : wrapped (p .wrap) m ≡ true
+    pub listed : List·Memᴰ m (actualOf p root)
+    pub host-listed : List·Memᴰ host (actualOf p root)
+    pub from : ((c : ℕ) × List·Memᴰ c (chunkOrder loads (chunks p) (entryChunkOf p root)) × List·Memᴰ host (membersOf (p .memberChunk) (p .member) c) × (wrapped (p .wrap) host ≡ false)) ⊎ ((host ≡ root) × (wrapped (p .wrap) root ≡ true))
+
+  pub hosts-noted : (m : ℕ) → (getD (hostsOf p root) m missing ≡ missing) ⊎ HasHost m (getD (hostsOf p root) m missing)
+  unfolding actualOf hostsOf runOf
+  hosts-noted m =
+      ⊎-elim
+      (λ e. inl e)
+      (λ n. inr record {
+        wraps = n .wraps;
+        listed = n .listed;
+        host-listed = n .host-listed;
+        from = turn-host (p .wrap) (p .memberChunk) (p .member) loads (chunks p) root (entryChunkOf p root) (getD (hostsOf p root) m missing) (n .host);
+      })
+      (run-noted (p .normal) (p .included) (p .wrap) (p .recordModule) (p .recordKind) (p .recordTarget) turns m)

@@ -1,0 +1,106 @@
+-- What the core functions ask and ensure.
+-- Assumes nothing.
+use mathlib.Core.Path.{_≡_}
+use mathlib.Core.Bool.{cond}
+use mathlib.Core.List.{List, [], _∷_, _++_, List·Memᴰ}
+use Prim.Native.Nat.{ℕ, _+_, _*_, _≤_, _<_}
+use lib.ListN.{length, getD, take, drop, set}
+use Rattle.lists.specs.Words.{keep}
+use Rattle.walk.specs.Walk.{St, Placed, visit}
+use Rattle.tables.specs.Lookups.{Rising}
+use Rattle.tables.specs.Accepted.{Below, BelowOrMissing}
+use Rattle.tables.specs.Refusal.{chunkLimit}
+use Rattle.tables.specs.Project.{missing}
+use Rattle.tables.specs.Readings.{flagged, wrapped, isEager, anyTarget, rowTargets, valuesOf, firstOf}
+use Rattle.actual_order.specs.Actual.{Executed, noted, executes, triggered}
+use Rattle.actual_order.specs.declared.core.Trigger.{Trigger}
+use Rattle.actual_order.specs.declared.core.Trigger.the-variants.{Nothing, Module}
+
+-- a chunk's `order` and row as one number: it rises by order, and by row in a tie
+abbrev pub rank : List ℕ → ℕ → ℕ
+rank order d = getD order d 0 * 1024 + d
+
+-- every one is below n
+abbrev pub Inside : ℕ → List ℕ → Type 0
+Inside n xs = (d : ℕ) → List·Memᴰ d xs → d < n
+
+-- x was put in at a place, and what stood last fell out
+pub record Shifted (at x : ℕ) (old new : List ℕ) : Type 0 where
+  pub out : ℕ
+  pub same : new ++ (out ∷ []) ≡ take at old ++ (x ∷ drop at old)
+
+-- the chunk imports as the tests leave them: by rising chunk, no pair twice, and each between chunks
+pub record Imports (order importChunk imports : List ℕ) : Type 0 where
+  pub limit : length order ≤ chunkLimit
+  pub rising : Rising importChunk
+  pub lengths : length imports ≡ length importChunk
+  pub chunks : Below (length order) importChunk
+  pub inside : Below (length order) imports
+  pub once : (i j : ℕ) → i < j → j < length importChunk → getD importChunk i 0 ≡ getD importChunk j 0 → getD imports i 0 ≡ getD imports j 0 → ⊥
+
+-- chunks in load order, chunk by rising chunk
+pub record Loads (importChunk loads : List ℕ) (n : ℕ) : Type 0 where
+  pub rising : Rising importChunk
+  pub lengths : length loads ≡ length importChunk
+  pub inside : Below n loads
+
+-- a walk over chunks as the slices hold it
+abbrev pub visiting : List ℕ → List ℕ → ℕ → St Placed
+visiting marks visited count = record { marks = marks; made = record { order = visited; count = count } }
+
+-- the columns of modules and records fit each other: n modules, and records in module order
+pub record Fit (normal included wrap recordModule recordKind recordTarget : List ℕ) (n : ℕ) : Type 0 where
+  pub normals : length normal ≡ n
+  pub includeds : length included ≡ n
+  pub wraps : length wrap ≡ n
+  pub kinds : length recordKind ≡ length recordModule
+  pub targets : length recordTarget ≡ length recordModule
+  pub inside : BelowOrMissing n recordTarget
+  pub rising : Rising recordModule
+
+-- the module that an answer names
+abbrev pub named : Trigger → List ℕ
+named Nothing = []
+named (Module t) = t ∷ []
+
+-- what a record row triggers: its target, if its kind is 0 or 1 and the target's wrap is not 0
+abbrev pub rowTriggers : List ℕ → List ℕ → List ℕ → List ℕ → ℕ → List ℕ
+rowTriggers normal wrap recordKind recordTarget row = keep (wrapped wrap) (rowTargets isEager anyTarget normal recordKind recordTarget row)
+
+-- what executing modules makes, as the slices hold it: the modules listed, which stand below `count`, and the hosts
+pub record Filling : Type 0 where
+  pub order : List ℕ
+  pub count : ℕ
+  pub hosts : List ℕ
+
+-- one more is listed, and its host noted
+abbrev pub fills : ℕ → Filling → ℕ → Filling
+fills host f m = record { order = set (f .order) (f .count) m; count = f .count + 1; hosts = noted host (f .hosts) m }
+
+abbrev pub executing : List ℕ → List ℕ → List ℕ → ℕ → St Filling
+executing marks order hosts count = record { marks = marks; made = record { order = order; count = count; hosts = hosts } }
+
+-- a module is executed as its own host
+unfoldable pub hosted : List ℕ → List ℕ → List ℕ → List ℕ → List ℕ → List ℕ → St Filling → ℕ → St Filling
+hosted normal included wrap recordModule recordKind recordTarget s host =
+    visit (triggered normal wrap recordModule recordKind recordTarget) (executes normal included) (fills host) (length normal) s host
+
+-- a list is written from place 0, the rest stands as it did, and r is the list's length
+pub record Written (list old new : List ℕ) (r : ℕ) : Type 0 where
+  pub count : r ≡ length list
+  pub places : new ≡ list ++ drop (length list) old
+
+-- a run is written: its list and its hosts
+pub record Listed (e : Executed) (order order′ hosts′ : List ℕ) (r : ℕ) : Type 0 where
+  pub listed : Written (e .listed) order order′ r
+  pub hosts : hosts′ ≡ e .hosts
+
+-- the columns of members fit: n modules
+pub record Members (memberChunk member : List ℕ) (n : ℕ) : Type 0 where
+  pub rising : Rising memberChunk
+  pub lengths : length member ≡ length memberChunk
+  pub inside : Below n member
+
+-- the entry chunk of a root that is an included entry, or the mark
+unfoldable pub analysedChunk : List ℕ → List ℕ → List ℕ → ℕ → ℕ
+analysedChunk included entry entryChunk root = cond (flagged included root) (firstOf (valuesOf entry entryChunk root)) missing

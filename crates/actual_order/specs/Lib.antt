@@ -1,0 +1,5 @@
+-- The actual order of an entry, and its hosts.
+pub mod LoadOrder
+pub mod Actual
+pub mod Cores
+pub mod Promise
