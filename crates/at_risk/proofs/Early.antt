@@ -1,0 +1,127 @@
+-- A running maximum over the actual places decides which modules of the expected sensitive order are early.
+-- Assumes nothing.
+use mathlib.Core.Path.{_≡_, refl, sym, ap, subst, _∙_}
+use mathlib.Core.Logic.{⊎-elim}
+use mathlib.Core.Bool.{Bool, true, false, cond, _&&_, _||_, true≢false}
+use mathlib.Core.List.{List, [], _∷_, _++_, foldl, foldl-append, List·Memᴰ}
+use Prim.Native.Nat.{ℕ, zero, suc, _<_}
+use native.Mathlib.Nat.{not-suc-le-zero}
+use native.Mathlib.Omega.{arith}
+use lib.ListN.{length, getD, take}
+use lib.Seq.{take-suc}
+use lib.Dec.{eqb, ltb, leb·suc-zero, leb·suc-suc}
+use borrow.Author.Tests.{eq-eqb, ne-eqb, eqb-true, eqb-false, lt-ltb, le-ltb, ltb-true, ltb-false}
+use Rattle.lists.specs.Words.{any, elem, Distinct}
+use Rattle.lists.proofs.Laws.{both}
+use Rattle.tables.proofs.Accepted.{getD-mem}
+use Rattle.at_risk.specs.Risk.{place, before, expectedSensitive, actualSensitive, early}
+use Rattle.at_risk.specs.Early.{rank, raise, highest}
+
+-- before the member at place k of a list without repeats stand the first k
+pub before-take : (xs : List ℕ) (k : ℕ) → Distinct xs → k < length xs → before (getD xs k 0) xs ≡ take k xs
+unfolding Distinct
+before-take [] k d l = absurd (not-suc-le-zero l)
+before-take (x ∷ xs) zero d l = rw (eq-eqb x x refl)
+before-take (x ∷ xs) (suc k) d l =
+    let m = getD-mem xs k (omega arith) in
+    rw (ne-eqb (getD xs k 0) x (λ q. d .0 (subst (λ (z : ℕ). List·Memᴰ z xs) q m)))
+    (ap (λ (l : List ℕ). x ∷ l) (before-take xs k (d .1) (omega arith)))
+
+raise-above : (c a b : ℕ) → ltb c (raise a b) ≡ (ltb c a || ltb c b)
+raise-above c a b =
+    ⊎-elim
+    (λ e. rw e (⊎-elim (λ q. rw q (lt-ltb c b (omega (arith, ltb-true a b e, ltb-true c a q)))) (λ q. rw q) (both (ltb c a))))
+    (λ e. rw e (⊎-elim (λ q. rw q) (λ q. rw q (sym (le-ltb c b (omega (arith, ltb-false a b e, ltb-false c a q))))) (both (ltb c a))))
+    (both (ltb a b))
+
+-- one is above c exactly if the greatest is
+pub highest-above : (ranks : ℕ → ℕ) (c : ℕ) (xs : List ℕ) → ltb c (highest ranks xs) ≡ any (λ (x : ℕ). ltb c (ranks x)) xs
+unfolding highest
+highest-above ranks c xs = from zero xs ∙ ap (λ (b : Bool). b || any (λ (x : ℕ). ltb c (ranks x)) xs) (leb·suc-zero c)
+  where
+    or-false : (a : Bool) → a ≡ (a || false)
+    or-false true = refl
+    or-false false = refl
+
+    or-cond : (a b c : Bool) → ((a || b) || c) ≡ (a || cond b true c)
+    or-cond true b c = refl
+    or-cond false true c = refl
+    or-cond false false c = refl
+
+    from : (a : ℕ) (xs : List ℕ) → ltb c (foldl (λ (a x : ℕ). raise a (ranks x)) a xs) ≡ (ltb c a || any (λ (x : ℕ). ltb c (ranks x)) xs)
+    from a [] = or-false (ltb c a)
+    from a (x ∷ xs) =
+        from (raise a (ranks x)) xs
+        ∙ ap (λ (b : Bool). b || any (λ (y : ℕ). ltb c (ranks y)) xs) (raise-above c a (ranks x))
+        ∙ or-cond (ltb c a) (ltb c (ranks x)) (any (λ (y : ℕ). ltb c (ranks y)) xs)
+
+-- one step of the running maximum
+pub highest-step : (ranks : ℕ → ℕ) (xs : List ℕ) (k : ℕ) → k < length xs → highest ranks (take (suc k) xs) ≡ raise (highest ranks (take k xs)) (ranks (getD xs k 0))
+unfolding highest
+highest-step ranks xs k l =
+    ap (foldl (λ (a x : ℕ). raise a (ranks x)) zero) (take-suc xs k 0 l) ∙ foldl-append (λ (a x : ℕ). raise a (ranks x)) zero (take k xs) (getD xs k 0 ∷ [])
+
+-- ranks in a list with one more in front, and at the end where it wasn't there
+
+one-later : ℕ → ℕ
+one-later zero = zero
+one-later (suc n) = suc (suc n)
+
+rank-first : (y m : ℕ) (xs : List ℕ) → eqb m y ≡ true → rank (y ∷ xs) m ≡ 1
+unfolding rank
+rank-first y m xs e = rw e
+
+rank-later : (y m : ℕ) (xs : List ℕ) → eqb m y ≡ false → rank (y ∷ xs) m ≡ one-later (rank xs m)
+unfolding rank one-later
+rank-later y m xs e = rw e (⊎-elim (λ q. rw q) (λ q. rw q) (both (elem m xs)))
+
+pub rank-snoc : (xs : List ℕ) (x m : ℕ) → elem x xs ≡ false → rank (xs ++ (x ∷ [])) m ≡ cond (eqb m x) (suc (length xs)) (rank xs m)
+unfolding rank one-later
+rank-snoc [] x m e = ⊎-elim (λ q. rw q) (λ q. rw q) (both (eqb m x))
+rank-snoc (y ∷ xs) x m e =
+    let d : eqb x y ≡ false = ⊎-elim (λ q. absurd (true≢false (rw q at e))) (λ q. q) (both (eqb x y)) in
+    let r : elem x xs ≡ false = rw d at e in
+    ⊎-elim
+    (λ q. rank-first y m (xs ++ (x ∷ [])) q ∙ sym (ap (λ (b : Bool). cond b (suc (suc (length xs))) (rank (y ∷ xs) m)) (ne-eqb m x (λ k. eqb-false x y d (sym k ∙ eqb-true m y q))) ∙ rank-first y m xs q))
+    (λ q.
+    rank-later y m (xs ++ (x ∷ [])) q
+    ∙ ap one-later (rank-snoc xs x m r)
+    ∙ spread (eqb m x) (length xs) (rank xs m)
+    ∙ ap (λ (n : ℕ). cond (eqb m x) (suc (suc (length xs))) n) (sym (rank-later y m xs q)))
+    (both (eqb m y))
+  where
+    spread : (b : Bool) (n k : ℕ) → one-later (cond b (suc n) k) ≡ cond b (suc (suc n)) (one-later k)
+    spread true n k = refl
+    spread false n k = refl
+
+-- places compare as ranks do
+rank-below : (xs : List ℕ) (m x : ℕ) → elem m xs ≡ true → (elem x xs && ltb (place m xs) (place x xs)) ≡ ltb (rank xs m) (rank xs x)
+unfolding rank
+rank-below xs m x e =
+    rw e
+    (⊎-elim (λ q. rw q (sym (leb·suc-suc (suc (place m xs)) (place x xs)))) (λ q. rw q (sym (leb·suc-zero (suc (place m xs))))) (both (elem x xs)))
+
+module _ (sensitive eligible : ℕ → Bool) (expected actual hosts : List ℕ) where
+  abbrev E : List ℕ
+  E = expectedSensitive sensitive eligible expected actual hosts
+
+  abbrev A : List ℕ
+  A = actualSensitive sensitive eligible expected actual hosts
+
+  -- a module with an actual place is early where its rank is below the greatest rank before it
+  pub early-highest : (m : ℕ) → early sensitive eligible expected actual hosts m ≡ (elem m A && ltb (rank A m) (highest (rank A) (before m E)))
+  unfolding early
+  early-highest m = and-same (elem m A) _ _ (λ e. any-same (before m E) (λ x. rank-below A m x e) ∙ sym (highest-above (rank A) (rank A m) (before m E)))
+    where
+      and-same : (a b c : Bool) → (a ≡ true → b ≡ c) → (a && b) ≡ (a && c)
+      and-same true b c h = h refl
+      and-same false b c h = refl
+
+      any-same : {f g : ℕ → Bool} (xs : List ℕ) → ((x : ℕ) → f x ≡ g x) → any f xs ≡ any g xs
+      any-same [] h = refl
+      any-same {f} {g} (x ∷ xs) h = ap (λ (b : Bool). cond b true (any f xs)) (h x) ∙ ap (λ (b : Bool). cond (g x) true b) (any-same xs h)
+
+  -- at place k of the expected sensitive order, by the running maximum of the places before k
+  pub early-at : (k : ℕ) → Distinct E → k < length E
+      → early sensitive eligible expected actual hosts (getD E k 0) ≡ (elem (getD E k 0) A && ltb (rank A (getD E k 0)) (highest (rank A) (take k E)))
+  early-at k d l = early-highest (getD E k 0) ∙ ap (λ (xs : List ℕ). elem (getD E k 0) A && ltb (rank A (getD E k 0)) (highest (rank A) xs)) (before-take E k d l)

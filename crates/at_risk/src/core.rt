@@ -1,0 +1,326 @@
+// Sensitive and eligible modules, for crates above, on tested tables.
+ghost use mathlib.Core.Path.{_≡_};
+ghost use Prim.Native.Nat.{ℕ, _<_, _≤_};
+ghost use lib.ListN.{length, getD, replicate};
+ghost use Rattle.tables.specs.Project.{missing};
+ghost use Prim.Native.Nat.{_-_};
+ghost use Rattle.lists.specs.Words.{any, countFrom, bit, marksOf};
+ghost use Rattle.at_risk.specs.Index.{Chained, Records, Uses, Flags, Statements, Kinds, UseRows};
+ghost use Rattle.at_risk.specs.Marks.{wakes, statementWakes, usesWrapped, isSensitive, isEligible};
+use lists::core::fill;
+use tables::ModuleIdx;
+use tables::Target;
+use tables::core::first_row;
+use tables::core::resolve;
+
+// Chains the rows of each owner, in row order.
+pub fn chain_rows(owner: &[u32], heads: &mut [u32], nexts: &mut [u32])
+    requires owners { ⌜ ((i : ℕ) → i < length (now owner) → getD (now owner) i 0 < length (now heads)) ⌝ }
+    requires rows { ⌜ length (now nexts) ≡ length (now owner) ⌝ }
+    requires few { ⌜ length (now owner) ≤ 16384 ⌝ }
+    ensures { λ _. ⌜ Chained (now (owner .entry)) (now (heads .exit)) (now (nexts .exit)) ⌝ }
+{
+    fill(heads, ModuleIdx::MISSING);
+    let mut row = owner.len();
+    while 0 < row {
+        row -= 1;
+        let s = owner[row] as usize;
+        nexts[row] = heads[s];
+        heads[s] = row as u32;
+    }
+}
+
+// Whether a record row is a kind 0 record to a normal target with wrap not 0.
+fn row_wakes(
+    normal: &[u32],
+    wrap: &[u32],
+    record_kind: &[u32],
+    record_target: &[u32],
+    row: usize,
+) -> bool
+    requires { ⌜ Records (now normal) (now wrap) (now «record_kind») (now «record_target») × (row < length (now «record_kind»)) ⌝ }
+    ensures { λ r. ⌜ r ≡ wakes (now (normal .entry)) (now (wrap .entry)) (now («record_kind» .entry)) (now («record_target» .entry)) row ⌝ }
+{
+    if record_kind[row] != 0 {
+        return false;
+    }
+    let found = resolve(normal, record_target, row);
+    let Target::Normal(t) = found else {
+        return false;
+    };
+    let at = t as usize;
+    wrap[at] != 0
+}
+
+// Whether one of the statements `first` to `end` is included and uses such a record; the first that does stops the search. The
+// uses of a statement are those of its chain (`use_statement` is named by the contract alone).
+fn search_uses(
+    normal: &[u32],
+    wrap: &[u32],
+    record_kind: &[u32],
+    record_target: &[u32],
+    statement_included: &[u32],
+    use_statement: &[u32],
+    use_record: &[u32],
+    heads: &[u32],
+    nexts: &[u32],
+    first: usize,
+    end: usize,
+) -> bool
+    requires records { ⌜ Records (now normal) (now wrap) (now «record_kind») (now «record_target») ⌝ }
+    requires uses { ⌜ Uses (now «statement_included») (now «use_statement») (now «use_record») (now heads) (now nexts) (length (now «record_kind»)) ⌝ }
+    requires range { ⌜ (first ≤ end) × (end ≤ length (now «statement_included»)) ⌝ }
+    ensures { λ r. ⌜ r ≡ any (statementWakes (now (normal .entry)) (now (wrap .entry)) (now («record_kind» .entry)) (now («record_target» .entry)) (now («statement_included» .entry)) (now («use_statement» .entry)) (now («use_record» .entry))) (countFrom first (end - first)) ⌝ }
+{
+    let mut found = false;
+    let mut s = first;
+    'search: while s < end {
+        if statement_included[s] == 1 {
+            let mut u = heads[s];
+            while u != ModuleIdx::MISSING {
+                let at = u as usize;
+                let row = use_record[at] as usize;
+                if row_wakes(normal, wrap, record_kind, record_target, row) {
+                    found = true;
+                    break 'search;
+                }
+                u = nexts[at];
+            }
+        }
+        s += 1;
+    }
+    found
+}
+
+// Whether a module uses, in an included statement, such a record.
+fn eagerly_triggers_interop_module(
+    normal: &[u32],
+    wrap: &[u32],
+    record_kind: &[u32],
+    record_target: &[u32],
+    statement_module: &[u32],
+    statement_included: &[u32],
+    use_statement: &[u32],
+    use_record: &[u32],
+    heads: &[u32],
+    nexts: &[u32],
+    m: usize,
+) -> bool
+    requires records { ⌜ Records (now normal) (now wrap) (now «record_kind») (now «record_target») ⌝ }
+    requires uses { ⌜ Uses (now «statement_included») (now «use_statement») (now «use_record») (now heads) (now nexts) (length (now «record_kind»)) ⌝ }
+    requires statements { ⌜ Statements (now «statement_module») (now «statement_included») × (m < length (now normal)) ⌝ }
+    ensures { λ r. ⌜ r ≡ usesWrapped (now (normal .entry)) (now (wrap .entry)) (now («record_kind» .entry)) (now («record_target» .entry)) (now («statement_module» .entry)) (now («statement_included» .entry)) (now («use_statement» .entry)) (now («use_record» .entry)) m ⌝ }
+{
+    let first = first_row(statement_module, m);
+    let end = first_row(statement_module, m + 1);
+    search_uses(
+        normal,
+        wrap,
+        record_kind,
+        record_target,
+        statement_included,
+        use_statement,
+        use_record,
+        heads,
+        nexts,
+        first,
+        end,
+    )
+}
+
+// Whether a module is sensitive.
+fn is_order_sensitive(
+    normal: &[u32],
+    included: &[u32],
+    sensitive: &[u32],
+    wrap: &[u32],
+    record_kind: &[u32],
+    record_target: &[u32],
+    statement_module: &[u32],
+    statement_included: &[u32],
+    use_statement: &[u32],
+    use_record: &[u32],
+    heads: &[u32],
+    nexts: &[u32],
+    runtime: u32,
+    m: usize,
+) -> bool
+    requires flags { ⌜ Flags (now normal) (now included) (now sensitive) ⌝ }
+    requires records { ⌜ Records (now normal) (now wrap) (now «record_kind») (now «record_target») ⌝ }
+    requires uses { ⌜ Uses (now «statement_included») (now «use_statement») (now «use_record») (now heads) (now nexts) (length (now «record_kind»)) ⌝ }
+    requires statements { ⌜ Statements (now «statement_module») (now «statement_included») × (m < length (now normal)) ⌝ }
+    ensures { λ r. ⌜ r ≡ isSensitive runtime (now (normal .entry)) (now (included .entry)) (now (sensitive .entry)) (usesWrapped (now (normal .entry)) (now (wrap .entry)) (now («record_kind» .entry)) (now («record_target» .entry)) (now («statement_module» .entry)) (now («statement_included» .entry)) (now («use_statement» .entry)) (now («use_record» .entry))) m ⌝ }
+{
+    if m == (runtime as usize) {
+        return false;
+    }
+    if normal[m] != 1 {
+        return false;
+    }
+    if included[m] != 1 {
+        return false;
+    }
+    if sensitive[m] == 1 {
+        return true;
+    }
+    eagerly_triggers_interop_module(
+        normal,
+        wrap,
+        record_kind,
+        record_target,
+        statement_module,
+        statement_included,
+        use_statement,
+        use_record,
+        heads,
+        nexts,
+        m,
+    )
+}
+
+// Whether a module is eligible.
+fn is_order_wrap_eligible(
+    normal: &[u32],
+    included: &[u32],
+    exports: &[u32],
+    wrap: &[u32],
+    runtime: u32,
+    m: usize,
+) -> bool
+    requires { ⌜ Kinds (now normal) (now included) (now exports) (now wrap) × (m < length (now normal)) ⌝ }
+    ensures { λ r. ⌜ r ≡ isEligible runtime (now (normal .entry)) (now (included .entry)) (now (exports .entry)) (now (wrap .entry)) m ⌝ }
+{
+    if m == (runtime as usize) {
+        return false;
+    }
+    if included[m] != 1 {
+        return false;
+    }
+    if normal[m] != 1 {
+        return false;
+    }
+    if 1 < exports[m] {
+        return false;
+    }
+    wrap[m] == 0
+}
+
+// 1 for yes, 0 for no.
+fn mark(yes: bool) -> u32
+    ensures { λ r. ⌜ r ≡ bit yes ⌝ }
+{
+    if yes {
+        return 1;
+    }
+    0
+}
+
+// Marks the eligible modules.
+pub fn mark_eligible(
+    normal: &[u32],
+    included: &[u32],
+    exports: &[u32],
+    wrap: &[u32],
+    marks: &mut [u32],
+    runtime: u32,
+)
+    requires { ⌜ Kinds (now normal) (now included) (now exports) (now wrap) × (length (now marks) ≡ length (now normal)) ⌝ }
+    ensures { λ _. ⌜ now (marks .exit) ≡ marksOf (isEligible runtime (now (normal .entry)) (now (included .entry)) (now (exports .entry)) (now (wrap .entry))) (length (now (marks .entry))) ⌝ }
+{
+    let mut m = 0;
+    while m < marks.len() {
+        let eligible = is_order_wrap_eligible(normal, included, exports, wrap, runtime, m);
+        marks[m] = mark(eligible);
+        m += 1;
+    }
+}
+
+// Marks the sensitive modules. The uses of each statement are chained.
+fn mark_with_chains(
+    normal: &[u32],
+    included: &[u32],
+    sensitive: &[u32],
+    wrap: &[u32],
+    record_kind: &[u32],
+    record_target: &[u32],
+    statement_module: &[u32],
+    statement_included: &[u32],
+    use_statement: &[u32],
+    use_record: &[u32],
+    heads: &[u32],
+    nexts: &[u32],
+    marks: &mut [u32],
+    runtime: u32,
+)
+    requires flags { ⌜ Flags (now normal) (now included) (now sensitive) ⌝ }
+    requires records { ⌜ Records (now normal) (now wrap) (now «record_kind») (now «record_target») ⌝ }
+    requires uses { ⌜ Uses (now «statement_included») (now «use_statement») (now «use_record») (now heads) (now nexts) (length (now «record_kind»)) ⌝ }
+    requires statements { ⌜ Statements (now «statement_module») (now «statement_included») × (length (now marks) ≡ length (now normal)) ⌝ }
+    ensures { λ _. ⌜ now (marks .exit) ≡ marksOf (isSensitive runtime (now (normal .entry)) (now (included .entry)) (now (sensitive .entry)) (usesWrapped (now (normal .entry)) (now (wrap .entry)) (now («record_kind» .entry)) (now («record_target» .entry)) (now («statement_module» .entry)) (now («statement_included» .entry)) (now («use_statement» .entry)) (now («use_record» .entry)))) (length (now (marks .entry))) ⌝ }
+{
+    let mut m = 0;
+    while m < marks.len() {
+        let yes = is_order_sensitive(
+            normal,
+            included,
+            sensitive,
+            wrap,
+            record_kind,
+            record_target,
+            statement_module,
+            statement_included,
+            use_statement,
+            use_record,
+            heads,
+            nexts,
+            runtime,
+            m,
+        );
+        marks[m] = mark(yes);
+        m += 1;
+    }
+}
+
+// Marks the sensitive modules.
+pub fn mark_sensitive(
+    normal: &[u32],
+    included: &[u32],
+    sensitive: &[u32],
+    wrap: &[u32],
+    record_kind: &[u32],
+    record_target: &[u32],
+    statement_module: &[u32],
+    statement_included: &[u32],
+    use_statement: &[u32],
+    use_record: &[u32],
+    marks: &mut [u32],
+    runtime: u32,
+)
+    requires flags { ⌜ Flags (now normal) (now included) (now sensitive) ⌝ }
+    requires records { ⌜ Records (now normal) (now wrap) (now «record_kind») (now «record_target») ⌝ }
+    requires rows { ⌜ UseRows (now «statement_module») (now «use_statement») (now «use_record») (length (now «record_kind»)) ⌝ }
+    requires statements { ⌜ Statements (now «statement_module») (now «statement_included») × (length (now marks) ≡ length (now normal)) ⌝ }
+    ensures { λ _. ⌜ now (marks .exit) ≡ marksOf (isSensitive runtime (now (normal .entry)) (now (included .entry)) (now (sensitive .entry)) (usesWrapped (now (normal .entry)) (now (wrap .entry)) (now («record_kind» .entry)) (now («record_target» .entry)) (now («statement_module» .entry)) (now («statement_included» .entry)) (now («use_statement» .entry)) (now («use_record» .entry)))) (length (now (marks .entry))) ⌝ }
+{
+    let statements = statement_included.len();
+    let uses = use_record.len();
+    let mut heads = [0u32; 16384];
+    let mut nexts = [0u32; 16384];
+    chain_rows(use_statement, &mut heads[..statements], &mut nexts[..uses]);
+    mark_with_chains(
+        normal,
+        included,
+        sensitive,
+        wrap,
+        record_kind,
+        record_target,
+        statement_module,
+        statement_included,
+        use_statement,
+        use_record,
+        &heads[..statements],
+        &nexts[..uses],
+        marks,
+        runtime,
+    );
+}
