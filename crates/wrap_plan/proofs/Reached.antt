@@ -1,0 +1,242 @@
+-- The modules that the analysed entries reach, by marks closed along the records, and the candidates among them.
+-- Assumes nothing.
+use mathlib.Core.Path.{_≡_, refl, sym, ap, subst, _∙_}
+use mathlib.Core.Logic.{_⊎_, inl, inr, ⊎-elim}
+use mathlib.Core.Bool.{Bool, true, false, cond, not, _&&_, _||_}
+use mathlib.Core.List.{List, [], _∷_, _++_, map, map-append, flatMap, List·Memᴰ, List·Memᴰ·not-nil, Memᴰ·map, Memᴰ·of-map}
+use Prim.Native.Nat.{ℕ, _+_, _≤_, _<_}
+use native.Mathlib.Omega.{arith}
+use native.Mathlib.Nat.{zero-add}
+use lib.ListN.{length, getD, set, drop, length-map, length-append}
+use lib.Seq.{ext-getD}
+use lib.Dec.{eqb}
+use borrow.Author.Tests.{lt-ltb, ltb-true, eqb-true, eq-eqb, ne-eqb}
+use Rattle.lists.specs.Words.{countFrom, upTo, keep, any, elem, has, bit, marksOf}
+use Rattle.lists.proofs.Laws.{both, not-false, and-parts, and-join, or-parts, or-left, or-right, iff-eq, has-in, mem-keep, keep-mem, keep-append, elem-mem, mem-elem, mem-upTo, countFrom-append, length-keep, length-countFrom, length-marksOf, has-marksOf, marksOf-at, marksOf-has, marksOf-cong, front-more}
+use Rattle.walk.specs.Walk.{everywhere, postOrder}
+use Rattle.walk.specs.Reach.{Reach, here, step, ReachAny, passing, through}
+use Rattle.walk.specs.Close.{Within, Bits}
+use Rattle.walk.proofs.Orders.{order-followed, order-reach, reach-order}
+use Rattle.tables.specs.Project.{Project, missing}
+use Rattle.tables.specs.Readings.{modules, isNormal, flagged, isImport, resolved, anyTarget, normalTarget, rowTargets, targetsOf, rowsOf, analysed, analysedRow}
+use Rattle.tables.specs.declared.Target.{Target}
+use Rattle.tables.specs.declared.Target.the-variants.{Missing, External, Normal}
+use Rattle.tables.specs.Accepted.{Accepted}
+use Rattle.tables.proofs.Accepted.{getD-mem}
+use Rattle.actual_order.proofs.Actuals.{mem-flat}
+use Rattle.chunk_cycles.proofs.Lists.{mark-in}
+use Rattle.at_risk.specs.Marks.{eligible}
+use Rattle.at_risk.proofs.Marks.{eligible-normal, eligible-in}
+use Rattle.wrap_plan.specs.Rules.{importsOf}
+use Rattle.wrap_plan.specs.Plan.{roots, reached}
+use Rattle.wrap_plan.specs.Steps.{looked, importTargets, Owners}
+use Rattle.wrap_plan.specs.Spread.{Along, Under, Spreads}
+use Rattle.wrap_plan.specs.Closing.{eligibleMarks, candidateMarks, rootsOver, Written, Reaching, Chosen}
+use Rattle.wrap_plan.proofs.Rows.{mem-at, flat-mem, mem-rows, rows-mem, import-row}
+use Rattle.wrap_plan.proofs.Steps.{looked-has}
+use Rattle.wrap_plan.proofs.AtProject.{eligible-has, candidate-has, target-row, row-target}
+
+-- a project's roots, over columns
+pub roots-over : (p : Project) → rootsOver (p .included) (p .entry) (p .entryChunk) ≡ roots p
+unfolding rootsOver analysed
+roots-over p = refl
+
+-- listing the roots: the rows below `row` are done
+module _ (included entry entryChunk : List ℕ) where
+  abbrev pub isRoot : ℕ → Bool
+  isRoot row = flagged included (getD entry row 0) && not (eqb (getD entryChunk row 0) missing)
+
+  abbrev pub rootsTo : ℕ → List ℕ
+  rootsTo row = map (λ (i : ℕ). getD entry i 0) (keep isRoot (upTo row))
+
+  rows-more : (row : ℕ) → upTo (row + 1) ≡ upTo row ++ (row ∷ [])
+  rows-more row = countFrom-append 0 row 1 ∙ ap (λ (i : ℕ). upTo row ++ (i ∷ [])) (zero-add row)
+
+  roots-more : (row : ℕ) → rootsTo (row + 1) ≡ rootsTo row ++ map (λ (i : ℕ). getD entry i 0) (keep isRoot (row ∷ []))
+  roots-more row =
+      ap (λ (xs : List ℕ). map (λ (i : ℕ). getD entry i 0) (keep isRoot xs)) (rows-more row)
+      ∙ ap (map (λ (i : ℕ). getD entry i 0)) (keep-append isRoot (upTo row) (row ∷ []))
+      ∙ map-append (λ (i : ℕ). getD entry i 0) (keep isRoot (upTo row)) (keep isRoot (row ∷ []))
+
+  pub root-passed : (row : ℕ) → isRoot row ≡ false → rootsTo (row + 1) ≡ rootsTo row
+  root-passed row e = roots-more row ∙ ap (λ (b : Bool). rootsTo row ++ map (λ (i : ℕ). getD entry i 0) (cond b (row ∷ []) [])) e ∙ mathlib.Core.List.append-nil (rootsTo row)
+
+  pub root-listed : (row : ℕ) → isRoot row ≡ true → rootsTo (row + 1) ≡ rootsTo row ++ (getD entry row 0 ∷ [])
+  root-listed row e = roots-more row ∙ ap (λ (b : Bool). rootsTo row ++ map (λ (i : ℕ). getD entry i 0) (cond b (row ∷ []) [])) e
+
+  pub roots-few : (row : ℕ) → length (rootsTo row) ≤ row
+  roots-few row = omega (arith, length-map (keep isRoot (upTo row)) (λ (i : ℕ). getD entry i 0), length-keep isRoot (upTo row), length-countFrom 0 row)
+
+  pub record Listing (old : List ℕ) (row : ℕ) (new : List ℕ) (count : ℕ) : Type 0 where
+    pub counted : count ≡ length (rootsTo row)
+    pub written : new ≡ rootsTo row ++ drop (length (rootsTo row)) old
+
+  module _ (old : List ℕ) (row : ℕ) (new : List ℕ) (count : ℕ) (g : Listing old row new count) where
+    pub listing-pass : isRoot row ≡ false → Listing old (row + 1) new count
+    listing-pass e = let q = root-passed row e in record { counted = g .counted ∙ ap length (sym q); written = g .written ∙ ap (λ (xs : List ℕ). xs ++ drop (length xs) old) (sym q) }
+
+    pub listing-put : isRoot row ≡ true → row < length old → Listing old (row + 1) (set new count (getD entry row 0)) (count + 1)
+    listing-put e l =
+        let q = root-listed row e in
+        let m = getD entry row 0 in
+        let one : length (rootsTo (row + 1)) ≡ count + 1 = ap length q ∙ omega (arith, length-append (rootsTo row) (m ∷ []), g .counted) in
+        record {
+          counted = sym one;
+          written = ap (λ (xs : List ℕ). set xs count m) (g .written ∙ ap (λ (i : ℕ). rootsTo row ++ drop i old) (sym (g .counted)))
+              ∙ front-more (rootsTo row) old count m (sym (g .counted)) (omega (arith, g .counted, roots-few row))
+              ∙ ap (λ (xs : List ℕ). xs ++ drop (count + 1) old) (sym q)
+              ∙ ap (λ (i : ℕ). rootsTo (row + 1) ++ drop i old) (sym one);
+        }
+
+  pub listing-start : (old : List ℕ) → Listing old 0 old 0
+  listing-start old = record { counted = refl; written = refl }
+
+  pub listing-end : (old : List ℕ) (row : ℕ) (new : List ℕ) (count : ℕ) → Listing old row new count → row ≡ length entry → Written (rootsOver included entry entryChunk) old new count
+  unfolding rootsOver
+  listing-end old row new count g e = record {
+    count = g .counted ∙ ap (λ (i : ℕ). length (rootsTo i)) e;
+    written = g .written ∙ ap (λ (i : ℕ). rootsTo i ++ drop (length (rootsTo i)) old) e;
+  }
+
+-- marking the roots, and then closing
+pub reaching : (included rootList from to s start t : List ℕ) → ((m : ℕ) → has s m ≡ true → ⊥) → Owners rootList (looked 0 included rootList) (length rootList) s start
+    → Spreads from to start t → Reaching included rootList from to (length s) t
+reaching included rootList from to s start t none o w = record {
+  start = start;
+  len = o .len;
+  root = λ k l h i. o .new k l (looked-has included rootList k l ∙ h) i;
+  only = λ m e. ⊎-elim (λ h. absurd (none m h)) (λ r. (r .0, r .1, r .3)) (o .only m e);
+  spreads = w;
+}
+
+normal-any : (t : Target) (y : ℕ) → List·Memᴰ y (normalTarget t) → List·Memᴰ y (anyTarget t)
+normal-any Missing y h = h
+normal-any (External m) y h = absurd (List·Memᴰ·not-nil h)
+normal-any (Normal m) y h = h
+
+module _ (p : Project) (ok : Accepted p) where
+  abbrev succ : ℕ → List ℕ
+  succ = targetsOf isImport normalTarget (p .normal) (p .recordModule) (p .recordKind) (p .recordTarget)
+
+  abbrev targets : List ℕ
+  targets = importTargets (p .recordKind) (p .recordTarget)
+
+  -- a step over normal targets is a kind 0 record
+  succ-import : (m y : ℕ) → List·Memᴰ y (succ m) → List·Memᴰ y (importsOf p m)
+  unfolding targetsOf
+  succ-import m y h =
+      let r = mem-flat (rowTargets isImport normalTarget (p .normal) (p .recordKind) (p .recordTarget)) (rowsOf (p .recordModule) m) h in
+      flat-mem (rowTargets isImport anyTarget (p .normal) (p .recordKind) (p .recordTarget)) (rowsOf (p .recordModule) m) (r .1)
+      (⊎-elim (λ e. rw e (normal-any (resolved (p .normal) (p .recordTarget) (r .0)) y (rw e at (r .2)))) (λ e. absurd (List·Memᴰ·not-nil (rw e at (r .2)))) (both (isImport (getD (p .recordKind) (r .0) 0))))
+
+  -- a kind 0 record to a normal module is a step
+  row-succ : (row : ℕ) → row < length (p .recordModule) → getD (p .recordKind) row 0 ≡ 0 → (getD (p .recordTarget) row 0 ≡ missing → ⊥) → isNormal (p .normal) (getD (p .recordTarget) row 0) ≡ true
+      → List·Memᴰ (getD (p .recordTarget) row 0) (succ (getD (p .recordModule) row 0))
+  unfolding targetsOf resolved
+  row-succ row l k n g =
+      flat-mem (rowTargets isImport normalTarget (p .normal) (p .recordKind) (p .recordTarget)) (rowsOf (p .recordModule) (getD (p .recordModule) row 0)) (rows-mem (p .recordModule) row l)
+      (rw (eq-eqb (getD (p .recordKind) row 0) 0 k) (rw (ne-eqb (getD (p .recordTarget) row 0) missing n) (rw g (mathlib.Core.List.List·Memᴰ·head refl))))
+
+  -- a root has a row and is included
+  pub root-in : (r : ℕ) → List·Memᴰ r (roots p) → (r < modules p) × (flagged (p .included) r ≡ true)
+  unfolding analysed
+  root-in r h =
+      let q = Memᴰ·of-map (λ (row : ℕ). getD (p .entry) row 0) (keep (analysedRow p) (upTo (length (p .entry)))) h in
+      let k = mem-keep (analysedRow p) (upTo (length (p .entry))) (q .1) in (
+        subst (λ (x : ℕ). x < modules p) (q .2) (ok .values .entry (q .0) (mem-upTo (k .0))),
+        subst (λ (x : ℕ). flagged (p .included) x ≡ true) (q .2) (and-parts (flagged (p .included) (getD (p .entry) (q .0) 0)) _ (k .1) .0),
+      )
+
+  module _ (t : List ℕ) (h : Reaching (p .included) (roots p) (p .recordModule) targets (modules p) t) where
+    t-len : length t ≡ modules p
+    t-len = h .spreads .len ∙ h .len
+
+    -- along a path from a marked module
+    follow : {m x : ℕ} → has t m ≡ true → Reach (through succ everywhere (modules p)) m x → has t x ≡ true
+    unfolding Along
+    follow e (here q) = subst (λ (y : ℕ). has t y ≡ true) (sym q) e
+    follow e (step {m} {y} s r) =
+        let k = mem-keep (passing everywhere (modules p)) (succ m) s in
+        let i = import-row p m (succ-import m y (k .0)) in
+        let q : getD targets (i .0) 0 ≡ y = row-target p ok (i .0) (i .1) (i .3) ∙ i .4 in
+        follow
+        (subst (λ (x : ℕ). has t x ≡ true) q
+        (h .spreads .along (i .0) (i .1) (subst (λ (x : ℕ). has t x ≡ true) (sym (i .2)) e) (subst (λ (x : ℕ). x < length t) (sym q) (omega (arith, ltb-true y (modules p) (k .1), t-len)))))
+        r
+
+    pub reached-marked : (m : ℕ) → reached p m ≡ true → has t m ≡ true
+    unfolding reached ReachAny Within
+    reached-marked m e =
+        let r = order-reach succ everywhere (modules p) (roots p) m (elem-mem m (postOrder succ everywhere (modules p) (roots p)) e) in
+        let k = mem-keep (passing everywhere (modules p)) (roots p) (r .1) in
+        let b = root-in (r .0) (k .0) in
+        let a = mem-at (roots p) (k .0) in
+        let included : has (p .included) (r .0) ≡ true = mark-in (getD (p .included) (r .0) 0) (λ z. omega (arith, eqb-true (getD (p .included) (r .0) 0) 1 (b .1))) in
+        follow
+        (h .spreads .holds (r .0)
+        (subst (λ (x : ℕ). has (h .start) x ≡ true) (a .2) (h .root (a .0) (a .1) (subst (λ (x : ℕ). has (p .included) x ≡ true) (sym (a .2)) included) (subst (λ (x : ℕ). x < modules p) (sym (a .2)) (b .0)))))
+        (r .2)
+
+    -- the reached modules and the externals are closed along the records, since an external has none
+    abbrev bound : List ℕ
+    bound = marksOf (λ (x : ℕ). reached p x || not (isNormal (p .normal) x)) (modules p)
+
+    bound-has : (x : ℕ) → x < modules p → has bound x ≡ (reached p x || not (isNormal (p .normal) x))
+    bound-has x l = has-marksOf (λ (y : ℕ). reached p y || not (isNormal (p .normal) y)) (modules p) x l
+
+    bound-len : length bound ≡ modules p
+    bound-len = length-marksOf (λ (x : ℕ). reached p x || not (isNormal (p .normal) x)) (modules p)
+
+    inside : (x : ℕ) → isNormal (p .normal) x ≡ true → has bound x ≡ true → reached p x ≡ true
+    inside x n e =
+        let l : x < modules p = rw bound-len at (has-in bound x e) in
+        ⊎-elim (λ r. r) (λ z. absurd (mathlib.Core.Bool.true≢false (sym z ∙ ap not n))) (or-parts (reached p x) (not (isNormal (p .normal) x)) (sym (bound-has x l) ∙ e))
+
+    bound-along : Along (p .recordModule) targets bound
+    unfolding Along reached
+    bound-along row l e k =
+        let from : reached p (getD (p .recordModule) row 0) ≡ true = inside (getD (p .recordModule) row 0) (ok .agrees .recordModule row l) e in
+        let i : getD targets row 0 < modules p = omega (arith, k, bound-len) in
+        let q = target-row p ok row l i in
+        bound-has (getD targets row 0) i
+        ∙ ⊎-elim
+        (λ g.
+        or-left (reached p (getD targets row 0)) _
+        (mem-elem (getD targets row 0) (postOrder succ everywhere (modules p) (roots p))
+        (subst (λ (x : ℕ). List·Memᴰ x (postOrder succ everywhere (modules p) (roots p))) (q .1)
+        (order-followed succ everywhere (modules p) (roots p) (getD (p .recordModule) row 0) (getD (p .recordTarget) row 0) (elem-mem (getD (p .recordModule) row 0) (postOrder succ everywhere (modules p) (roots p)) from) (row-succ row l (q .0) (q .2) (subst (λ (x : ℕ). isNormal (p .normal) x ≡ true) (sym (q .1)) g)) refl (subst (λ (x : ℕ). x < modules p) (sym (q .1)) i)))))
+        (λ g. or-right (reached p (getD targets row 0)) _ (ap not g))
+        (both (isNormal (p .normal) (getD targets row 0)))
+
+    pub marked-reached : (m : ℕ) → isNormal (p .normal) m ≡ true → has t m ≡ true → reached p m ≡ true
+    unfolding Within Under reached ReachAny
+    marked-reached m n e =
+        inside m n
+        (h .spreads .under bound (bound-len ∙ sym (h .len))
+        (λ x s.
+        let k = h .only x s in
+        let r : List·Memᴰ x (roots p) = subst (λ (y : ℕ). List·Memᴰ y (roots p)) (k .2) (getD-mem (roots p) (k .0) (k .1)) in
+        let l = root-in x r .0 in
+        bound-has x l
+        ∙ or-left (reached p x) _
+        (mem-elem x (postOrder succ everywhere (modules p) (roots p)) (reach-order succ everywhere (modules p) (roots p) x (x, keep-mem (passing everywhere (modules p)) (roots p) r (lt-ltb x (modules p) l), here refl))))
+        bound-along m e)
+
+  -- the candidates
+  pub chosen-candidates : (old candidates : List ℕ) → length old ≡ modules p → Bits old → Chosen (p .included) (roots p) (p .recordModule) targets (eligibleMarks p) old candidates → candidates ≡ candidateMarks p
+  unfolding Bits
+  chosen-candidates old candidates n b h =
+      let len : length candidates ≡ modules p = h .len ∙ n in
+      let r : Reaching (p .included) (roots p) (p .recordModule) targets (modules p) (h .reachedSet) = subst (λ (i : ℕ). Reaching (p .included) (roots p) (p .recordModule) targets i (h .reachedSet)) n (h .reaching) in
+      sym (marksOf-has candidates (h .bits b))
+      ∙ ap (marksOf (has candidates)) len
+      ∙ marksOf-cong (has candidates) (λ (m : ℕ). eligible p m && reached p m) (modules p)
+      (λ m l.
+      iff-eq (has candidates m) (eligible p m && reached p m)
+      (λ e.
+      let q = h .only m e in
+      let g : eligible p m ≡ true = sym (eligible-has p m) ∙ q .1 in
+      and-join (eligible p m) (reached p m) g (marked-reached (h .reachedSet) r m (eligible-normal p m g) (q .0)))
+      (λ e.
+      let q = and-parts (eligible p m) (reached p m) e in
+      h .all m (omega (arith, n)) (reached-marked (h .reachedSet) r m (q .1)) (eligible-has p m ∙ q .0)))

@@ -1,0 +1,135 @@
+-- One pass of each rule at a project, and passes until nothing changes.
+-- Assumes nothing.
+use mathlib.Core.Path.{_≡_, refl, sym, ap, subst, _∙_}
+use mathlib.Core.Bool.{Bool, true, false, _||_}
+use mathlib.Core.List.{List}
+use Prim.Native.Nat.{ℕ, _+_, _≤_, _<_}
+use native.Mathlib.Omega.{arith}
+use lib.ListN.{length, getD}
+use Rattle.lists.specs.Words.{has, zeros, bit}
+use Rattle.walk.specs.Close.{close, Within, Bits}
+use Rattle.tables.specs.Project.{Project}
+use Rattle.tables.specs.Readings.{modules}
+use Rattle.tables.specs.Accepted.{Below}
+use Rattle.tables.proofs.Accepted.{getD-mem}
+use Rattle.chunk_cycles.specs.Cycles.{labelsOf}
+use Rattle.wrap_plan.specs.Rules.{suffixAsks}
+use Rattle.wrap_plan.specs.Plan.{suffixRule, componentRule, importRule, readRule, roots, asks, asked}
+use Rattle.wrap_plan.specs.Planned.{ordersOf}
+use Rattle.wrap_plan.specs.Passes.{Passed}
+use Rattle.wrap_plan.specs.Steps.{importTargets, Added}
+use Rattle.wrap_plan.specs.Spread.{Along, Under, Spreads}
+use Rattle.wrap_plan.specs.Asked.{Together, Members, Importer, Importing, TopLevelRead, Reading}
+use Rattle.wrap_plan.specs.Suffix.{Suffixes, sensitiveOrders, AllPlanned, Settled}
+use Rattle.wrap_plan.specs.Closing.{sensitiveMarks, eligibleMarks, candidateMarks, Made, Kept}
+use Rattle.wrap_plan.proofs.Monotone.{asked-monotone}
+use Rattle.wrap_plan.proofs.Passes.{pass-rules, Spread, spread-start, spread-step, spread-end}
+use Rattle.wrap_plan.proofs.Extending.{planned-more}
+use Rattle.wrap_plan.proofs.AtProject.{suffixes-fit, suffix-pass, members-fit, component-pass, importing-fit, import-pass, reading-fit, read-pass}
+use Rattle.wrap_plan.proofs.Reached.{root-in}
+
+-- what leads to a plan leads to a larger one
+pub under-more : (from to s t L : List ℕ) → length t ≡ length s → Within s t → Under from to s L → Under from to t L
+unfolding Within Under
+under-more from to s t L n w u M k v = u M (k ∙ n) (λ m e. v m (w m e))
+
+module _ (p : Project) (labels rootList sensitives eligibles candidates : List ℕ) (made : Made p labels rootList sensitives eligibles candidates) where
+  -- what the four passes ask, over n modules
+
+  module _ (n : ℕ) (e : n ≡ modules p) where
+    pub suffixes-ready : Suffixes (p .normal) (p .included) (p .recordModule) (p .recordKind) (p .recordTarget) sensitives eligibles n
+    suffixes-ready =
+        subst (λ (s : List ℕ). Suffixes (p .normal) (p .included) (p .recordModule) (p .recordKind) (p .recordTarget) s eligibles n) (sym (made .sensitiveSet))
+        (subst (λ (s : List ℕ). Suffixes (p .normal) (p .included) (p .recordModule) (p .recordKind) (p .recordTarget) (sensitiveMarks p) s n) (sym (made .eligibleSet))
+        (subst (Suffixes (p .normal) (p .included) (p .recordModule) (p .recordKind) (p .recordTarget) (sensitiveMarks p) (eligibleMarks p)) (sym e) (suffixes-fit p (made .accepted))))
+
+    pub roots-ready : Below n rootList
+    roots-ready =
+        subst (Below n) (sym (made .root)) (λ i l. subst (λ (k : ℕ). getD (roots p) i 0 < k) (sym e) (root-in p (made .accepted) (getD (roots p) i 0) (getD-mem (roots p) i l) .0))
+
+    pub members-ready : Members (p .chunk) (p .memberChunk) (p .member) labels sensitives eligibles n
+    members-ready =
+        subst (λ (s : List ℕ). Members (p .chunk) (p .memberChunk) (p .member) s sensitives eligibles n) (sym (made .label))
+        (subst (λ (s : List ℕ). Members (p .chunk) (p .memberChunk) (p .member) (labelsOf p) s eligibles n) (sym (made .sensitiveSet))
+        (subst (λ (s : List ℕ). Members (p .chunk) (p .memberChunk) (p .member) (labelsOf p) (sensitiveMarks p) s n) (sym (made .eligibleSet))
+        (subst (Members (p .chunk) (p .memberChunk) (p .member) (labelsOf p) (sensitiveMarks p) (eligibleMarks p)) (sym e) (members-fit p (made .accepted)))))
+
+    pub importing-ready : (leads : List ℕ) → length leads ≡ modules p → Importing (p .recordModule) (p .recordKind) (p .recordTarget) (p .dependencyModule) (p .dependency) candidates leads n
+    importing-ready leads k =
+        subst (λ (s : List ℕ). Importing (p .recordModule) (p .recordKind) (p .recordTarget) (p .dependencyModule) (p .dependency) s leads n) (sym (made .candidateSet))
+        (subst (Importing (p .recordModule) (p .recordKind) (p .recordTarget) (p .dependencyModule) (p .dependency) (candidateMarks p) leads) (sym e) (importing-fit p (made .accepted) leads k))
+
+    pub reading-ready : Reading (p .reads) (p .referenceStatement) (p .referenceSymbol) (p .dependedReference) (p .depended) candidates n
+    reading-ready =
+        subst (λ (s : List ℕ). Reading (p .reads) (p .referenceStatement) (p .referenceSymbol) (p .dependedReference) (p .depended) s n) (sym (made .candidateSet))
+        (subst (Reading (p .reads) (p .referenceStatement) (p .referenceSymbol) (p .dependedReference) (p .depended) (candidateMarks p)) (sym e) (reading-fit p (made .accepted)))
+
+  -- the four passes in turn
+  abbrev Suffixed : List ℕ → List ℕ → Bool → Type 0
+  Suffixed s t r = Passed (suffixAsks (has eligibles) (sensitiveOrders (p .normal) (p .included) (p .recordModule) (p .recordKind) (p .recordTarget) sensitives rootList)) s t r
+
+  abbrev Joined : List ℕ → List ℕ → Bool → Type 0
+  Joined s t r = Added (λ (m : ℕ). Together (p .chunk) (p .memberChunk) (p .member) labels s m × (has sensitives m ≡ true) × (has eligibles m ≡ true)) s t r
+
+  abbrev targets : List ℕ
+  targets = importTargets (p .recordKind) (p .recordTarget)
+
+  abbrev Imported : List ℕ → List ℕ → List ℕ → Bool → Type 0
+  Imported L s t r = Added (Importer (p .recordModule) targets (p .dependencyModule) (p .dependency) candidates s L) s t r
+
+  abbrev Readings : List ℕ → List ℕ → Bool → Type 0
+  Readings s t r = Added (TopLevelRead (p .reads) (p .statementModule) (p .owner) (p .canonical) (p .chainSymbol) (p .chainLink) (p .referenceStatement) (p .referenceSymbol) (p .dependedReference) (p .depended) candidates s) s t r
+
+  first : {s t : List ℕ} {r : Bool} → Suffixed s t r → Passed (asks (ordersOf p) (labelsOf p) p suffixRule) s t r
+  first {s} {t} {r} h =
+      suffix-pass p (made .accepted) (labelsOf p)
+      (subst (λ (x : List ℕ). Passed (suffixAsks (has x) (sensitiveOrders (p .normal) (p .included) (p .recordModule) (p .recordKind) (p .recordTarget) (sensitiveMarks p) (roots p))) s t r) (made .eligibleSet)
+      (subst (λ (x : List ℕ). Passed (suffixAsks (has eligibles) (sensitiveOrders (p .normal) (p .included) (p .recordModule) (p .recordKind) (p .recordTarget) x (roots p))) s t r) (made .sensitiveSet)
+      (subst (λ (x : List ℕ). Passed (suffixAsks (has eligibles) (sensitiveOrders (p .normal) (p .included) (p .recordModule) (p .recordKind) (p .recordTarget) sensitives x)) s t r) (made .root) h)))
+
+  second : {s t : List ℕ} {r : Bool} → Bits s → Joined s t r → Passed (asks (ordersOf p) (labelsOf p) p componentRule) s t r
+  second {s} {t} {r} b h =
+      component-pass p (made .accepted) s (ordersOf p) b
+      (subst (λ (x : List ℕ). Added (λ (m : ℕ). Together (p .chunk) (p .memberChunk) (p .member) x s m × (has (sensitiveMarks p) m ≡ true) × (has (eligibleMarks p) m ≡ true)) s t r) (made .label)
+      (subst (λ (x : List ℕ). Added (λ (m : ℕ). Together (p .chunk) (p .memberChunk) (p .member) labels s m × (has x m ≡ true) × (has (eligibleMarks p) m ≡ true)) s t r) (made .sensitiveSet)
+      (subst (λ (x : List ℕ). Added (λ (m : ℕ). Together (p .chunk) (p .memberChunk) (p .member) labels s m × (has sensitives m ≡ true) × (has x m ≡ true)) s t r) (made .eligibleSet) h)))
+
+  third : {s t L : List ℕ} {r : Bool} → length s ≡ modules p → Bits s → Spreads targets (p .recordModule) s L → Imported L s t r → Passed (asks (ordersOf p) (labelsOf p) p importRule) s t r
+  third {s} {t} {L} {r} n b w h =
+      import-pass p (made .accepted) s L n w (ordersOf p) (labelsOf p) b
+      (subst (λ (x : List ℕ). Added (Importer (p .recordModule) targets (p .dependencyModule) (p .dependency) x s L) s t r) (made .candidateSet) h)
+
+  fourth : {s t : List ℕ} {r : Bool} → Bits s → Readings s t r → Passed (asks (ordersOf p) (labelsOf p) p readRule) s t r
+  fourth {s} {t} {r} b h =
+      read-pass p (made .accepted) s (ordersOf p) (labelsOf p) b
+      (subst (λ (x : List ℕ). Added (TopLevelRead (p .reads) (p .statementModule) (p .owner) (p .canonical) (p .chainSymbol) (p .chainLink) (p .referenceStatement) (p .referenceSymbol) (p .dependedReference) (p .depended) x s) s t r) (made .candidateSet) h)
+
+  pub once : {settled leads plan settled′ leads′ t u v w : List ℕ} {a b c d r : Bool} → Kept p rootList sensitives eligibles settled leads plan
+      → length settled′ ≡ length settled → Settled (p .normal) (p .included) (p .recordModule) (p .recordKind) (p .recordTarget) rootList sensitives eligibles settled′ t
+      → Suffixed plan t a → Joined t u b → Spreads targets (p .recordModule) u leads′ → Imported leads′ u v c → Readings v w d → (a || (b || (c || d))) ≡ r
+      → Kept p rootList sensitives eligibles settled′ leads′ w × Passed (asked (ordersOf p) (labelsOf p) p) plan w r
+  unfolding Settled Within
+  once {settled} {leads} {plan} {settled′} {leads′} {t} {u} {v} {w} kept n h f g s i j e =
+      let one = first f in
+      let two = second (one .bits) g in
+      let size : length u ≡ modules p = two .len ∙ one .len ∙ kept .size in
+      let three = third size (two .bits) s i in
+      let four = fourth (three .bits) j in (
+        record {
+          size = four .len ∙ three .len ∙ size;
+          bits = four .bits;
+          settledSize = n ∙ kept .settledSize;
+          settles = λ k l q. planned-more _ sensitives eligibles t w (λ m x. four .grows m (three .grows m (two .grows m x))) (h k l q);
+          leadSize = s .len ∙ size;
+          under = under-more targets (p .recordModule) u w leads′ (four .len ∙ three .len) (λ m x. four .grows m (three .grows m x)) (s .under);
+        },
+        subst (Passed (asked (ordersOf p) (labelsOf p) p) plan w) e (pass-rules (ordersOf p) (labelsOf p) p one two three four),
+      )
+
+-- the loop: from s to t, `more` as the last pass said
+pub record Turning (p : Project) (rootList sensitives eligibles settled leads s t : List ℕ) (more : Bool) : Type 0 where
+  pub kept : Kept p rootList sensitives eligibles settled leads t
+  pub spread : Spread (asked (ordersOf p) (labelsOf p) p) s t more
+
+pub turning-end : (p : Project) (rootList sensitives eligibles settled leads s t : List ℕ) → Bits s → Turning p rootList sensitives eligibles settled leads s t false → t ≡ close (asked (ordersOf p) (labelsOf p) p) s
+turning-end p rootList sensitives eligibles settled leads s t b g = spread-end (asked (ordersOf p) (labelsOf p) p) (asked-monotone (ordersOf p) (labelsOf p) p) b (g .spread)

@@ -1,0 +1,59 @@
+-- What closing starts from: the roots, the candidates, and working sets that hold nothing.
+-- Assumes nothing.
+use mathlib.Core.Path.{_≡_, refl, sym, ap, subst, _∙_}
+use mathlib.Core.List.{List, _++_}
+use Prim.Native.Nat.{ℕ, _≤_, _<_}
+use native.Mathlib.Omega.{arith}
+use lib.ListN.{length, take, drop, replicate, length-append}
+use lib.Seq.{take-at}
+use Rattle.walk.specs.Close.{Within, Bits}
+use Rattle.tables.specs.Project.{Project}
+use Rattle.tables.specs.Readings.{modules}
+use Rattle.tables.specs.Accepted.{Accepted}
+use Rattle.wrap_plan.specs.Plan.{roots}
+use Rattle.wrap_plan.specs.Steps.{importTargets}
+use Rattle.wrap_plan.specs.Spread.{Under}
+use Rattle.wrap_plan.specs.Suffix.{Settled}
+use Rattle.wrap_plan.specs.Closing.{eligibleMarks, candidateMarks, Made, Kept, Basis, rootsOver, Written, Chosen}
+use Rattle.wrap_plan.proofs.Parts.{part-none, part-bits, part-length}
+use Rattle.wrap_plan.proofs.Reached.{roots-over, roots-few, chosen-candidates}
+
+-- there are no more roots than entries
+pub few-roots : (p : Project) → Accepted p → length (roots p) ≤ 16384
+unfolding rootsOver
+few-roots p ok =
+    let n : length (roots p) ≤ length (p .entry) = subst (λ (xs : List ℕ). length xs ≤ length (p .entry)) (roots-over p) (roots-few (p .included) (p .entry) (p .entryChunk) (length (p .entry))) in
+    omega (arith, ok .sizes .entry)
+
+-- a list that was written to a slice, read back as far as its count says
+pub written-read : {list old new : List ℕ} {r : ℕ} → Written list old new r → take r new ≡ list
+written-read {list} {old} {new} {r} w = ap (take r) (w .written) ∙ take-at list (drop (length list) old) r (sym (w .count))
+
+pub written-room : {list old new : List ℕ} {r : ℕ} → Written list old new r → r ≤ length new
+written-room {list} {old} {new} {r} w = omega (arith, w .count, ap length (w .written), length-append list (drop (length list) old))
+
+module _ (p : Project) (labels rootList sensitives eligibles plan : List ℕ) (b : Basis p labels sensitives eligibles plan) (e : rootList ≡ roots p) where
+  pub made-from : (candidates : List ℕ) → Chosen (p .included) rootList (p .recordModule) (importTargets (p .recordKind) (p .recordTarget)) eligibles (take (length plan) (replicate 4096 0)) candidates
+      → Made p labels rootList sensitives eligibles candidates
+  made-from candidates h = record {
+    accepted = b .accepted;
+    label = b .label;
+    root = e;
+    sensitiveSet = b .sensitiveSet;
+    eligibleSet = b .eligibleSet;
+    candidateSet = chosen-candidates p (b .accepted) (take (length plan) (replicate 4096 0)) candidates
+        (part-length 4096 (length plan) (omega (arith, b .size, b .accepted .sizes .normal)) ∙ b .size) (part-bits 4096 (length plan))
+        (subst (λ (s : List ℕ). Chosen (p .included) (roots p) (p .recordModule) (importTargets (p .recordKind) (p .recordTarget)) s (take (length plan) (replicate 4096 0)) candidates) (b .eligibleSet)
+        (subst (λ (s : List ℕ). Chosen (p .included) s (p .recordModule) (importTargets (p .recordKind) (p .recordTarget)) eligibles (take (length plan) (replicate 4096 0)) candidates) e h));
+  }
+
+  pub kept-from : Kept p rootList sensitives eligibles (take (length rootList) (replicate 16384 0)) (take (length plan) (replicate 4096 0)) plan
+  unfolding Settled Within Under
+  kept-from = record {
+    size = b .size;
+    bits = b .bits;
+    settledSize = part-length 16384 (length rootList) (omega (arith, ap length e, few-roots p (b .accepted)));
+    settles = λ k l h. absurd (part-none 16384 (length rootList) k h);
+    leadSize = part-length 4096 (length plan) (omega (arith, b .size, b .accepted .sizes .normal)) ∙ b .size;
+    under = λ M n w a m h. absurd (part-none 4096 (length plan) m h);
+  }

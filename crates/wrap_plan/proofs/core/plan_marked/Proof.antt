@@ -1,0 +1,82 @@
+-- `wrap_plan::core::plan_marked` meets its contract: the eligible seeds are marked, and the plan is closed from them.
+-- Assumes nothing.
+use Prim.Native.Nat.{ℕ, _≤_, _<_}
+use mathlib.Core.Path.{_≡_, refl, sym, ap, subst, _∙_}
+use mathlib.Core.List.{List}
+use lib.ListN.{length}
+use borrow.Author.Needs.{needs}
+use Rattle.tables.specs.Project.{Project}
+use Rattle.wrap_plan.specs.Planned.{planOf}
+use Rattle.wrap_plan.specs.Closing.{Rest, whole, withEntries, Basis, Plannable, PlanClosed, Marked, Seedable, SeedsPlanned}
+use Rattle.wrap_plan.proofs.Seeding.{seeds-basis, seeds-planned}
+use borrow.Author.Needs.{needs}
+use Rattle.wrap_plan.proofs.core.plan_marked.Statement.{statement}
+use Rattle.wrap_plan.proofs.core.plan_marked.Tie as tie
+use Rattle.wrap_plan.proofs.core.plan_marked.Reads as reads
+use Rattle.wrap_plan.proofs.core.plan_marked.Lts as lts
+use Rattle.lists.proofs.core.fill.Reads as fill-reads
+use Rattle.wrap_plan.proofs.core.build_order_wrap_plan.Reads as build-order-wrap-plan-reads
+use Rattle.wrap_plan.proofs.marks.mark_owners.Reads as mark-owners-reads
+
+-- the project with a rest, and what is known of it
+
+abbrev of : tie.Start → Rest → Project
+of e rest = let a = e .args in whole (withEntries rest (a .entry .now) (a .entry-chunk .now)) (a .normal .now) (a .included .now) (a .reads .now) (a .chunk .now) (a .record-module .now) (a .record-kind .now) (a .record-target .now) (a .dependency-module .now) (a .dependency .now) (a .statement-module .now) (a .owner .now) (a .canonical .now) (a .chain-symbol .now) (a .chain-link .now) (a .reference-statement .now) (a .reference-symbol .now) (a .depended-reference .now) (a .depended .now) (a .member-chunk .now) (a .member .now)
+
+abbrev MarkedOf : tie.Start → Rest → Type 0
+MarkedOf e rest = let a = e .args in Marked (of e rest) (a .labels .now) (a .sensitive .now) (a .eligible .now) (length (a .plan .now))
+
+ready : (e : tie.Start) → (rest : Rest) × MarkedOf e rest
+unfolding Seedable
+ready e = e .pre .0
+
+-- the marks of the eligible seeds
+abbrev marks : tie.After-mark-owners → List ℕ
+marks k = k .mark-owners .last .1 .1 .1 .0
+
+basis : (k : tie.After-mark-owners) (rest : Rest) → MarkedOf (k .before .before .before .before .before .before .before .before .before .before .before .before .before .before .before .before .before .before .before .before .before .before .before .before .before .before .before .before .before .before .before .before .before) rest → let a = k .before .before .before .before .before .before .before .before .before .before .before .before .before .before .before .before .before .before .before .before .before .before .before .before .before .before .before .before .before .before .before .before .before .args in Basis (of (k .before .before .before .before .before .before .before .before .before .before .before .before .before .before .before .before .before .before .before .before .before .before .before .before .before .before .before .before .before .before .before .before .before) rest) (a .labels .now) (a .sensitive .now) (a .eligible .now) (marks k)
+basis k rest m =
+    let e = k .before .before .before .before .before .before .before .before .before .before .before .before .before .before .before .before .before .before .before .before .before .before .before .before .before .before .before .before .before .before .before .before .before in
+    let a = e .args in
+    let f = k .before .before .before .before .fill in
+    seeds-basis (of e rest) (a .labels .now) (a .sensitive .now) (a .eligible .now) (length (a .plan .now)) m (a .seeds .now) (f .last .0) (marks k) (f .ensures) (k .mark-owners .ensures)
+
+planned : (k : tie.After-mark-owners) (rest : Rest) → MarkedOf (k .before .before .before .before .before .before .before .before .before .before .before .before .before .before .before .before .before .before .before .before .before .before .before .before .before .before .before .before .before .before .before .before .before) rest → (made : List ℕ) → PlanClosed (of (k .before .before .before .before .before .before .before .before .before .before .before .before .before .before .before .before .before .before .before .before .before .before .before .before .before .before .before .before .before .before .before .before .before)) (k .before .before .before .before .before .before .before .before .before .before .before .before .before .before .before .before .before .before .before .before .before .before .before .before .before .before .before .before .before .before .before .before .before .args .labels .now) (k .before .before .before .before .before .before .before .before .before .before .before .before .before .before .before .before .before .before .before .before .before .before .before .before .before .before .before .before .before .before .before .before .before .args .sensitive .now) (k .before .before .before .before .before .before .before .before .before .before .before .before .before .before .before .before .before .before .before .before .before .before .before .before .before .before .before .before .before .before .before .before .before .args .eligible .now) (marks k) made
+    → made ≡ planOf (of (k .before .before .before .before .before .before .before .before .before .before .before .before .before .before .before .before .before .before .before .before .before .before .before .before .before .before .before .before .before .before .before .before .before) rest) (k .before .before .before .before .before .before .before .before .before .before .before .before .before .before .before .before .before .before .before .before .before .before .before .before .before .before .before .before .before .before .before .before .before .args .seeds .now)
+unfolding PlanClosed
+planned k rest m made h =
+    let e = k .before .before .before .before .before .before .before .before .before .before .before .before .before .before .before .before .before .before .before .before .before .before .before .before .before .before .before .before .before .before .before .before .before in
+    let a = e .args in
+    let f = k .before .before .before .before .fill in
+    seeds-planned (of e rest) (a .labels .now) (a .sensitive .now) (a .eligible .now) (length (a .plan .now)) m (a .seeds .now) (f .last .0) (marks k) (f .ensures) (k .mark-owners .ensures) made (h rest (basis k rest m))
+
+fill-requires : tie.Need-fill-requires
+fill-requires c κs = search needs
+
+mark-owners-requires : tie.Need-mark-owners-requires
+mark-owners-requires c κs = (refl, c .before .before .before .before .before .before .before .before .before .before .before .before .before .before .before .before .before .before .before .before .before .before .before .before .before .before .before .before .before .before .before .before .pre .1)
+
+build-order-wrap-plan-requires : tie.Need-build-order-wrap-plan-requires
+unfolding Plannable
+build-order-wrap-plan-requires c κs =
+    let g = ready (c .before .before .before .before .before .before .before .before .before .before .before .before .before .before .before .before .before .before .before .before .before .before .before .before .before .before .before .before .before .before .before .before .before .before .before .before) in
+    (g .0, basis (c .before .before .before) (g .0) (g .1))
+
+same-length : tie.Need-same-length
+same-length c = search needs
+
+returns : tie.Need-returns
+unfolding SeedsPlanned
+returns c =
+    let b = c .before .before .build-order-wrap-plan in
+    λ rest m. planned (c .before .before .before .before .before .before) rest m (b .last .1 .1 .1 .1 .1 .1 .1 .1 .1 .1 .1 .1 .1 .1 .1 .1 .1 .1 .1 .1 .1 .1 .1 .1 .1 .0) (b .ensures)
+
+pub plan-marked-spec : {M : Type 1} → statement M
+plan-marked-spec =
+    tie.close
+    (tie.spec
+    fill-requires
+    mark-owners-requires
+    build-order-wrap-plan-requires
+    same-length
+    returns)
