@@ -1,0 +1,2 @@
+-- The whole analysis' seeds.
+pub mod Seeds

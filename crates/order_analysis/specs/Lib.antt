@@ -1,0 +1,2 @@
+-- The whole analysis.
+pub mod Whole

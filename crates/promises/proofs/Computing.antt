@@ -1,0 +1,27 @@
+-- One name under which all definitions compute: `unfolding computing`.
+-- Assumes nothing.
+use mathlib.Core.List.{flatMap, zip}
+use Rattle.walk.specs.Walk.{visit, walk, postOrder}
+use Rattle.walk.specs.Close.{rounds, close}
+use Rattle.tables.specs.Readings.{rowsOf, resolved, targetsOf, valuesOf, isAnalysed, entryChunkOf, analysed}
+use Rattle.tables.specs.Refusal.{sized, sizesFit, below, belowOrMissing, valuesFit, rises, rowsRise, allNormal, usesOwn, dependedResolved, plainSymbols, entriesOnce, importsOnce, rowsAgree, refusal}
+use Rattle.sort_modules.specs.Sort.{visited, numbers, sorted}
+use Rattle.sort_modules.specs.OfProject.{numbersOf, sortedOf}
+use Rattle.expected_order.specs.Expected.{expected}
+use Rattle.expected_order.specs.OfProject.{expectedOf}
+use Rattle.actual_order.specs.LoadOrder.{sortBy, loadOrder}
+use Rattle.actual_order.specs.Actual.{triggered, execute, executeAll, eagerMembers, chunkOrder, hostsInTurn, runOf, actualOf, hostsOf}
+use Rattle.chunk_cycles.specs.Cycles.{cyclicOf, connected, component, cyclic, label, labels, reachesCycle, labelsOf, reachesCycleOf}
+use Rattle.chunk_cycles.specs.Cycles as cycles
+use Rattle.at_risk.specs.Marks.{wakes, usesWrapped, sensitive, eligible}
+use Rattle.at_risk.specs.Risk.{early, isFlagged, orderRisk, cycleRisk, riskOf}
+use Rattle.at_risk.specs.Entry.{expectedSensitiveOf, actualSensitiveOf, riskOfEntry}
+use Rattle.wrap_plan.specs.Rules.{suffixAsks, componentAsks, leads, importAsks, symbolTouches, referenceTouches, readAsks}
+use Rattle.wrap_plan.specs.Plan.{asked, start, planFrom}
+use Rattle.wrap_plan.specs.Plan as plan
+use Rattle.wrap_plan.specs.Planned.{ordersOf, planOf}
+use Rattle.order_analysis.specs.Whole.{seedsOf, wholePlan}
+
+unfoldable pub computing : Unit {0}
+unfolding visit walk postOrder rounds close rowsOf resolved targetsOf valuesOf isAnalysed entryChunkOf analysed sizesFit below belowOrMissing valuesFit rises rowsRise allNormal usesOwn dependedResolved plainSymbols entriesOnce importsOnce rowsAgree refusal visited numbers sorted numbersOf sortedOf expected expectedOf sortBy loadOrder triggered execute executeAll eagerMembers chunkOrder hostsInTurn runOf actualOf hostsOf connected component cyclic label labels reachesCycle labelsOf cyclicOf reachesCycleOf cycles.reached wakes usesWrapped sensitive eligible early isFlagged orderRisk cycleRisk riskOf expectedSensitiveOf riskOfEntry suffixAsks componentAsks leads importAsks symbolTouches referenceTouches readAsks asked start planFrom plan.reached ordersOf planOf seedsOf wholePlan flatMap sized zip actualSensitiveOf
+computing = tt

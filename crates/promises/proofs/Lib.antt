@@ -1,0 +1,12 @@
+-- The promises, proved.
+pub mod Same
+pub mod Theorems
+pub mod Computing
+pub mod Cases
+pub mod Witnesses
+pub mod Needed
+pub mod LoadWalks
+pub mod LoadRows
+pub mod Load
+pub mod LoadNeeded
+pub mod LoadEvaluation

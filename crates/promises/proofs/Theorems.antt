@@ -1,0 +1,169 @@
+-- The promises of specs/Statements, inhabited.
+-- Assumes nothing.
+use mathlib.Core.Path.{_≡_, refl, sym, ap, subst, _∙_}
+use mathlib.Core.Logic.{⊎-elim}
+use mathlib.Core.Bool.{true}
+use mathlib.Core.List.{List, _++_, List·Memᴰ, Memᴰ·map}
+use Prim.Native.Nat.{ℕ}
+use native.Mathlib.Omega.{arith}
+use lib.ListN.{length, getD, drop}
+use Rattle.lists.specs.Words.{upTo, elem, has, ones, Distinct}
+use Rattle.lists.proofs.Laws.{any-mem, keep-mem, upTo-mem}
+use Rattle.walk.specs.Close.{Within, Closed, Bits}
+use Rattle.tables.specs.Project.{Project}
+use Rattle.tables.specs.Readings.{modules, chunks, analysedRow, isAnalysed, analysed, entryChunkOf, rowsOf}
+use Rattle.tables.specs.Refusal.{refusal}
+use Rattle.tables.specs.Answers.{numberOf, countOf, counted, after}
+use Rattle.tables.specs.declared.Answer.{Answer}
+use Rattle.tables.proofs.Accepted.{accepted}
+use Rattle.chunk_cycles.specs.Cycles.{labelsOf, reachesCycleOf}
+use Rattle.chunk_cycles.specs.Graph.{ImportsFit}
+use Rattle.chunk_cycles.proofs.Paths.{component-grows}
+use Rattle.expected_order.specs.OfProject.{expectedOf}
+use Rattle.expected_order.proofs.Laws.{expected-distinct}
+use Rattle.actual_order.specs.Actual.{runOf, actualOf, hostsOf, hostsInTurn}
+use Rattle.actual_order.specs.LoadOrder.{loadOrder}
+use Rattle.actual_order.proofs.Actuals.{run-distinct}
+use Rattle.at_risk.specs.Marks.{sensitive, eligible}
+use Rattle.at_risk.specs.Risk.{isFlagged}
+use Rattle.at_risk.specs.Entry.{expectedSensitiveOf, actualSensitiveOf, riskOfEntry}
+use Rattle.at_risk.proofs.Marks.{eligible-in}
+use Rattle.at_risk.proofs.Risks.{struck-same, flagged-risk}
+use Rattle.wrap_plan.specs.Rules.{fromFirst}
+use Rattle.wrap_plan.specs.Plan.{suffixRule, roots, asks}
+use Rattle.wrap_plan.specs.Planned.{ordersOf, planOf, planVerdict}
+use Rattle.wrap_plan.proofs.Monotone.{mem-fromFirst, asks-labels}
+use Rattle.wrap_plan.proofs.Rows.{mem-rows}
+use Rattle.wrap_plan.proofs.Suffix.{suffix-split, suffix-planned}
+use Rattle.wrap_plan.proofs.Plans.{plan-length, plan-bits, plan-seeds, plan-closed, plan-least, plan-eligible, plan-rises, plan-more-seeds}
+use Rattle.order_analysis.specs.Whole.{seedsOf, wholePlan, wholeVerdict}
+use Rattle.order_analysis.proofs.Seeds.{risk-seed, row-seed, seed-cases}
+use Rattle.promises.specs.Changes.{withSeed, withImports}
+use Rattle.promises.specs.Statements.{PlanIsLeast, WholePlanIsLeast, MoreSeedsKeepThePlan, MoreSeedRowsKeepTheWholePlan, MoreImportsKeepThePlan, unplanned, AllEligible, WholePlanKeepsTheOrder, LeavesPlan, PlanCallLeavesThePlan, WholeCallLeavesThePlan}
+use Rattle.promises.proofs.Same.{seed-plan, seed-risk, seed-roots, imports-orders, imports-eligible, imports-asks}
+
+pub planIsLeast : PlanIsLeast
+unfolding PlanIsLeast planOf Within Closed Bits
+planIsLeast p seeds =
+    record {
+      holds = record {
+        marks = plan-length (ordersOf p) (labelsOf p) p seeds;
+        seeded = λ m s e. plan-seeds (ordersOf p) (labelsOf p) p seeds m e s;
+        closed = λ rule m l a. plan-closed (ordersOf p) (labelsOf p) p seeds rule m (omega (arith, plan-length (ordersOf p) (labelsOf p) p seeds)) a;
+      };
+      bits = plan-bits (ordersOf p) (labelsOf p) p seeds;
+      members = plan-eligible (ordersOf p) (labelsOf p) p seeds;
+      least = λ S c m h. plan-least (ordersOf p) (labelsOf p) p seeds S (c .marks) (λ x e s. c .seeded x s e) (λ rule x l a. c .closed rule x (omega (arith, c .marks)) a) m h;
+    }
+
+pub wholePlanIsLeast : WholePlanIsLeast
+unfolding WholePlanIsLeast wholePlan PlanIsLeast
+wholePlanIsLeast p = planIsLeast p (seedsOf p)
+
+pub moreSeedsKeepThePlan : MoreSeedsKeepThePlan
+unfolding MoreSeedsKeepThePlan planOf Within
+moreSeedsKeepThePlan p seeds seeds′ h = plan-more-seeds (ordersOf p) (labelsOf p) p seeds seeds′ h
+
+pub moreSeedRowsKeepTheWholePlan : MoreSeedRowsKeepTheWholePlan
+unfolding MoreSeedRowsKeepTheWholePlan MoreSeedsKeepThePlan wholePlan
+moreSeedRowsKeepTheWholePlan p rows h m e =
+    ap (λ (plan : List ℕ). has plan m) (seed-plan p rows (seedsOf (withSeed p rows))) ∙ moreSeedsKeepThePlan p (seedsOf p) (seedsOf (withSeed p rows)) more m e
+  where
+    more : (x : ℕ) → elem x (seedsOf p) ≡ true → elem x (seedsOf (withSeed p rows)) ≡ true
+    more x s =
+        ⊎-elim
+        (λ r. risk-seed (withSeed p rows) (r .0) x (subst (List·Memᴰ (r .0)) (sym (seed-roots p rows)) (r .1)) (ap (λ (risk : List ℕ). has risk x) (seed-risk p rows (r .0)) ∙ r .2))
+        (λ r. row-seed (withSeed p rows) x (h x r))
+        (seed-cases p x s)
+
+-- an accepted project's imports are a graph
+imports-fit : (p : Project) → refusal p ≡ 0 → ImportsFit p
+imports-fit p e =
+    let a = accepted p e in
+    record {
+      few = a .sizes .order;
+      rows = a .sizes .importChunk;
+      lengths = a .sizes .imports;
+      froms = a .values .importChunk;
+      tos = λ i l. a .values .imports i (omega (arith, a .sizes .imports));
+    }
+
+pub moreImportsKeepThePlan : MoreImportsKeepThePlan
+unfolding MoreImportsKeepThePlan planOf Within
+moreImportsKeepThePlan p froms tos seeds ok ok′ more =
+    let q : Project = withImports p froms tos in
+    plan-rises (ordersOf p) (ordersOf q) (labelsOf p) (labelsOf q) p q seeds seeds refl (λ m e s. (imports-eligible p froms tos m ∙ e, s))
+    (λ rule S n m e.
+    ap (λ (orders : List (List ℕ)). asks orders (labelsOf q) q rule S m) (imports-orders p froms tos)
+    ∙ imports-asks p froms tos (ordersOf p) (labelsOf q) rule S m
+    ∙ asks-labels (labelsOf p) (labelsOf q) (component-grows p q more (imports-fit p ok) (imports-fit q ok′) refl) (ordersOf p) p rule S m e)
+
+-- an analysed entry is one of the roots
+pub analysed-root : (p : Project) (root : ℕ) → isAnalysed p root ≡ true → List·Memᴰ root (roots p)
+unfolding isAnalysed analysed
+analysed-root p root e =
+    let r = any-mem (analysedRow p) (rowsOf (p .entry) root) e in
+    let q = mem-rows (p .entry) root (r .1) in
+    subst (λ (x : ℕ). List·Memᴰ x (roots p)) (q .1) (Memᴰ·map (λ (row : ℕ). getD (p .entry) row 0) (keep-mem (analysedRow p) (upTo (length (p .entry))) (upTo-mem (q .0)) (r .2)))
+
+-- no module stands twice in either order
+expected-once : (p : Project) (root : ℕ) → Distinct (expectedOf p root)
+unfolding expectedOf
+expected-once p root = expected-distinct (p .normal) (p .included) (p .recordModule) (p .recordKind) (p .recordTarget) root
+
+actual-once : (p : Project) (root : ℕ) → Distinct (actualOf p root)
+unfolding actualOf runOf
+actual-once p root =
+    run-distinct (p .normal) (p .included) (p .wrap) (p .recordModule) (p .recordKind) (p .recordTarget)
+    (hostsInTurn (p .wrap) (p .memberChunk) (p .member) (loadOrder (p .order) (p .importChunk) (p .imports)) (chunks p) root (entryChunkOf p root))
+
+module _ (p : Project) (root : ℕ) (a : isAnalysed p root ≡ true) (eE : (m : ℕ) → List·Memᴰ m (expectedSensitiveOf p root) → eligible p m ≡ true) where
+  -- rule (i): from the first planned module on all are planned
+  after-first : (m : ℕ) → List·Memᴰ m (fromFirst (has (wholePlan p)) (expectedSensitiveOf p root)) → has (wholePlan p) m ≡ true
+  unfolding ordersOf WholePlanIsLeast
+  after-first m h =
+      let g : eligible p m ≡ true = eE m (mem-fromFirst (has (wholePlan p)) (expectedSensitiveOf p root) h) in
+      wholePlanIsLeast p .holds .closed suffixRule m (eligible-in p m g)
+      (suffix-planned (eligible p) (ordersOf p) (wholePlan p) (expectedSensitiveOf p root) m (Memᴰ·map (expectedSensitiveOf p) (analysed-root p root a)) h g)
+
+  -- a flagged eligible module is at risk, so a seed, so planned
+  flagged-planned : (m : ℕ) → isFlagged (sensitive p) (eligible p) (expectedOf p root) (actualOf p root) (hostsOf p root) m ≡ true → eligible p m ≡ true → has (wholePlan p) m ≡ true
+  unfolding riskOfEntry WholePlanIsLeast
+  flagged-planned m f g =
+      wholePlanIsLeast p .holds .seeded m
+      (risk-seed p root m (analysed-root p root a) (flagged-risk (sensitive p) (eligible p) (expectedOf p root) (actualOf p root) (hostsOf p root) (reachesCycleOf p (entryChunkOf p root)) (modules p) m (eligible-in p m g) f g))
+      g
+
+  struck : ((m : ℕ) → List·Memᴰ m (actualSensitiveOf p root) → eligible p m ≡ true) → unplanned (wholePlan p) (expectedSensitiveOf p root) ≡ unplanned (wholePlan p) (actualSensitiveOf p root)
+  unfolding expectedSensitiveOf actualSensitiveOf
+  struck eA =
+      struck-same (sensitive p) (eligible p) (expectedOf p root) (actualOf p root) (hostsOf p root) (has (wholePlan p)) (expected-once p root) (actual-once p root) eE eA flagged-planned
+
+pub wholePlanKeepsTheOrder : WholePlanKeepsTheOrder
+unfolding WholePlanKeepsTheOrder AllEligible
+wholePlanKeepsTheOrder p root a eE eA = record {
+  rest = fromFirst (has (wholePlan p)) (expectedSensitiveOf p root);
+  opens = suffix-split (has (wholePlan p)) (expectedSensitiveOf p root) (after-first p root a eE);
+  planned = after-first p root a eE;
+  same = struck p root a eE eA;
+}
+
+-- a call whose number is 0 leaves the new list and counts it
+leaves : (p : Project) (plan marks marks′ : List ℕ) (r : Answer) (v : ℕ) → length plan ≡ modules p → numberOf r ≡ v → countOf r ≡ counted v (ones plan) → marks′ ≡ after v marks plan
+    → numberOf r ≡ 0 → LeavesPlan p plan marks r marks′
+leaves p plan marks marks′ r v n e c w z =
+    let o : v ≡ 0 = sym e ∙ z in
+    record {
+      written = w ∙ ap (λ (k : ℕ). after k marks plan) o ∙ ap (λ (k : ℕ). plan ++ drop k marks) n;
+      count = c ∙ ap (λ (k : ℕ). counted k (ones plan)) o;
+    }
+
+pub planCallLeavesThePlan : PlanCallLeavesThePlan
+unfolding PlanCallLeavesThePlan PlanIsLeast
+planCallLeavesThePlan p seeds marks marks′ r c =
+    leaves p (planOf p seeds) marks marks′ r (planVerdict p seeds (length marks)) (planIsLeast p seeds .holds .marks) (c .number) (c .count) (c .written)
+
+pub wholeCallLeavesThePlan : WholeCallLeavesThePlan
+unfolding WholeCallLeavesThePlan WholePlanIsLeast
+wholeCallLeavesThePlan p marks marks′ r c =
+    leaves p (wholePlan p) marks marks′ r (wholeVerdict p (length marks)) (wholePlanIsLeast p .holds .marks) (c .number) (c .count) (c .written)

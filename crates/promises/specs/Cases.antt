@@ -1,0 +1,79 @@
+-- Document 01's marked cases: a change of the listing, an operation with its arguments and slices, and its result.
+-- Assumes nothing.
+use mathlib.Core.Path.{_≡_}
+use mathlib.Core.List.{List, [], _∷_, map}
+use Prim.Native.Nat.{ℕ}
+use Rattle.tables.specs.Project.{Project, missing}
+use Rattle.promises.specs.Changes.{withImports, withNormal}
+use Rattle.promises.specs.Listing.{listing}
+use Rattle.promises.specs.Calls.{Call, sort, expectedOrder, actualOrder, chunkLabels, riskOfAnEntry, planFromSeeds, wholeAnalysis, Outcome, outcomeOf}
+
+pub record Case : Type 0 where
+  pub on : Project
+  pub call : Call
+  pub gives : Outcome
+
+-- a call that is accepted, with its count and the slices after it
+abbrev pub accepts : Project → Call → ℕ → List (List ℕ) → Case
+accepts p call count slices = record { on = p; call = call; gives = record { number = 0; count = count; slices = slices } }
+
+-- a call that is refused: count 0, and its slices as they were
+abbrev pub refuses : Project → Call → ℕ → List (List ℕ) → Case
+refuses p call number slices = record { on = p; call = call; gives = record { number = number; count = 0; slices = slices } }
+
+-- every case gives what it says
+unfoldable pub AllHold : List Case → Type 0
+AllHold cases = map (λ (c : Case). outcomeOf (c .on) (c .call)) cases ≡ map (λ (c : Case). c .gives) cases
+
+-- "with edge 1 to 0 added", "with edge 0 to 0 added", "module 3 external"
+abbrev pub edge10 : Project
+edge10 = withImports listing (0 ∷ 1 ∷ []) (1 ∷ 0 ∷ [])
+
+abbrev pub edge00 : Project
+edge00 = withImports listing (0 ∷ 0 ∷ []) (0 ∷ 1 ∷ [])
+
+abbrev pub external3 : Project
+external3 = withNormal listing (1 ∷ 1 ∷ 1 ∷ 0 ∷ [])
+
+-- a slice that is lent: the places beyond the modules keep what stood there
+abbrev pub lent : List ℕ
+lent = 9 ∷ 8 ∷ 7 ∷ 6 ∷ 5 ∷ []
+
+abbrev four : List ℕ
+four = 9 ∷ 8 ∷ 7 ∷ 6 ∷ []
+
+abbrev three : List ℕ
+three = 9 ∷ 8 ∷ 7 ∷ []
+
+abbrev two : List ℕ
+two = 9 ∷ 8 ∷ []
+
+unfoldable pub markedCases : List Case
+markedCases =
+    -- "the plan above"
+    accepts listing (wholeAnalysis lent) 2 ((0 ∷ 1 ∷ 0 ∷ 1 ∷ 5 ∷ []) ∷ [])
+    -- the listing's other printed lines, with "numbers 0 3 1 2"
+    ∷ accepts listing (sort lent lent) 4 ((0 ∷ 3 ∷ 1 ∷ 2 ∷ 5 ∷ []) ∷ (0 ∷ 2 ∷ 3 ∷ 1 ∷ 5 ∷ []) ∷ [])
+    ∷ accepts listing (expectedOrder 1 lent) 3 ((2 ∷ 3 ∷ 1 ∷ 6 ∷ 5 ∷ []) ∷ [])
+    ∷ accepts listing (actualOrder 1 lent lent) 4 ((0 ∷ 3 ∷ 2 ∷ 1 ∷ 5 ∷ []) ∷ (missing ∷ missing ∷ missing ∷ missing ∷ 5 ∷ []) ∷ [])
+    ∷ accepts listing (riskOfAnEntry 1 lent) 1 ((0 ∷ 0 ∷ 0 ∷ 1 ∷ 5 ∷ []) ∷ [])
+    -- "plan from no seed, empty; from 0, empty; from 1, {1}; from 2, {1,2,3}"
+    ∷ accepts listing (planFromSeeds [] lent) 0 ((0 ∷ 0 ∷ 0 ∷ 0 ∷ 5 ∷ []) ∷ [])
+    ∷ accepts listing (planFromSeeds (0 ∷ []) lent) 0 ((0 ∷ 0 ∷ 0 ∷ 0 ∷ 5 ∷ []) ∷ [])
+    ∷ accepts listing (planFromSeeds (1 ∷ []) lent) 1 ((0 ∷ 1 ∷ 0 ∷ 0 ∷ 5 ∷ []) ∷ [])
+    ∷ accepts listing (planFromSeeds (2 ∷ []) lent) 3 ((0 ∷ 1 ∷ 1 ∷ 1 ∷ 5 ∷ []) ∷ [])
+    -- "with edge 1 to 0 added, labels 0 0, and from 1, {1,2,3}"
+    ∷ accepts edge10 (chunkLabels two) 2 ((0 ∷ 0 ∷ []) ∷ [])
+    ∷ accepts edge10 (planFromSeeds (1 ∷ []) lent) 3 ((0 ∷ 1 ∷ 1 ∷ 1 ∷ 5 ∷ []) ∷ [])
+    -- "with edge 0 to 0 added, labels 0 and mark"
+    ∷ accepts edge00 (chunkLabels two) 1 ((0 ∷ missing ∷ []) ∷ [])
+    -- "module 3 external, expected order of 3 empty"
+    ∷ accepts external3 (expectedOrder 3 lent) 0 (lent ∷ [])
+    -- "root 4, refusal 5"
+    ∷ refuses listing (expectedOrder 4 lent) 5 (lent ∷ [])
+    ∷ refuses listing (actualOrder 4 lent lent) 5 (lent ∷ lent ∷ [])
+    ∷ refuses listing (riskOfAnEntry 4 lent) 5 (lent ∷ [])
+    -- "for the sort, output slices of 3, refusal 6, of 4, none"
+    ∷ refuses listing (sort three three) 6 (three ∷ three ∷ [])
+    ∷ accepts listing (sort four four) 4 ((0 ∷ 3 ∷ 1 ∷ 2 ∷ []) ∷ (0 ∷ 2 ∷ 3 ∷ 1 ∷ []) ∷ [])
+    ∷ []
