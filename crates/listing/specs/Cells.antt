@@ -1,0 +1,100 @@
+-- For the reader's inner functions: a list's values row by row, as text and cut into columns.
+-- Assumes nothing.
+use Prim.Native.Nat.{ℕ, zero, suc, _+_, _-_, _/_, _≤_}
+use Prim.Native.String.{String}
+use mathlib.Core.Path.{_≡_}
+use mathlib.Core.Bool.{cond}
+use mathlib.Core.List.{List, [], _∷_, _++_, map}
+use lib.Dec.{eqb}
+use lib.ListN.{length, getD}
+use Rattle.lists.specs.Words.{upTo}
+use Rattle.form.specs.Form.{bytes, field, names}
+use Rattle.form.specs.Parse.{Fit}
+
+-- of a field with `left` more fields behind it in its row: the byte behind it, a space or a line end
+unfoldable pub ender : ℕ → ℕ
+ender left = cond (eqb left 0) 10 32
+
+-- and how many the next field has behind it, in rows of `last + 1` fields
+unfoldable pub following : ℕ → ℕ → ℕ
+following last left = cond (eqb left 0) last (left - 1)
+
+-- the values of a list as text, row by row, where the first has `left` more fields behind it in its row
+unfoldable pub cells : ℕ → ℕ → List ℕ → List ℕ
+cells last left [] = []
+cells last left (v ∷ vs) = field v ++ ender left ∷ cells last (following last left) vs
+
+-- how many fields the next value behind vs has behind it in its row: `last` where vs ends with a whole row
+unfoldable pub ends : ℕ → ℕ → List ℕ → ℕ
+ends last left [] = left
+ends last left (v ∷ vs) = ends last (following last left) vs
+
+-- vs are the values of whole rows of `last + 1` fields
+pub record Whole (last : ℕ) (vs : List ℕ) : Type 0 where
+  pub fit : Fit vs
+  pub whole : ends last last vs ≡ last
+
+-- a list without its line of names: its rows and an empty line
+unfoldable pub body : ℕ → List ℕ → List ℕ
+body last vs = cells last last vs ++ 10 ∷ []
+
+-- a list's line of names, and its columns less one
+pub record Head : Type 0 where
+  pub name : List ℕ
+  pub last : ℕ
+
+abbrev pub head : List ℕ → ℕ → Head
+head name last = record { name = name; last = last }
+
+-- a whole list: its line of names, its rows and an empty line
+unfoldable pub listed : Head → List ℕ → List ℕ
+listed h vs = h .name ++ 10 ∷ body (h .last) vs
+
+-- how many columns each list has
+abbrev pub widths : List ℕ
+widths = 2 ∷ 7 ∷ 3 ∷ 2 ∷ 2 ∷ 2 ∷ 2 ∷ 2 ∷ 3 ∷ 2 ∷ 1 ∷ 2 ∷ 2 ∷ 2 ∷ 1 ∷ []
+
+abbrev pub headsOf : List String → List ℕ → List Head
+headsOf [] ws = []
+headsOf (n ∷ ns) [] = []
+headsOf (n ∷ ns) (w ∷ ws) = head (bytes n) (w - 1) ∷ headsOf ns ws
+
+-- a project's lists, in order
+abbrev pub heads : List Head
+heads = headsOf names widths
+
+-- several lists as text
+unfoldable pub texts : List Head → List (List ℕ) → List ℕ
+texts [] vss = []
+texts (h ∷ hs) [] = []
+texts (h ∷ hs) (vs ∷ vss) = listed h vs ++ texts hs vss
+
+-- whole rows for each list
+pub data Wholes : List Head → List (List ℕ) → Type 0 where
+  none : Wholes [] []
+  more : {h : Head} {hs : List Head} {vs : List ℕ} {vss : List (List ℕ)} → Whole (h .last) vs → Wholes hs vss → Wholes (h ∷ hs) (vs ∷ vss)
+
+-- where each of several lists ends, where the first begins at `at`
+unfoldable pub stops : ℕ → List (List ℕ) → List ℕ
+stops at [] = []
+stops at (vs ∷ vss) = (at + length vs) ∷ stops (at + length vs) vss
+
+-- n values of vs from p on, w apart: a column of n rows
+unfoldable pub stripe : ℕ → ℕ → ℕ → List ℕ → List ℕ
+stripe w p zero vs = []
+stripe w p (suc n) vs = getD vs p 0 ∷ stripe w (p + w) n vs
+
+-- the columns of n rows of w values that begin at p, those given in ks
+unfoldable pub stripes : ℕ → ℕ → ℕ → List ℕ → List ℕ → List (List ℕ)
+stripes w p n vs ks = map (λ (k : ℕ). stripe w (p + k) n vs) ks
+
+-- the columns of lists of the widths ws, which end at es, where the first begins at p
+unfoldable pub cut : List ℕ → List ℕ → ℕ → List ℕ → List (List ℕ)
+cut [] es p vs = []
+cut (w ∷ ws) [] p vs = []
+cut (w ∷ ws) (e ∷ es) p vs = stripes w p ((e - p) / w) vs (upTo w) ++ cut ws es e vs
+
+-- each end is at or behind the one before, from p to `limit`
+pub data Climbs : ℕ → List ℕ → ℕ → Type 0 where
+  at-end : {p limit : ℕ} → p ≤ limit → Climbs p [] limit
+  step : {p e limit : ℕ} {es : List ℕ} → p ≤ e → Climbs e es limit → Climbs p (e ∷ es) limit

@@ -1,0 +1,164 @@
+// The rows of a list, a list, and all lists of a text; the values row by row in one array.
+ghost use mathlib.Core.Path.{_≡_};
+ghost use Prim.Native.Nat.{ℕ, _+_, _*_, _≤_, _<_};
+ghost use lib.ListN.{length};
+ghost use Rattle.listing.specs.Cells.{ender, following, head, heads};
+ghost use Rattle.listing.specs.Steps.{RowsIs, LineIs, ListIs, Room, Step, Steps};
+use crate::fields::Field;
+use crate::fields::read_cell;
+
+pub enum Rows {
+    // How far the values go, and the position behind the empty line.
+    Done(usize, usize),
+    Bad,
+}
+
+// The byte behind a field with `left` more fields behind it in its row.
+fn end_of(left: usize) -> u8
+    ensures { λ r. ⌜ (r ≡ ender left) × (r < 48) ⌝ }
+{
+    if left == 0 { 10 } else { 32 }
+}
+
+fn next_left(last: usize, left: usize) -> usize
+    ensures { λ r. ⌜ r ≡ following last left ⌝ }
+{
+    if left == 0 { last } else { left - 1 }
+}
+
+// Reads the rows of a list of `last + 1` columns from `at` on, up to its empty line, and puts the values into out, row by row, from
+// `from` on.
+fn read_rows(s: &[u8], at: usize, last: usize, out: &mut [u32; 32768], from: usize) -> Rows
+    requires { ⌜ (at ≤ length (now s)) × (length (now s) + 2 * from ≤ at + 65536) ⌝ }
+    ensures { λ r. ⌜ RowsIs (now (s .entry)) at last (now (out .entry)) from (now (out .exit)) r ⌝ }
+{
+    let mut i = at;
+    let mut k = from;
+    let mut left = last;
+    while i < s.len() {
+        let f = read_cell(s, i, end_of(left));
+        match f {
+            Field::Value(v, next) => {
+                out[k] = v;
+                k += 1;
+                i = next;
+                left = next_left(last, left);
+            }
+            Field::Broken => {
+                if left != last {
+                    return Rows::Bad;
+                }
+                if s[i] != 10 {
+                    return Rows::Bad;
+                }
+                return Rows::Done(k, i + 1);
+            }
+        }
+    }
+    Rows::Bad
+}
+
+pub enum Place {
+    At(usize),
+    Differs,
+}
+
+// The position behind `name` and a line end, where these stand at `at`.
+fn match_line(s: &[u8], at: usize, name: &[u8]) -> Place
+    requires { ⌜ at ≤ length (now s) ⌝ }
+    ensures { λ r. ⌜ LineIs (now (s .entry)) at (now (name .entry)) r ⌝ }
+{
+    if s.len() - at <= name.len() {
+        return Place::Differs;
+    }
+    let mut j = 0;
+    while j < name.len() {
+        if s[at + j] != name[j] {
+            return Place::Differs;
+        }
+        j += 1;
+    }
+    if s[at + j] != 10 {
+        return Place::Differs;
+    }
+    Place::At(at + j + 1)
+}
+
+// Where a reading stands: the position in the text and that in the values; or the text is not of the form.
+pub enum Cursor {
+    On(usize, usize),
+    Off,
+}
+
+// Reads one list more.
+fn read_list(s: &[u8], c: Cursor, name: &[u8], last: usize, out: &mut [u32; 32768]) -> Cursor
+    requires { ⌜ Room (now s) c ⌝ }
+    ensures { λ r. ⌜ ListIs (now (s .entry)) (head (now (name .entry)) last) (now (out .entry)) (now (out .exit)) c r × Room (now (s .entry)) r ⌝ }
+{
+    let Cursor::On(at, k) = c else {
+        return Cursor::Off;
+    };
+    let p = match_line(s, at, name);
+    let Place::At(next) = p else {
+        return Cursor::Off;
+    };
+    let r = read_rows(s, next, last, out, k);
+    match r {
+        Rows::Done(e, n) => Cursor::On(n, e),
+        Rows::Bad => Cursor::Off,
+    }
+}
+
+// Reads one list more, and notes where its values end.
+fn read_noted(
+    s: &[u8],
+    c: Cursor,
+    name: &[u8],
+    last: usize,
+    out: &mut [u32; 32768],
+    ends: &mut [usize; 15],
+    j: usize,
+) -> Cursor
+    requires { ⌜ Room (now s) c × (j < 15) ⌝ }
+    ensures { λ r. ⌜ Step (now (s .entry)) (head (now (name .entry)) last) (now (out .entry)) (now (out .exit)) (now (ends .entry)) (now (ends .exit)) j c r ⌝ }
+{
+    let r = read_list(s, c, name, last, out);
+    match r {
+        Cursor::On(at, k) => {
+            ends[j] = k;
+            Cursor::On(at, k)
+        }
+        Cursor::Off => Cursor::Off,
+    }
+}
+
+// Reads every list of a project from the text's start.
+pub fn read_lists(s: &[u8], out: &mut [u32; 32768], ends: &mut [usize; 15]) -> Cursor
+    requires { ⌜ length (now s) ≤ 65536 ⌝ }
+    ensures { λ r. ⌜ Steps (now (s .entry)) heads (now (out .entry)) (now (out .exit)) (now (ends .entry)) (now (ends .exit)) 0 (Cursor.On 0 0) r ⌝ }
+{
+    let c0 = Cursor::On(0, 0);
+    let c1 = read_noted(s, c0, b"runtime dynamic", 1, out, ends, 0);
+    let c2 = read_noted(
+        s,
+        c1,
+        b"normal included sensitive reads exports wrap chunk",
+        6,
+        out,
+        ends,
+        1,
+    );
+    let c3 = read_noted(s, c2, b"module kind target", 2, out, ends, 2);
+    let c4 = read_noted(s, c3, b"module dependency", 1, out, ends, 3);
+    let c5 = read_noted(s, c4, b"module included", 1, out, ends, 4);
+    let c6 = read_noted(s, c5, b"statement record", 1, out, ends, 5);
+    let c7 = read_noted(s, c6, b"owner canonical", 1, out, ends, 6);
+    let c8 = read_noted(s, c7, b"symbol link", 1, out, ends, 7);
+    let c9 = read_noted(s, c8, b"statement form symbol", 2, out, ends, 8);
+    let c10 = read_noted(s, c9, b"reference depended", 1, out, ends, 9);
+    let c11 = read_noted(s, c10, b"order", 0, out, ends, 10);
+    let c12 = read_noted(s, c11, b"chunk member", 1, out, ends, 11);
+    let c13 = read_noted(s, c12, b"chunk imports", 1, out, ends, 12);
+    let c14 = read_noted(s, c13, b"entry chunk", 1, out, ends, 13);
+    read_noted(s, c14, b"seed", 0, out, ends, 14)
+}

@@ -1,0 +1,390 @@
+// Runs the reader and the line writer at their edges, over document 01's listing on standard input.
+// A line is: `case`, its number, the list that it changes, the reading's number, the count of values and the number of the project test.
+use libc::STDIN_FILENO;
+use libc::STDOUT_FILENO;
+use listing::column;
+use listing::put_line;
+use listing::read;
+use listing::rising;
+use tables::Answer;
+
+// Where each list begins in the listing, and where the last ends.
+const STARTS: [usize; 16] = [
+    0,
+    21,
+    129,
+    161,
+    188,
+    205,
+    223,
+    240,
+    253,
+    276,
+    296,
+    307,
+    337,
+    356,
+    373,
+    379,
+];
+
+// How long each line of names is.
+const NAMES: [usize; 15] = [16, 51, 19, 18, 16, 17, 16, 12, 22, 19, 6, 13, 14, 12, 5];
+
+// Puts a byte, if there is room for it.
+fn put_byte(text: &mut [u8], at: usize, b: u8) -> usize {
+    if at < text.len() {
+        text[at] = b;
+        return at + 1;
+    }
+    at
+}
+
+fn put(text: &mut [u8], at: usize, bytes: &[u8]) -> usize {
+    let mut p = at;
+    let mut j = 0;
+    while j < bytes.len() {
+        p = put_byte(text, p, bytes[j]);
+        j += 1;
+    }
+    p
+}
+
+// Puts n bytes of the listing.
+fn put_part(text: &mut [u8], at: usize, listing: &[u8], from: usize, n: usize) -> usize {
+    if listing.len() < from {
+        return at;
+    }
+    if listing.len() - from < n {
+        return at;
+    }
+    let to = from + n;
+    put(text, at, &listing[from..to])
+}
+
+// Puts the lists of the listing from one on and before another.
+fn put_lists(text: &mut [u8], at: usize, listing: &[u8], from: usize, to: usize) -> usize {
+    if 15 < to {
+        return at;
+    }
+    if to < from {
+        return at;
+    }
+    let first = STARTS[from];
+    let last = STARTS[to];
+    if last < first {
+        return at;
+    }
+    put_part(text, at, listing, first, last - first)
+}
+
+// Puts a list's line of names.
+fn put_names(text: &mut [u8], at: usize, listing: &[u8], list: usize) -> usize {
+    if 14 < list {
+        return at;
+    }
+    put_part(text, at, listing, STARTS[list], NAMES[list])
+}
+
+// Writes the first n bytes.
+fn write_first(out: &[u8], n: usize) {
+    if n <= out.len() {
+        io::write_all(STDOUT_FILENO, &out[0..n]);
+    }
+}
+
+fn print(word: &[u8], entry: &[u32], numbers: &[u32]) {
+    let mut out = [0u8; 256];
+    let answer = put_line(&mut out, word, entry, numbers);
+    let Answer::Counted(n) = answer else {
+        return;
+    };
+    write_first(&out, n);
+}
+
+// A setting: the one row of its column.
+fn setting(values: &[u32], bounds: &[usize], j: usize) -> u32 {
+    let rows = column(values, bounds, j);
+    if rows.len() == 0 {
+        return 0;
+    }
+    rows[0]
+}
+
+// The number of the project test.
+fn tested(values: &[u32], bounds: &[usize]) -> u32 {
+    tables::refusal_number(
+        setting(values, bounds, 0),
+        setting(values, bounds, 1),
+        column(values, bounds, 2),
+        column(values, bounds, 3),
+        column(values, bounds, 4),
+        column(values, bounds, 5),
+        column(values, bounds, 6),
+        column(values, bounds, 7),
+        column(values, bounds, 8),
+        column(values, bounds, 9),
+        column(values, bounds, 10),
+        column(values, bounds, 11),
+        column(values, bounds, 12),
+        column(values, bounds, 13),
+        column(values, bounds, 14),
+        column(values, bounds, 15),
+        column(values, bounds, 16),
+        column(values, bounds, 17),
+        column(values, bounds, 18),
+        column(values, bounds, 19),
+        column(values, bounds, 20),
+        column(values, bounds, 21),
+        column(values, bounds, 22),
+        column(values, bounds, 23),
+        column(values, bounds, 24),
+        column(values, bounds, 25),
+        column(values, bounds, 26),
+        column(values, bounds, 27),
+        column(values, bounds, 28),
+        column(values, bounds, 29),
+        column(values, bounds, 30),
+        column(values, bounds, 31),
+        column(values, bounds, 32),
+        column(values, bounds, 33),
+        column(values, bounds, 34),
+    )
+}
+
+fn counted(case: u32, list: u32, k: usize, values: &[u32; 32768], bounds: &[usize; 36]) {
+    if 32768 < k {
+        return;
+    }
+    print(
+        b"case",
+        &[case, list],
+        &[0, k as u32, tested(values, bounds)],
+    );
+}
+
+// Reads the first n bytes of a text, and prints the answer.
+fn answer(case: u32, list: u32, text: &[u8], n: usize) {
+    let mut values = [0u32; 32768];
+    let mut bounds = [0usize; 36];
+    if text.len() < n {
+        return;
+    }
+    let answer = read(&text[0..n], &mut values, &mut bounds);
+    match answer {
+        Answer::Refused(number) => print(b"case", &[case, list], &[number]),
+        Answer::Counted(k) => counted(case, list, k, &values, &bounds),
+    }
+}
+
+// The listing with a list replaced by a text.
+fn replaced(listing: &[u8], case: u32, list: u32, instead: &[u8]) {
+    let mut text = [0u8; 66000];
+    if 14 < list {
+        return;
+    }
+    let l = list as usize;
+    let mut p = put_lists(&mut text, 0, listing, 0, l);
+    p = put(&mut text, p, instead);
+    p = put_lists(&mut text, p, listing, l + 1, 15);
+    answer(case, list, &text, p);
+}
+
+fn put_rows(text: &mut [u8], at: usize, row: &[u8], times: usize) -> usize {
+    let mut p = at;
+    let mut k = 0;
+    while k < times {
+        p = put(text, p, row);
+        k += 1;
+    }
+    p
+}
+
+// The listing with as many rows in a list, and an end.
+fn filled(listing: &[u8], case: u32, list: u32, row: &[u8], times: usize, end: &[u8]) {
+    let mut text = [0u8; 66000];
+    if 14 < list {
+        return;
+    }
+    let l = list as usize;
+    let mut p = put_lists(&mut text, 0, listing, 0, l);
+    p = put_names(&mut text, p, listing, l);
+    p = put_rows(&mut text, p, row, times);
+    p = put(&mut text, p, end);
+    p = put_lists(&mut text, p, listing, l + 1, 15);
+    answer(case, list, &text, p);
+}
+
+// A list whose line of names has another first letter.
+fn misspelt(listing: &[u8], case: u32, list: u32) {
+    let mut text = [0u8; 66000];
+    if 14 < list {
+        return;
+    }
+    let p = put_lists(&mut text, 0, listing, 0, 15);
+    put_byte(&mut text, STARTS[list as usize], b'x');
+    answer(case, list, &text, p);
+}
+
+// Each line of names misspelt, and each list left out.
+fn lists(listing: &[u8]) {
+    let mut l = 0;
+    while l < 15 {
+        misspelt(listing, 100, l);
+        replaced(listing, 101, l, b"");
+        l += 1;
+    }
+}
+
+// Texts and lists of the largest sizes, and one more.
+fn size_cases(listing: &[u8]) {
+    // 0: 65,536 bytes
+    filled(
+        listing,
+        0,
+        2,
+        b"1 0 2\n",
+        10858,
+        b"1 0 10\n1 0 10\n1 0 10\n\n",
+    );
+    // 1: 65,537 bytes
+    filled(
+        listing,
+        1,
+        2,
+        b"1 0 2\n",
+        10857,
+        b"1 0 10\n1 0 10\n1 0 10\n1 0 10\n\n",
+    );
+    // 2: 4,096 modules
+    filled(listing, 2, 1, b"1 1 0 0 1 0 0\n", 4096, b"\n");
+    // 3: 4,097 modules
+    filled(listing, 3, 1, b"1 1 0 0 1 0 0\n", 4097, b"\n");
+    // 4: no module
+    filled(listing, 4, 1, b"", 0, b"\n");
+    // 5: 1,024 chunks
+    filled(listing, 5, 10, b"7\n", 1024, b"\n");
+    // 6: 1,025 chunks
+    filled(listing, 6, 10, b"7\n", 1025, b"\n");
+    // 7: 16,384 seeds
+    filled(listing, 7, 14, b"3\n", 16384, b"\n");
+    // 8: 16,385 seeds
+    filled(listing, 8, 14, b"3\n", 16385, b"\n");
+    // 9: 25,000 seeds
+    filled(listing, 9, 14, b"3\n", 25000, b"\n");
+    // 10: 25,000 seeds and a bad byte
+    filled(listing, 10, 14, b"3\n", 25000, b"x\n\n");
+    // 11: no settings
+    filled(listing, 11, 0, b"", 0, b"\n");
+    // 12: two rows of settings
+    filled(listing, 12, 0, b"0 0\n", 2, b"\n");
+}
+
+// Rows that break the form.
+fn row_cases(listing: &[u8]) {
+    // 13: line ends CR LF
+    replaced(listing, 13, 0, b"runtime dynamic\r\n0 0\r\n\r\n");
+    // 14: a row that ends CR LF
+    replaced(listing, 14, 0, b"runtime dynamic\n0 0\r\n\n");
+    // 15: a leading zero
+    replaced(listing, 15, 0, b"runtime dynamic\n00 0\n\n");
+    // 16: a leading zero before a digit
+    replaced(listing, 16, 14, b"seed\n03\n\n");
+    // 17: two spaces
+    replaced(listing, 17, 0, b"runtime dynamic\n0  0\n\n");
+    // 18: a leading space
+    replaced(listing, 18, 0, b"runtime dynamic\n 0 0\n\n");
+    // 19: a trailing space
+    replaced(listing, 19, 0, b"runtime dynamic\n0 0 \n\n");
+    // 20: a tab
+    replaced(listing, 20, 0, b"runtime dynamic\n0\t0\n\n");
+    // 21: a sign
+    replaced(listing, 21, 0, b"runtime dynamic\n+0 0\n\n");
+    // 22: a field too few
+    replaced(listing, 22, 0, b"runtime dynamic\n0\n\n");
+    // 23: a field too many
+    replaced(listing, 23, 0, b"runtime dynamic\n0 0 0\n\n");
+}
+
+// Ends that break the form.
+fn end_cases(listing: &[u8]) {
+    // 24: no last empty line
+    replaced(listing, 24, 14, b"seed\n");
+    // 25: no last line end
+    replaced(listing, 25, 14, b"seed");
+    // 26: a byte behind the end
+    replaced(listing, 26, 14, b"seed\n\n\n");
+    // 27: a list twice
+    replaced(listing, 27, 14, b"seed\n\nseed\n\n");
+}
+
+// Numbers at the mark, and `-`.
+fn number_cases(listing: &[u8]) {
+    // 28: 4294967294
+    replaced(listing, 28, 10, b"order\n4294967294\n0\n\n");
+    // 29: 4294967295
+    replaced(listing, 29, 10, b"order\n4294967295\n0\n\n");
+    // 30: 4294967296
+    replaced(listing, 30, 10, b"order\n4294967296\n0\n\n");
+    // 31: 30 digits
+    replaced(
+        listing,
+        31,
+        10,
+        b"order\n100000000000000000000000000000\n0\n\n",
+    );
+    // 32: `-` where it is not allowed
+    replaced(listing, 32, 10, b"order\n-\n0\n\n");
+    // 33: `-` where it is allowed
+    replaced(listing, 33, 13, b"entry chunk\n1 -\n\n");
+    // 34: `-` and a digit
+    replaced(listing, 34, 13, b"entry chunk\n1 -0\n\n");
+}
+
+fn line_answer(answer: Answer) {
+    match answer {
+        Answer::Refused(number) => print(b"refused", &[], &[number]),
+        Answer::Counted(_) => print(b"counted", &[], &[]),
+    }
+}
+
+// A line of 8 bytes into slices of 8 and of 7.
+fn line_cases(numbers: &[u32]) {
+    let mut long = [46u8; 8];
+    let mut short = [46u8; 7];
+    line_answer(put_line(&mut long, b"of", &[], numbers));
+    write_first(&long, 8);
+    line_answer(put_line(&mut short, b"of", &[], numbers));
+    write_first(&short, 7);
+    print(b"", &[], &[]);
+}
+
+// The members of a set, with room and without.
+fn rising_cases(marks: &[u32]) {
+    let mut list = [7u32; 4];
+    let mut less = [7u32; 3];
+    line_answer(rising(marks, &mut list));
+    print(b"members", &[], &list);
+    line_answer(rising(marks, &mut less));
+    print(b"members", &[], &less);
+}
+
+fn main() {
+    let mut listing = [0u8; 512];
+    let n = io::read_full(STDIN_FILENO, &mut listing);
+    // the listing, no byte, one byte, and all but the last
+    answer(200, 15, &listing, n);
+    answer(201, 15, &listing, 0);
+    answer(202, 15, &listing, 1);
+    if 0 < n {
+        answer(203, 15, &listing, n - 1);
+    }
+    size_cases(&listing);
+    row_cases(&listing);
+    end_cases(&listing);
+    number_cases(&listing);
+    lists(&listing);
+    line_cases(&[4294967295, 10]);
+    print(b"largest", &[4294967294], &[0, 9, 10, 99, 100]);
+    rising_cases(&[0, 1, 0, 2]);
+}
