@@ -1,0 +1,292 @@
+//! Compares one project: the original with the model, and what is judged with the model.
+use oracle::Original;
+use project::{MARK, Project, column::*};
+
+use crate::{
+  model::{Call, Given, Model, Set, members, set_of},
+  random::Random,
+  refusal,
+};
+
+/// What is judged: an operation's answer, as a count or the number of a refusal, and what it leaves in its outputs.
+pub trait Subject {
+  /// Whether a project can be handed over.
+  fn takes(&self, p: &Project) -> bool;
+  /// None for an operation that it doesn't have.
+  fn call(&self, p: &Project, call: &Call, outputs: &mut [Vec<u32>]) -> Option<Result<usize, u32>>;
+}
+
+/// How much was compared.
+#[derive(Default, Clone, Debug)]
+pub struct Tally {
+  pub projects: usize,
+  pub refused: [usize; 5],
+  pub tied: usize,
+  /// Results of the original that were compared.
+  pub results: usize,
+  /// Calls of what is judged that were compared.
+  pub calls: usize,
+  /// Accepted projects whose risks and seed rows each rule adds to, and that take more than one round.
+  pub by_rule: [usize; 4],
+  pub later_rounds: usize,
+  pub with_hosts: usize,
+  pub with_risk: usize,
+  pub with_cycles: usize,
+}
+
+impl std::fmt::Display for Tally {
+  fn fmt(&self, f: &mut std::fmt::Formatter<'_>) -> std::fmt::Result {
+    let [accepted, one, two, three, four] = self.refused;
+    let [i, ii, iii, iv] = self.by_rule;
+    writeln!(f, "{} projects: {accepted} accepted, {} of them with ties;", self.projects, self.tied)?;
+    writeln!(f, "  refused by 1: {one}, by 2: {two}, by 3: {three}, by 4: {four}")?;
+    writeln!(f, "  accepted ones with a cyclic chunk {}, a host {}, a risk {};", self.with_cycles, self.with_hosts, self.with_risk)?;
+    writeln!(f, "  risks and seeds added to by (i) {i}, (ii) {ii}, (iii) {iii}, (iv) {iv}, in later rounds {}", self.later_rounds)?;
+    writeln!(f, "{} results of the original compared, {} calls of the library", self.results, self.calls)
+  }
+}
+
+/// Outputs of a call are lent longer than they must be, and filled with numbers that no call writes.
+const FILLER: u32 = 0xABCD_0000;
+
+pub struct Judge<'s> {
+  pub subject: Option<&'s dyn Subject>,
+  pub tally: Tally,
+}
+
+/// What differs first, in words.
+type Difference = Option<String>;
+
+fn differ<T: PartialEq + std::fmt::Debug>(what: &str, right: &T, other: &T, who: &str) -> Difference {
+  (right != other).then(|| format!("{what}: document 01 says {right:?}, {who} says {other:?}"))
+}
+
+/// Some sets of modules, the same for every project of this size.
+fn sets(n: usize) -> Vec<Vec<u32>> {
+  let mut r = Random::new(n as u64);
+  let mut sets = vec![Vec::new()];
+  if n <= 8 {
+    sets.extend((0..n as u32).map(|m| vec![m]));
+  }
+  for _ in 0..3 {
+    let size = r.from_to(1, n.min(4));
+    sets.push((0..size).map(|_| r.row(n)).collect());
+  }
+  sets
+}
+
+/// The roots whose expected order is asked for.
+fn roots(n: usize) -> Vec<u32> {
+  let mut r = Random::new(n as u64);
+  if n <= 16 { (0..n as u32).collect() } else { (0..16).map(|_| r.row(n)).collect() }
+}
+
+impl Judge<'_> {
+  /// The first difference that a project shows.
+  pub fn differs(&mut self, p: &Project) -> Difference {
+    self.tally.projects += 1;
+    let number = refusal::of_project(p);
+    self.tally.refused[number as usize] += 1;
+    if number != 0 {
+      return self.subject_differs(p, None);
+    }
+    let model = Model::of(p);
+    self.original_differs(p, &model).or_else(|| self.subject_differs(p, Some(&model)))
+  }
+
+  fn original_differs(&mut self, p: &Project, model: &Model) -> Difference {
+    let tied = p.tied();
+    self.tally.tied += usize::from(tied);
+    let original = Original::of(p);
+    let (difference, results) = against_original(p, model, &original, tied);
+    self.tally.results += results;
+    self.note(p, model);
+    difference
+  }
+
+  /// What a project is good for.
+  fn note(&mut self, p: &Project, model: &Model) {
+    let analysed = model.analysed();
+    let tally = &mut self.tally;
+    tally.with_cycles += usize::from(model.labels().iter().any(|&label| label != MARK));
+    if p.modules() > 64 {
+      return;
+    }
+    tally.with_hosts +=
+      usize::from(analysed.iter().any(|&entry| model.actual(entry).1.iter().any(|&h| h != MARK)));
+    let mut seeds = p[SEED].clone();
+    for &entry in &analysed {
+      seeds.extend(members(&model.risk(entry)));
+    }
+    tally.with_risk += usize::from(seeds.len() > p[SEED].len());
+    let mut planned = set_of(p.modules(), &seeds);
+    for round in 0.. {
+      let before = planned.clone();
+      for (rule, asked) in model.asked(&before).iter().enumerate() {
+        let new: Vec<u32> =
+          members(asked).into_iter().filter(|&m| !before[m as usize]).collect();
+        tally.by_rule[rule] += usize::from(round == 0 && !new.is_empty());
+        new.iter().for_each(|&m| planned[m as usize] = true);
+      }
+      if planned == before {
+        break;
+      }
+      tally.later_rounds += usize::from(round == 1);
+    }
+  }
+
+  /// Each operation of the subject, with outputs that are long enough and, where it has any, with one that isn't.
+  fn subject_differs(&mut self, p: &Project, model: Option<&Model>) -> Difference {
+    let subject = self.subject.filter(|subject| subject.takes(p))?;
+    for call in calls(p, model) {
+      let given = model.and_then(|model| {
+        (refusal::of_call(p, &call, &[]) == 0).then(|| model.give(&call))
+      });
+      let outputs = match call {
+        Call::Sort | Call::Actual(_) => 2,
+        Call::Reach(_) => 0,
+        _ => 1,
+      };
+      let places = refusal::places(p, &call);
+      let mut rooms = vec![vec![places + 3; outputs], vec![places; outputs]];
+      for short in 0..outputs {
+        let mut room = vec![places; outputs];
+        room[short] = places.saturating_sub(1);
+        rooms.push(room);
+      }
+      for room in rooms {
+        match call_differs(subject, p, &call, &room, given.as_ref()) {
+          Judged::NotThere => {}
+          Judged::Same => self.tally.calls += 1,
+          Judged::Different(words) => return Some(words),
+        }
+      }
+    }
+    None
+  }
+}
+
+fn against_original(
+  p: &Project,
+  model: &Model,
+  original: &Original,
+  tied: bool,
+) -> (Difference, usize) {
+  let mut results = 0;
+  let mut first = None;
+  let mut check = |what: &dyn Fn() -> String, ours: Vec<u32>, theirs: Vec<u32>| {
+    results += 1;
+    if first.is_none() && ours != theirs {
+      first = differ(&what(), &ours, &theirs, "rolldown");
+    }
+  };
+  let (numbers, sorted) = model.numbers_and_sorted();
+  check(&|| "numbers".into(), numbers, original.numbers());
+  check(&|| "sorted".into(), sorted, original.sorted());
+  check(&|| "sensitive".into(), model.sensitive(), original.sensitive());
+  check(&|| "eligible".into(), model.eligible(), original.eligible());
+  for root in roots(p.modules()) {
+    check(&|| format!("expected {root}"), model.expected(root), original.expected(root));
+  }
+  check(&|| "labels".into(), model.labels(), original.labels());
+  let reaches = (0..p.chunks() as u32).map(|chunk| u32::from(model.reaches(chunk))).collect();
+  let theirs = original.reaches().into_iter().map(u32::from).collect();
+  check(&|| "reach".into(), reaches, theirs);
+
+  let entries = original.entries();
+  let analysed: Vec<u32> = entries.iter().map(|entry| entry.root).collect();
+  check(&|| "analysed entries".into(), model.analysed(), analysed);
+  for entry in entries {
+    let root = entry.root;
+    check(&|| format!("expected {root}"), model.expected(root), entry.expected);
+    if !tied {
+      let (order, hosts) = model.actual(root);
+      check(&|| format!("actual {root}"), order, entry.actual);
+      check(&|| format!("hosts {root}"), hosts, entry.hosts);
+      check(&|| format!("risk {root}"), members(&model.risk(root)), entry.risk);
+    }
+  }
+  if !tied {
+    check(&|| "plan".into(), members(&model.plan()), original.plan());
+  }
+  for set in sets(p.modules()) {
+    let plan = members(&model.plan_from(&set));
+    check(&|| format!("plan from {set:?}"), plan, original.plan_from(&set));
+    let planned = set_of(p.modules(), &set);
+    let outside = |asked: Set| -> Vec<u32> {
+      members(&asked).into_iter().filter(|&m| !planned[m as usize]).collect()
+    };
+    let ours = model.asked(&planned).map(outside);
+    for (rule, (ours, theirs)) in ours.into_iter().zip(original.asked(&set)).enumerate() {
+      check(&|| format!("rule {} with {set:?} planned", rule + 1), ours, theirs);
+    }
+  }
+  (first, results)
+}
+
+/// The calls that are tried: fitting arguments and some that don't fit.
+fn calls(p: &Project, model: Option<&Model>) -> Vec<Call> {
+  let (n, c) = (p.modules() as u32, p.chunks() as u32);
+  let mut calls = vec![Call::Sort, Call::Labels, Call::Whole];
+  if model.is_none() {
+    for root in [0, n, MARK] {
+      calls.extend([Call::Expected(root), Call::Actual(root), Call::Risk(root)]);
+    }
+    calls.extend([Call::Reach(0), Call::Reach(c)]);
+    calls.extend([Call::PlanFrom(vec![]), Call::PlanFrom(vec![0]), Call::PlanFrom(vec![n])]);
+    return calls;
+  }
+  for root in roots(p.modules()).into_iter().chain([n, MARK]) {
+    calls.push(Call::Expected(root));
+  }
+  let mut entries: Vec<u32> = p[ENTRY].iter().copied().take(16).collect();
+  entries.extend([0, n - 1, n, MARK]);
+  for root in entries {
+    calls.extend([Call::Actual(root), Call::Risk(root)]);
+  }
+  for chunk in (0..c.min(16)).chain([c.saturating_sub(1), c, MARK]) {
+    calls.push(Call::Reach(chunk));
+  }
+  calls.extend(sets(p.modules()).into_iter().map(Call::PlanFrom));
+  for past in [n, MARK] {
+    calls.push(Call::PlanFrom(vec![0, past]));
+  }
+  if p.tied() || n % 64 == 5 {
+    calls.push(Call::PlanFrom(vec![0; 16_384]));
+    calls.push(Call::PlanFrom(vec![0; 16_385]));
+    calls.push(Call::PlanFrom(vec![n; 16_385]));
+  }
+  calls
+}
+
+enum Judged {
+  NotThere,
+  Same,
+  Different(String),
+}
+
+fn call_differs(
+  subject: &dyn Subject,
+  p: &Project,
+  call: &Call,
+  room: &[usize],
+  given: Option<&Given>,
+) -> Judged {
+  let fill = |length: &usize| (0..*length as u32).map(|at| FILLER + at).collect::<Vec<u32>>();
+  let mut outputs: Vec<Vec<u32>> = room.iter().map(fill).collect();
+  let number = refusal::of_call(p, call, room);
+  let mut right = outputs.clone();
+  let mut answer = Err(number);
+  if number == 0 {
+    let given = given.expect("accepted");
+    answer = Ok(given.count);
+    for (output, list) in right.iter_mut().zip(&given.outputs) {
+      output[..list.len()].copy_from_slice(list);
+    }
+  }
+  let what = format!("{call:?}, outputs of {room:?}");
+  let Some(theirs) = subject.call(p, call, &mut outputs) else { return Judged::NotThere };
+  differ(&what, &answer, &theirs, "the library")
+    .or_else(|| differ(&format!("{what}, outputs"), &right, &outputs, "the library"))
+    .map_or(Judged::Same, Judged::Different)
+}

@@ -1,0 +1,713 @@
+//! Document 01's eight operations, written from its words and not from the Rust. Plain and slow on purpose.
+//! A project that it is made of passes tests 1 to 4.
+use project::{MARK, Project, column::*};
+
+use crate::wrong::Wrong;
+
+/// An operation with its arguments.
+#[derive(Clone, Debug, PartialEq, Eq)]
+pub enum Call {
+  Sort,
+  Expected(u32),
+  Actual(u32),
+  Labels,
+  Reach(u32),
+  Risk(u32),
+  PlanFrom(Vec<u32>),
+  Whole,
+}
+
+/// What an accepted call gives: its count, and each output from place 0.
+#[derive(Clone, Debug, PartialEq, Eq)]
+pub struct Given {
+  pub count: usize,
+  pub outputs: Vec<Vec<u32>>,
+}
+
+/// A set of modules.
+pub type Set = Vec<bool>;
+
+pub fn members(set: &Set) -> Vec<u32> {
+  (0..set.len() as u32).filter(|&module| set[module as usize]).collect()
+}
+
+pub fn set_of(count: usize, members: &[u32]) -> Set {
+  let mut set = vec![false; count];
+  for &member in members {
+    set[member as usize] = true;
+  }
+  set
+}
+
+#[derive(Clone, Copy)]
+struct Record {
+  kind: u32,
+  /// A module, or the mark.
+  target: u32,
+}
+
+pub struct Model<'a> {
+  p: &'a Project,
+  wrong: Option<Wrong>,
+  /// The records of each module, in row order.
+  records: Vec<Vec<Record>>,
+  /// The imported chunks and the members of each chunk, in row order.
+  imported: Vec<Vec<u32>>,
+  members: Vec<Vec<u32>>,
+  /// The links of each symbol, and the depended symbols of each reference.
+  links: Vec<Vec<u32>>,
+  depended: Vec<Vec<u32>>,
+  sensitive: Set,
+  eligible: Set,
+  /// For each chunk, the chunks that it reaches by one import or more; its component, itself counted.
+  onward: Vec<Vec<bool>>,
+  components: Vec<Vec<u32>>,
+  /// The expected orders of the analysed entries.
+  entry_orders: Vec<Vec<u32>>,
+}
+
+/// For each row of a list, the second column of the rows of another list that name it in their first.
+fn rows_of(p: &Project, count: usize, first: usize) -> Vec<Vec<u32>> {
+  let mut rows = vec![Vec::new(); count];
+  for (of, value) in p.pairs(first) {
+    rows[of as usize].push(value);
+  }
+  rows
+}
+
+/// A walk that lists a module after what it leads to.
+struct Walk<'w> {
+  met: Vec<bool>,
+  next: &'w dyn Fn(u32) -> Vec<u32>,
+  left: Vec<u32>,
+}
+
+impl Walk<'_> {
+  fn from(&mut self, module: u32) {
+    if self.met[module as usize] {
+      return;
+    }
+    self.met[module as usize] = true;
+    for target in (self.next)(module) {
+      self.from(target);
+    }
+    self.left.push(module);
+  }
+}
+
+/// An actual order at hand.
+struct Load {
+  met_chunks: Vec<bool>,
+  met: Vec<bool>,
+  order: Vec<u32>,
+  hosts: Vec<u32>,
+}
+
+impl<'a> Model<'a> {
+  pub fn of(p: &'a Project) -> Self {
+    Self::turned(p, None)
+  }
+
+  /// The model with one thing done wrong: what a comparison must find.
+  pub fn turned(p: &'a Project, wrong: Option<Wrong>) -> Self {
+    let mut records = vec![Vec::new(); p.modules()];
+    for row in 0..p[RECORD_MODULE].len() {
+      let record = Record { kind: p[RECORD_KIND][row], target: p[RECORD_TARGET][row] };
+      records[p[RECORD_MODULE][row] as usize].push(record);
+    }
+    let mut model = Self {
+      p,
+      wrong,
+      records,
+      imported: rows_of(p, p.chunks(), IMPORT_CHUNK),
+      members: rows_of(p, p.chunks(), MEMBER_CHUNK),
+      links: rows_of(p, p[OWNER].len(), CHAIN_SYMBOL),
+      depended: rows_of(p, p[REFERENCE_STATEMENT].len(), DEPENDED_REFERENCE),
+      sensitive: Vec::new(),
+      eligible: Vec::new(),
+      onward: Vec::new(),
+      components: Vec::new(),
+      entry_orders: Vec::new(),
+    };
+    model.sensitive = model.all_sensitive();
+    model.eligible = (0..p.modules() as u32).map(|m| model.is_eligible(m)).collect();
+    model.onward = (0..p.chunks() as u32).map(|chunk| model.onward_of(chunk)).collect();
+    model.components = (0..p.chunks() as u32).map(|chunk| model.component_of(chunk)).collect();
+    model.entry_orders = model.analysed().into_iter().map(|entry| model.expected(entry)).collect();
+    model
+  }
+
+  fn is(&self, wrong: Wrong) -> bool {
+    self.wrong == Some(wrong)
+  }
+
+  fn count(&self) -> usize {
+    self.p.modules()
+  }
+  fn normal(&self, m: u32) -> bool {
+    self.p[NORMAL][m as usize] == 1
+  }
+  fn included(&self, m: u32) -> bool {
+    self.p[INCLUDED][m as usize] == 1
+  }
+  fn wrapped(&self, m: u32) -> bool {
+    self.p[WRAP][m as usize] != 0
+  }
+
+  /// The targets of a module's records of some kinds, in record order.
+  fn targets(&self, m: u32, kinds: impl Fn(u32) -> bool) -> Vec<u32> {
+    let followed = |record: &&Record| kinds(record.kind) && record.target != MARK;
+    self.records[m as usize].iter().filter(followed).map(|record| record.target).collect()
+  }
+
+  fn walk<'w>(&self, next: &'w dyn Fn(u32) -> Vec<u32>) -> Walk<'w> {
+    Walk { met: vec![false; self.count()], next, left: Vec::new() }
+  }
+
+  // ------------------------------------------------------------ module numbers and sorted list
+
+  /// "kinds 0 and 1, and 2 if dynamic is 1"
+  fn is_static(&self, kind: u32) -> bool {
+    if self.is(Wrong::DynamicNever) {
+      return kind < 2;
+    }
+    if self.is(Wrong::RequireNotSorted) && kind == 1 {
+      return false;
+    }
+    kind < 2 || (kind == 2 && (self.p.dynamic == 1 || self.is(Wrong::DynamicAlways)))
+  }
+
+  pub fn numbers_and_sorted(&self) -> (Vec<u32>, Vec<u32>) {
+    let next = |m: u32| self.targets(m, |kind| self.is_static(kind));
+    let mut walk = self.walk(&next);
+    if !self.is(Wrong::RuntimeNotFirst) {
+      walk.from(self.p.runtime);
+    }
+    for &entry in &self.p[ENTRY] {
+      if self.is(Wrong::SortIncludedEntries) && !self.included(entry) {
+        continue;
+      }
+      walk.from(entry);
+    }
+    if self.is(Wrong::RuntimeNotFirst) {
+      walk.from(self.p.runtime);
+    }
+    let mut numbers = vec![MARK; self.count()];
+    let mut sorted = Vec::new();
+    let mut number = 0;
+    for m in walk.left {
+      if self.is(Wrong::ExternalsUnnumbered) && !self.normal(m) {
+        continue;
+      }
+      numbers[m as usize] = number;
+      number += 1;
+      if self.normal(m) || self.is(Wrong::ExternalsListed) {
+        sorted.push(m);
+      }
+    }
+    (numbers, sorted)
+  }
+
+  // ------------------------------------------------------------ expected order
+
+  /// Kind 0 targets that are normal.
+  fn source_targets(&self, m: u32) -> Vec<u32> {
+    self.targets(m, |kind| kind == 0).into_iter().filter(|&target| self.normal(target)).collect()
+  }
+
+  pub fn expected(&self, root: u32) -> Vec<u32> {
+    if !self.normal(root) && !self.is(Wrong::ExternalRootListed) {
+      return Vec::new();
+    }
+    let next = |m: u32| {
+      if self.is(Wrong::StopAtExcluded) && !self.included(m) {
+        return Vec::new();
+      }
+      if self.is(Wrong::RequireInExpected) {
+        return self.targets(m, |kind| kind < 2).into_iter().filter(|&t| self.normal(t)).collect();
+      }
+      self.source_targets(m)
+    };
+    let mut walk = self.walk(&next);
+    walk.from(root);
+    walk.left.into_iter().filter(|&m| self.included(m) || self.is(Wrong::ExcludedListed)).collect()
+  }
+
+  // ------------------------------------------------------------ actual order and hosts
+
+  /// The chunk of an entry's row.
+  fn entry_chunk(&self, root: u32) -> u32 {
+    let column = self.p[CHUNK][root as usize];
+    if self.is(Wrong::EntryChunkByColumn) && column != MARK {
+      return column;
+    }
+    self.p.pairs(ENTRY).find(|row| row.0 == root).map_or(MARK, |row| row.1)
+  }
+
+  fn visit_chunk(&self, chunk: u32, load: &mut Load) {
+    if load.met_chunks[chunk as usize] {
+      return;
+    }
+    load.met_chunks[chunk as usize] = true;
+    let mut imported = self.imported[chunk as usize].clone();
+    imported.sort_by_key(|&other| (self.p[ORDER][other as usize], other));
+    if self.is(Wrong::ChunksByRow) {
+      imported.sort();
+    }
+    if !self.is(Wrong::ImportsAfter) {
+      imported.iter().for_each(|&other| self.visit_chunk(other, load));
+    }
+    for &member in &self.members[chunk as usize] {
+      if !self.wrapped(member) || self.is(Wrong::WrappedMembersRun) {
+        self.execute(member, member, load);
+      }
+    }
+    if self.is(Wrong::ImportsAfter) {
+      imported.iter().for_each(|&other| self.visit_chunk(other, load));
+    }
+  }
+
+  fn execute(&self, m: u32, host: u32, load: &mut Load) {
+    let included = self.included(m) || self.is(Wrong::ExcludedRun);
+    if !self.normal(m) || !included || load.met[m as usize] {
+      return;
+    }
+    load.met[m as usize] = true;
+    let kinds = |kind: u32| kind == 0 || (kind == 1 && !self.is(Wrong::RequireNotRun));
+    for target in self.targets(m, kinds) {
+      if self.wrapped(target) || self.is(Wrong::UnwrappedRun) {
+        let host = if self.is(Wrong::HostIsParent) { m } else { host };
+        self.execute(target, host, load);
+      }
+    }
+    load.order.push(m);
+    if m != host {
+      load.hosts[m as usize] = host;
+    }
+  }
+
+  /// The actual order of an analysed entry, and a host or the mark for each module.
+  pub fn actual(&self, root: u32) -> (Vec<u32>, Vec<u32>) {
+    let mut load = Load {
+      met_chunks: vec![false; self.p.chunks()],
+      met: vec![false; self.count()],
+      order: Vec::new(),
+      hosts: vec![MARK; self.count()],
+    };
+    self.visit_chunk(self.entry_chunk(root), &mut load);
+    if self.wrapped(root) && !self.is(Wrong::WrappedRootStays) {
+      self.execute(root, root, &mut load);
+    }
+    (load.order, load.hosts)
+  }
+
+  // ------------------------------------------------------------ cyclic chunks
+
+  fn onward_of(&self, chunk: u32) -> Vec<bool> {
+    let mut reached = vec![false; self.p.chunks()];
+    let mut todo = self.imported[chunk as usize].clone();
+    while let Some(other) = todo.pop() {
+      if !std::mem::replace(&mut reached[other as usize], true) {
+        todo.extend(&self.imported[other as usize]);
+      }
+    }
+    reached
+  }
+
+  fn goes(&self, from: u32, to: u32) -> bool {
+    self.onward[from as usize][to as usize]
+  }
+
+  fn all_chunks(&self) -> impl Iterator<Item = u32> {
+    0..self.p.chunks() as u32
+  }
+
+  fn component_of(&self, chunk: u32) -> Vec<u32> {
+    let both_ways =
+      |&other: &u32| other == chunk || (self.goes(chunk, other) && self.goes(other, chunk));
+    self.all_chunks().filter(both_ways).collect()
+  }
+
+  /// "in a component of two or more, or with an edge to itself"
+  fn is_cyclic(&self, chunk: u32) -> bool {
+    let edge_to_itself = self.imported[chunk as usize].contains(&chunk);
+    self.components[chunk as usize].len() > 1
+      || (edge_to_itself && !self.is(Wrong::SelfEdgeIgnored))
+  }
+
+  pub fn labels(&self) -> Vec<u32> {
+    let label = |chunk: u32| {
+      let component = &self.components[chunk as usize];
+      let lowest = if self.is(Wrong::LabelHighest) { component.len() - 1 } else { 0 };
+      if self.is_cyclic(chunk) { component[lowest] } else { MARK }
+    };
+    self.all_chunks().map(label).collect()
+  }
+
+  /// Whether a chunk reaches a cyclic one, itself counted.
+  pub fn reaches(&self, chunk: u32) -> bool {
+    let itself = |other: u32| other == chunk && !self.is(Wrong::ReachNotItself);
+    let onward = |other: u32| {
+      other != chunk && self.goes(chunk, other) && !self.is(Wrong::ReachOnlyItself)
+    };
+    self.all_chunks().any(|other| (itself(other) || onward(other)) && self.is_cyclic(other))
+  }
+
+  // ------------------------------------------------------------ risk
+
+  fn all_sensitive(&self) -> Set {
+    let mut triggers = vec![false; self.count()];
+    for (statement, record) in self.p.pairs(USE_STATEMENT) {
+      let kind = self.p[RECORD_KIND][record as usize];
+      let target = self.p[RECORD_TARGET][record as usize];
+      let included = self.p[STATEMENT_INCLUDED][statement as usize] == 1;
+      let kind_fits = kind == 0 || (self.is(Wrong::RequireTriggers) && kind == 1);
+      if (!included && !self.is(Wrong::ExcludedStatementTriggers)) || !kind_fits || target == MARK {
+        continue;
+      }
+      if !self.normal(target) && !self.is(Wrong::ExternalTriggers) {
+        continue;
+      }
+      if self.is(Wrong::ExcludedTargetStays) && !self.included(target) {
+        continue;
+      }
+      if self.wrapped(target) {
+        triggers[self.p[STATEMENT_MODULE][statement as usize] as usize] = true;
+      }
+    }
+    let sensitive = |m: u32| {
+      let at = m as usize;
+      let runtime = m == self.p.runtime && !self.is(Wrong::RuntimeSensitive);
+      let by_use = triggers[at] && !self.is(Wrong::UseIgnored);
+      !runtime && self.normal(m) && self.included(m) && (self.p[SENSITIVE][at] == 1 || by_use)
+    };
+    (0..self.count() as u32).map(sensitive).collect()
+  }
+
+  fn is_eligible(&self, m: u32) -> bool {
+    let at = m as usize;
+    (m != self.p.runtime || self.is(Wrong::RuntimeEligible))
+      && (self.included(m) || self.is(Wrong::ExcludedEligible))
+      && self.normal(m)
+      && (self.p[EXPORTS][at] != 2 || self.is(Wrong::CommonJsEligible))
+      && (self.p[EXPORTS][at] != 0 || !self.is(Wrong::NoExportsIneligible))
+      && (!self.wrapped(m) || self.is(Wrong::WrappedEligible))
+  }
+
+  pub fn sensitive(&self) -> Vec<u32> {
+    members(&self.sensitive)
+  }
+
+  pub fn eligible(&self) -> Vec<u32> {
+    members(&self.eligible)
+  }
+
+  fn only_sensitive(&self, order: &[u32]) -> Vec<u32> {
+    order.iter().copied().filter(|&m| self.sensitive[m as usize]).collect()
+  }
+
+  /// Those of a sensitive expected order with an earlier one at a greater actual place.
+  fn early(&self, expected: &[u32], places: &[Option<usize>]) -> Vec<u32> {
+    let place = |m: u32| places[m as usize];
+    let greater = |earlier: u32, later: u32| match (place(earlier), place(later)) {
+      (Some(earlier), Some(later)) => earlier > later,
+      (None, Some(_)) => self.is(Wrong::AbsentCountsLast),
+      _ => false,
+    };
+    let is_early = |at: &usize| {
+      let first = if self.is(Wrong::NeighboursOnly) { at.saturating_sub(1) } else { 0 };
+      expected[first..*at].iter().any(|&earlier| greater(earlier, expected[*at]))
+    };
+    (0..expected.len()).filter(is_early).map(|at| expected[at]).collect()
+  }
+
+  /// The modules at risk of an analysed entry.
+  pub fn risk(&self, root: u32) -> Set {
+    let whole_expected = self.expected(root);
+    let expected = self.only_sensitive(&whole_expected);
+    let (actual, hosts) = self.actual(root);
+    let actual = self.only_sensitive(&actual);
+    let mut places = vec![None; self.count()];
+    for (place, &m) in actual.iter().enumerate() {
+      places[m as usize] = Some(place);
+    }
+
+    let mut flagged = Vec::new();
+    if !self.is(Wrong::MissingNotFlagged) {
+      flagged.extend(expected.iter().copied().filter(|m| !actual.contains(m)));
+    }
+    if !self.is(Wrong::PhantomNotFlagged) {
+      flagged.extend(actual.iter().copied().filter(|m| !expected.contains(m)));
+    }
+    if !self.is(Wrong::EarlyNotFlagged) {
+      flagged.extend(self.early(&expected, &places));
+    }
+
+    let mut risk = vec![false; self.count()];
+    for m in flagged {
+      let host = hosts[m as usize];
+      if self.eligible[m as usize] {
+        risk[m as usize] = true;
+      } else if host != MARK
+        && !self.is(Wrong::HostSpared)
+        && (self.eligible[host as usize] || self.is(Wrong::AnyHost))
+      {
+        risk[host as usize] = true;
+      }
+    }
+    if self.reaches(self.entry_chunk(root)) && !self.is(Wrong::CycleStepLeftOut) {
+      for m in whole_expected {
+        let spared = self.is(Wrong::CycleStepSensitiveOnly) && !self.sensitive[m as usize];
+        risk[m as usize] |= self.eligible[m as usize] && !spared;
+      }
+    }
+    risk
+  }
+
+  // ------------------------------------------------------------ plan
+
+  pub fn analysed(&self) -> Vec<u32> {
+    let has_chunk = |&(_, chunk): &(u32, u32)| chunk != MARK;
+    let mut entries: Vec<u32> =
+      self.p.pairs(ENTRY).filter(has_chunk).map(|row| row.0).collect();
+    if !self.is(Wrong::ExcludedEntriesAnalysed) {
+      entries.retain(|&entry| self.included(entry));
+    }
+    if self.is(Wrong::FirstEntryOnly) {
+      entries.truncate(1);
+    }
+    entries
+  }
+
+  /// Reached by kind 0 records over normal modules from an analysed entry, the entry itself counted.
+  fn reached(&self) -> Set {
+    let next = |m: u32| {
+      if self.is(Wrong::ReachedOverIncluded) && !self.included(m) {
+        return Vec::new();
+      }
+      self.source_targets(m)
+    };
+    let mut walk = self.walk(&next);
+    for entry in self.analysed() {
+      walk.from(entry);
+    }
+    if self.is(Wrong::EntryNotReached) {
+      for entry in self.analysed() {
+        walk.met[entry as usize] = false;
+      }
+    }
+    if self.is(Wrong::AllReached) {
+      walk.met.fill(true);
+    }
+    walk.met
+  }
+
+  /// Planned, or leading to a planned module by kind 0 records.
+  fn leading(&self, planned: &Set) -> Set {
+    let mut leading = planned.clone();
+    if self.is(Wrong::DirectTargetOnly) {
+      return leading;
+    }
+    loop {
+      let before = leading.clone();
+      for m in 0..self.count() as u32 {
+        let leads = |&target: &u32| leading[target as usize];
+        if self.targets(m, |kind| kind == 0).iter().any(leads) {
+          leading[m as usize] = true;
+        }
+      }
+      if leading == before {
+        return leading;
+      }
+    }
+  }
+
+  /// "A symbol touches by its owner, its canonical's owner, or a link owner in either's chain."
+  fn touches(&self, symbol: u32, planned: &Set) -> bool {
+    let owner = |symbol: u32| planned[self.p[OWNER][symbol as usize] as usize];
+    let canonical = self.p[CANONICAL][symbol as usize];
+    let links = |of: u32| {
+      let mut links = self.links[of as usize].clone();
+      if self.is(Wrong::LinksFollowedTwice) {
+        links.extend(self.links[of as usize].iter().flat_map(|&link| &self.links[link as usize]));
+      }
+      links
+    };
+    if self.is(Wrong::CanonicalFollowedTwice) && owner(self.p[CANONICAL][canonical as usize]) {
+      return true;
+    }
+    (owner(symbol) && !self.is(Wrong::OwnerIgnored))
+      || (owner(canonical) && !self.is(Wrong::CanonicalIgnored))
+      || (links(symbol).into_iter().any(owner) && !self.is(Wrong::ChainIgnored))
+      || (links(canonical).into_iter().any(owner) && !self.is(Wrong::CanonicalChainIgnored))
+  }
+
+  fn reference_touches(&self, reference: usize, planned: &Set) -> bool {
+    let symbol = self.p[REFERENCE_SYMBOL][reference];
+    match self.p[REFERENCE_FORM][reference] {
+      0 => self.touches(symbol, planned) && !self.is(Wrong::PlainSymbolIgnored),
+      1 => self.touches(symbol, planned) && !self.is(Wrong::ObjectIgnored),
+      _ => {
+        let depended = |&symbol: &u32| self.touches(symbol, planned);
+        let resolved = symbol != MARK && self.touches(symbol, planned);
+        (resolved && !self.is(Wrong::ResolvedIgnored))
+          || (!self.is(Wrong::DependedIgnored) && self.depended[reference].iter().any(depended))
+      }
+    }
+  }
+
+  /// (i) "from the first planned module of an analysed entry's expected sensitive order on, every eligible one"
+  fn rule_suffix(&self, planned: &Set, asked: &mut Set) {
+    for expected in &self.entry_orders {
+      let starts = |m: u32| {
+        let sensitive = self.sensitive[m as usize] || self.is(Wrong::SuffixFromInsensitive);
+        sensitive && planned[m as usize]
+      };
+      let Some(first) = expected.iter().position(|&m| starts(m)) else { continue };
+      for &m in &expected[first..] {
+        let sensitive = self.sensitive[m as usize] || self.is(Wrong::SuffixOverInsensitive);
+        asked[m as usize] |= sensitive && self.eligible[m as usize];
+      }
+    }
+  }
+
+  /// (ii) "for a planned module whose chunk is cyclic, every sensitive eligible member of its component"
+  fn rule_cycle(&self, planned: &Set, asked: &mut Set) {
+    let mut chunks: Vec<u32> =
+      members(planned).into_iter().map(|m| self.p[CHUNK][m as usize]).collect();
+    if self.is(Wrong::ChunkByMembers) {
+      let has_planned = |&row: &(u32, u32)| planned[row.1 as usize];
+      chunks = self.p.pairs(MEMBER_CHUNK).filter(has_planned).map(|row| row.0).collect();
+    }
+    chunks.sort_unstable();
+    chunks.dedup();
+    for chunk in chunks.into_iter().filter(|&chunk| chunk != MARK && self.is_cyclic(chunk)) {
+      for &other in &self.components[chunk as usize] {
+        if self.is(Wrong::OwnChunkOnly) && other != chunk {
+          continue;
+        }
+        let mut held = self.members[other as usize].clone();
+        if self.is(Wrong::MembersByColumn) {
+          held = (0..self.count() as u32).filter(|&m| self.p[CHUNK][m as usize] == other).collect();
+        }
+        for member in held {
+          let sensitive = self.sensitive[member as usize] || self.is(Wrong::CycleInsensitiveToo);
+          asked[member as usize] |= sensitive && self.eligible[member as usize];
+        }
+      }
+    }
+  }
+
+  /// (iii) "an eligible module reached .., with a planned dependency and a kind 0 target that is planned or leads to a
+  /// planned module by kind 0 records"
+  fn rule_import(&self, planned: &Set, asked: &mut Set) {
+    let mut depends = vec![self.is(Wrong::DependencyIgnored); self.count()];
+    for (m, dependency) in self.p.pairs(DEPENDENCY_MODULE) {
+      let is_target = self.targets(m, |kind| kind == 0).contains(&dependency);
+      depends[m as usize] |=
+        planned[dependency as usize] && (is_target || !self.is(Wrong::DependencyIsTarget));
+    }
+    let (reached, leading) = (self.reached(), self.leading(planned));
+    for m in 0..self.count() {
+      let kinds = |kind: u32| kind == 0 || (self.is(Wrong::RequireLeads) && kind == 1);
+      let leads = |target: u32| leading[target as usize];
+      let target_leads = self.targets(m as u32, kinds).into_iter().any(leads);
+      asked[m] |= self.eligible[m]
+        && reached[m]
+        && depends[m]
+        && (target_leads || self.is(Wrong::TargetIgnored));
+    }
+  }
+
+  /// (iv) "such a reached eligible module with `reads` 1 and any statement, included or not, whose reference touches the plan"
+  fn rule_read(&self, planned: &Set, asked: &mut Set) {
+    let reached = self.reached();
+    for reference in 0..self.p[REFERENCE_STATEMENT].len() {
+      let statement = self.p[REFERENCE_STATEMENT][reference] as usize;
+      let m = self.p[STATEMENT_MODULE][statement] as usize;
+      if self.is(Wrong::ExcludedStatementSkipped) && self.p[STATEMENT_INCLUDED][statement] == 0 {
+        continue;
+      }
+      let reads = self.p[READS][m] == 1 || self.is(Wrong::ReadsIgnored);
+      if self.eligible[m] && reached[m] && reads && self.reference_touches(reference, planned) {
+        asked[m] = true;
+      }
+    }
+  }
+
+  /// What each of the four rules asks for with a set planned, be it any set of modules.
+  pub fn asked(&self, planned: &Set) -> [Set; 4] {
+    let mut asked = [const { Vec::new() }; 4].map(|_: Set| vec![false; self.count()]);
+    self.rule_suffix(planned, &mut asked[0]);
+    self.rule_cycle(planned, &mut asked[1]);
+    self.rule_import(planned, &mut asked[2]);
+    self.rule_read(planned, &mut asked[3]);
+    asked
+  }
+
+  /// The plan from seeds: "start with the eligible seeds; close under" the four rules.
+  pub fn plan_from(&self, seeds: &[u32]) -> Set {
+    let mut planned = set_of(self.count(), seeds);
+    for m in 0..self.count() {
+      planned[m] &= self.eligible[m] || self.is(Wrong::AnySeed);
+    }
+    loop {
+      let before = planned.clone();
+      for (rule, asked) in self.asked(&before).into_iter().enumerate() {
+        if self.is(Wrong::RULES[rule]) {
+          continue;
+        }
+        for m in members(&asked) {
+          planned[m as usize] = true;
+        }
+      }
+      if planned == before || self.is(Wrong::OneRound) {
+        return planned;
+      }
+    }
+  }
+
+  /// "the plan from all analysed entries' risks and the seed rows"
+  pub fn plan(&self) -> Set {
+    let mut seeds = self.p[SEED].clone();
+    if self.is(Wrong::SeedRowsIgnored) {
+      seeds.clear();
+    }
+    for entry in self.analysed() {
+      seeds.extend(members(&self.risk(entry)));
+    }
+    self.plan_from(&seeds)
+  }
+
+  // ------------------------------------------------------------ calls
+
+  /// What an accepted call gives.
+  pub fn give(&self, call: &Call) -> Given {
+    let list = |list: Vec<u32>| Given { count: list.len(), outputs: vec![list] };
+    let marks = |set: Set| Given {
+      count: members(&set).len(),
+      outputs: vec![set.into_iter().map(u32::from).collect()],
+    };
+    match call {
+      Call::Sort => {
+        let (numbers, sorted) = self.numbers_and_sorted();
+        Given { count: sorted.len(), outputs: vec![numbers, sorted] }
+      }
+      Call::Expected(root) => list(self.expected(*root)),
+      Call::Actual(root) => {
+        let (order, hosts) = self.actual(*root);
+        Given { count: order.len(), outputs: vec![order, hosts] }
+      }
+      Call::Labels => {
+        let labels = self.labels();
+        Given { count: labels.iter().filter(|&&label| label != MARK).count(), outputs: vec![labels] }
+      }
+      Call::Reach(chunk) => {
+        Given { count: usize::from(self.reaches(*chunk)), outputs: Vec::new() }
+      }
+      Call::Risk(root) => marks(self.risk(*root)),
+      Call::PlanFrom(seeds) => marks(self.plan_from(seeds)),
+      Call::Whole => marks(self.plan()),
+    }
+  }
+}

@@ -1,0 +1,158 @@
+//! Document 01's refusals 1 to 6, read from its words alone.
+use project::{COLUMNS, LISTS, MARK, Project, column::*};
+
+use crate::model::Call;
+
+/// What may stand in a column.
+#[derive(Clone, Copy)]
+pub enum Values {
+  /// Numbers below this.
+  Below(u32),
+  /// A row of the list whose first column this is.
+  Row(usize),
+  /// The same, or `-`.
+  RowOrMark(usize),
+  /// "any value but the mark"
+  NotMark,
+}
+
+pub fn values(column: usize) -> Values {
+  use Values::{Below, NotMark, Row, RowOrMark};
+  const MODULE: usize = NORMAL;
+  const RECORD: usize = RECORD_MODULE;
+  const STATEMENT: usize = STATEMENT_MODULE;
+  const SYMBOL: usize = OWNER;
+  const REFERENCE: usize = REFERENCE_STATEMENT;
+  const CHUNKS: usize = ORDER;
+  match column {
+    NORMAL | INCLUDED | SENSITIVE | READS | STATEMENT_INCLUDED => Below(2),
+    EXPORTS | WRAP | REFERENCE_FORM => Below(3),
+    RECORD_KIND => Below(4),
+    RECORD_MODULE | DEPENDENCY_MODULE | DEPENDENCY | STATEMENT_MODULE | OWNER | MEMBER | ENTRY
+    | SEED => Row(MODULE),
+    RECORD_TARGET => RowOrMark(MODULE),
+    CHUNK | ENTRY_CHUNK => RowOrMark(CHUNKS),
+    USE_STATEMENT | REFERENCE_STATEMENT => Row(STATEMENT),
+    USE_RECORD => Row(RECORD),
+    CANONICAL | CHAIN_SYMBOL | CHAIN_LINK | DEPENDED => Row(SYMBOL),
+    REFERENCE_SYMBOL => RowOrMark(SYMBOL),
+    DEPENDED_REFERENCE => Row(REFERENCE),
+    ORDER => NotMark,
+    MEMBER_CHUNK | IMPORT_CHUNK | IMPORTS => Row(CHUNKS),
+    _ => unreachable!(),
+  }
+}
+
+/// "Modules 1 to 4,096; chunks 0 to 1,024; any other list 0 to 16,384 rows."
+pub fn limit(first: usize) -> usize {
+  match first {
+    NORMAL => 4_096,
+    ORDER => 1_024,
+    _ => 16_384,
+  }
+}
+
+/// 1: "a list is over its limit, its columns differ in length, or no module is there"
+fn sizes(p: &Project) -> bool {
+  let list_fits = |list: &project::List| {
+    let rows = p[list.first].len();
+    rows <= limit(list.first)
+      && (list.first..list.first + list.width).all(|column| p[column].len() == rows)
+  };
+  p.modules() > 0 && LISTS.iter().all(list_fits)
+}
+
+/// 2: "a value outside its column"
+fn inside(p: &Project) -> bool {
+  let fits = |column: usize, value: u32| match values(column) {
+    Values::Below(end) => value < end,
+    Values::Row(list) => (value as usize) < p[list].len(),
+    Values::RowOrMark(list) => value == MARK || (value as usize) < p[list].len(),
+    Values::NotMark => value != MARK,
+  };
+  (p.runtime as usize) < p.modules()
+    && p.dynamic < 2
+    && (0..COLUMNS).all(|column| p[column].iter().all(|&value| fits(column, value)))
+}
+
+/// 3: "in records, statements, members or imports, a first column below the row above"
+fn rising(p: &Project) -> bool {
+  [RECORD_MODULE, STATEMENT_MODULE, MEMBER_CHUNK, IMPORT_CHUNK]
+    .into_iter()
+    .all(|column| p[column].windows(2).all(|two| two[0] <= two[1]))
+}
+
+/// 4, of a project that passes 1 to 3
+fn agreeing(p: &Project) -> bool {
+  let external = |&module: &u32| p[NORMAL][module as usize] == 0;
+  let form = |reference: u32| p[REFERENCE_FORM][reference as usize];
+  let external_acts =
+    p[RECORD_MODULE].iter().any(external) || p[STATEMENT_MODULE].iter().any(external);
+  let others_record = p.pairs(USE_STATEMENT).any(|(statement, record)| {
+    p[STATEMENT_MODULE][statement as usize] != p[RECORD_MODULE][record as usize]
+  });
+  let depended_without_resolution = p[DEPENDED_REFERENCE].iter().any(|&row| form(row) != 2);
+  let without_symbol = p.pairs(REFERENCE_FORM).any(|(form, symbol)| form != 2 && symbol == MARK);
+  let twice = |mut rows: Vec<(u32, u32)>| {
+    rows.sort_unstable();
+    rows.windows(2).any(|two| two[0] == two[1])
+  };
+  let entry_twice = twice(p[ENTRY].iter().map(|&entry| (entry, 0)).collect());
+  let import_twice = twice(p.pairs(IMPORT_CHUNK).collect());
+  !(external_acts
+    || others_record
+    || depended_without_resolution
+    || without_symbol
+    || entry_twice
+    || import_twice)
+}
+
+/// The lowest of 1 to 4 that applies, else 0.
+pub fn of_project(p: &Project) -> u32 {
+  if !sizes(p) {
+    1
+  } else if !inside(p) {
+    2
+  } else if !rising(p) {
+    3
+  } else if !agreeing(p) {
+    4
+  } else {
+    0
+  }
+}
+
+/// "Analysed entries are included and have a chunk."
+pub fn analysed(p: &Project, root: u32) -> bool {
+  p.pairs(ENTRY).any(|(entry, chunk)| entry == root && chunk != MARK)
+    && p[INCLUDED][root as usize] == 1
+}
+
+/// 5, of an accepted project: what a call's arguments must be.
+fn fitting(p: &Project, call: &Call) -> bool {
+  let module = |row: u32| (row as usize) < p.modules();
+  match call {
+    Call::Sort | Call::Labels | Call::Whole => true,
+    Call::Expected(root) => module(*root),
+    Call::Actual(root) | Call::Risk(root) => module(*root) && analysed(p, *root),
+    Call::Reach(chunk) => (*chunk as usize) < p.chunks(),
+    Call::PlanFrom(seeds) => seeds.len() <= 16_384 && seeds.iter().all(|&seed| module(seed)),
+  }
+}
+
+/// How many places a call's outputs must have.
+pub fn places(p: &Project, call: &Call) -> usize {
+  match call {
+    Call::Labels => p.chunks(),
+    _ => p.modules(),
+  }
+}
+
+/// The number of a call whose outputs have these lengths, 0 if it is accepted.
+pub fn of_call(p: &Project, call: &Call, rooms: &[usize]) -> u32 {
+  match of_project(p) {
+    0 if !fitting(p, call) => 5,
+    0 if rooms.iter().any(|&room| room < places(p, call)) => 6,
+    number => number,
+  }
+}

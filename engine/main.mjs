@@ -1,0 +1,77 @@
+// node main.mjs PROGRAM [--seed S] [--count N] [--no-ties]: compares a program's orders with this engine's. See README.md.
+import { spawnSync } from "node:child_process";
+import { parseArgs } from "node:util";
+import { chunkFiles, cleared, moduleFiles, orderOf } from "./files.mjs";
+import { cases } from "./outside.mjs";
+import { Random, listing, randomChunks, randomModules, smallModules } from "./projects.mjs";
+
+const { values: flags, positionals: [program] } = parseArgs({
+  allowPositionals: true,
+  options: {
+    seed: { type: "string", default: "1" },
+    count: { type: "string", default: "2000" },
+    "no-ties": { type: "boolean", default: false },
+  },
+});
+
+// The program's lines of a listing: for a word and an entry, its numbers.
+function linesOf(text) {
+  const run = spawnSync(program, { input: text, encoding: "utf8" });
+  if (run.status !== 0) throw new Error(`${program} failed on\n${text}${run.stderr}`);
+  return run.stdout.split("\n").map((line) => line.split(" "));
+}
+
+const lineOf = (lines, word, entry) => lines.find((line) => line[0] === word && line[1] === String(entry))?.slice(2).join(" ");
+
+const tally = { expected: 0, actual: 0, cycles: 0, selves: 0, modules: 0 };
+
+function hasCycle(rows) {
+  const reaches = (from, to, met = new Set()) =>
+    rows.some(([a, b]) => a === from && (b === to || (!met.has(b) && reaches(b, to, met.add(b)))));
+  return rows.some(([a]) => reaches(a, a));
+}
+
+// Compares a project's orders of each entry; `rootOf` says which file an entry's run starts at.
+async function compare(project, word, files, rootOf) {
+  const lines = linesOf(listing(project));
+  const edges = word === "expected" ? project.records.map((row) => [row[0], row[2]]) : project.imports;
+  for (const [entry, chunk] of project.entries) {
+    if (project.modules[entry][1] === 0) continue;
+    const ours = lineOf(lines, word, entry);
+    const theirs = (await orderOf(files, rootOf(entry, chunk))).join(" ");
+    if (ours !== theirs) {
+      console.log(`DIFFERENCE\n${word} ${entry}: the program says ${ours}, the engine says ${theirs}\n\n${listing(project)}`);
+      process.exitCode = 1;
+      return false;
+    }
+    tally[word] += 1;
+    tally.cycles += hasCycle(edges) ? 1 : 0;
+    tally.selves += edges.some(([a, b]) => a === b) ? 1 : 0;
+    tally.modules += theirs === "" ? 0 : theirs.split(" ").length;
+  }
+  return true;
+}
+
+const compareModules = (project) => compare(project, "expected", moduleFiles(project), (entry) => `m${entry}.mjs`);
+const compareChunks = (project) => compare(project, "actual", chunkFiles(project), (_, chunk) => `c${chunk}.mjs`);
+
+async function all() {
+  const random = new Random(flags.seed);
+  for (const project of smallModules()) if (!(await compareModules(project))) return;
+  console.log(`all ${tally.expected} graphs of three modules with at most two records each`);
+  const until = { expected: tally.expected + Number(flags.count), actual: Number(flags.count) };
+  while (tally.expected < until.expected) if (!(await compareModules(randomModules(random)))) return;
+  while (tally.actual < until.actual) if (!(await compareChunks(randomChunks(random, !flags["no-ties"])))) return;
+  console.log(`${tally.expected} expected orders and ${tally.actual} actual orders are the engine's (node ${process.version}, seed ${flags.seed}):`);
+  console.log(`${tally.modules} places, ${tally.cycles} orders of graphs with a cycle, ${tally.selves} with a self import\n`);
+  console.log("Outside the premises:\n\n| | records (module kind target) | expected 1 | the engine |\n|---|---|---|---|");
+  for (const { name, project, files } of cases) {
+    const ours = lineOf(linesOf(listing(project)), "expected", 1);
+    const theirs = (await orderOf(files, "m1.mjs", true)).join(" ");
+    const records = project.records.map((row) => row.join(" ")).join(", ");
+    console.log(`| ${name} | ${records} | ${ours} | ${theirs} |`);
+  }
+}
+
+await all();
+await cleared();

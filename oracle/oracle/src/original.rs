@@ -1,0 +1,149 @@
+//! What the original says of a project, as plain numbers.
+use oxc_index::{Idx, IndexVec};
+use project::{MARK, Project};
+use rolldown_common::{ChunkIdx, ModuleIdx};
+use rustc_hash::FxHashSet;
+
+use crate::{
+  SharedOptions, carriers,
+  chunk_graph::ChunkGraph,
+  stages::{generate_stage::GenerateStage, link_stage::LinkStageOutput},
+};
+
+/// Chunk and module visits of the original recurse: up to 1,024 and 4,096 deep.
+pub fn on_a_deep_stack<T: Send + 'static>(run: impl FnOnce() -> T + Send + 'static) -> T {
+  std::thread::Builder::new().stack_size(512 << 20).spawn(run).unwrap().join().unwrap()
+}
+
+/// An analysed entry. Hosts have a place a module.
+#[derive(Debug, PartialEq, Eq)]
+pub struct Entry {
+  pub root: u32,
+  pub expected: Vec<u32>,
+  pub actual: Vec<u32>,
+  pub hosts: Vec<u32>,
+  pub risk: Vec<u32>,
+}
+
+/// The carriers of a project, after the sort.
+pub struct Original {
+  options: SharedOptions,
+  output: LinkStageOutput,
+  chunk_graph: ChunkGraph,
+  import_edges: IndexVec<ChunkIdx, FxHashSet<ChunkIdx>>,
+  seeds: Vec<ModuleIdx>,
+}
+
+fn listed(list: &[ModuleIdx]) -> Vec<u32> {
+  list.iter().map(|idx| idx.raw()).collect()
+}
+
+fn rising(set: impl IntoIterator<Item = ModuleIdx>) -> Vec<u32> {
+  let mut list: Vec<u32> = set.into_iter().map(|idx| idx.raw()).collect();
+  list.sort_unstable();
+  list
+}
+
+impl Original {
+  pub fn of(p: &Project) -> Self {
+    let options = carriers::options(p);
+    let mut stage = carriers::link_stage(p, &options);
+    stage.sort();
+    let output = carriers::link_output(p, stage);
+    Self {
+      options,
+      output,
+      chunk_graph: carriers::chunk_graph(p),
+      import_edges: carriers::import_edges(p),
+      seeds: carriers::module_rows(&p[project::column::SEED]),
+    }
+  }
+
+  fn stage(&self) -> GenerateStage<'_> {
+    GenerateStage {
+      link_output: &self.output,
+      options: &self.options,
+      import_edges: &self.import_edges,
+      seeds: &self.seeds,
+    }
+  }
+
+  fn modules(&self) -> impl Iterator<Item = ModuleIdx> {
+    (0..self.output.metas.len()).map(ModuleIdx::from_usize)
+  }
+
+  pub fn sorted(&self) -> Vec<u32> {
+    listed(&self.output.sorted_modules)
+  }
+
+  pub fn numbers(&self) -> Vec<u32> {
+    self.modules().map(|idx| self.output.module_table[idx].exec_order()).collect()
+  }
+
+  pub fn expected(&self, root: u32) -> Vec<u32> {
+    listed(&self.stage().expected_of(ModuleIdx::from_raw(root)))
+  }
+
+  pub fn entries(&self) -> Vec<Entry> {
+    self
+      .stage()
+      .entry_results(&self.chunk_graph)
+      .into_iter()
+      .map(|entry| Entry {
+        root: entry.root.raw(),
+        expected: listed(&entry.expected),
+        actual: listed(&entry.actual),
+        hosts: self
+          .modules()
+          .map(|idx| entry.hosts.get(&idx).map_or(MARK, |host| host.raw()))
+          .collect(),
+        risk: rising(entry.risk),
+      })
+      .collect()
+  }
+
+  /// The whole analysis, up to `one_shot_planned`.
+  pub fn plan(&self) -> Vec<u32> {
+    rising(self.stage().whole_plan(&self.chunk_graph))
+  }
+
+  pub fn plan_from(&self, seeds: &[u32]) -> Vec<u32> {
+    rising(self.stage().plan_from(&self.chunk_graph, &carriers::module_rows(seeds)))
+  }
+
+  /// The modules outside a set that each rule asks for with just the set planned.
+  pub fn asked(&self, set: &[u32]) -> [Vec<u32>; 4] {
+    self.stage().asked(&self.chunk_graph, &carriers::module_rows(set)).map(rising)
+  }
+
+  pub fn sensitive(&self) -> Vec<u32> {
+    rising(self.modules().filter(|&idx| self.stage().sensitive(idx)))
+  }
+
+  pub fn eligible(&self) -> Vec<u32> {
+    rising(self.modules().filter(|&idx| self.stage().eligible(idx)))
+  }
+
+  /// A place a chunk, the mark where a chunk isn't cyclic.
+  pub fn labels(&self) -> Vec<u32> {
+    self.stage().labels().into_iter().map(|label| label.map_or(MARK, |chunk| chunk.raw())).collect()
+  }
+
+  /// A place a chunk.
+  pub fn reaches(&self) -> Vec<bool> {
+    self.stage().reaches()
+  }
+
+  /// The original's own calls, for timing: nothing is copied or sorted after them.
+  pub fn bare_entries(&self) -> usize {
+    self.stage().entry_results(&self.chunk_graph).len()
+  }
+
+  pub fn bare_plan(&self) -> usize {
+    self.stage().whole_plan(&self.chunk_graph).len()
+  }
+
+  pub fn bare_plan_from(&self, seeds: &[ModuleIdx]) -> usize {
+    self.stage().plan_from(&self.chunk_graph, seeds).len()
+  }
+}

@@ -1,0 +1,131 @@
+//! Document 01's project as columns, and its text form.
+
+pub mod text;
+
+/// The missing mark, `-` in text.
+pub const MARK: u32 = u32::MAX;
+
+/// The 33 columns, by place.
+pub mod column {
+  pub const NORMAL: usize = 0;
+  pub const INCLUDED: usize = 1;
+  pub const SENSITIVE: usize = 2;
+  pub const READS: usize = 3;
+  pub const EXPORTS: usize = 4;
+  pub const WRAP: usize = 5;
+  pub const CHUNK: usize = 6;
+  pub const RECORD_MODULE: usize = 7;
+  pub const RECORD_KIND: usize = 8;
+  pub const RECORD_TARGET: usize = 9;
+  pub const DEPENDENCY_MODULE: usize = 10;
+  pub const DEPENDENCY: usize = 11;
+  pub const STATEMENT_MODULE: usize = 12;
+  pub const STATEMENT_INCLUDED: usize = 13;
+  pub const USE_STATEMENT: usize = 14;
+  pub const USE_RECORD: usize = 15;
+  pub const OWNER: usize = 16;
+  pub const CANONICAL: usize = 17;
+  pub const CHAIN_SYMBOL: usize = 18;
+  pub const CHAIN_LINK: usize = 19;
+  pub const REFERENCE_STATEMENT: usize = 20;
+  pub const REFERENCE_FORM: usize = 21;
+  pub const REFERENCE_SYMBOL: usize = 22;
+  pub const DEPENDED_REFERENCE: usize = 23;
+  pub const DEPENDED: usize = 24;
+  pub const ORDER: usize = 25;
+  pub const MEMBER_CHUNK: usize = 26;
+  pub const MEMBER: usize = 27;
+  pub const IMPORT_CHUNK: usize = 28;
+  pub const IMPORTS: usize = 29;
+  pub const ENTRY: usize = 30;
+  pub const ENTRY_CHUNK: usize = 31;
+  pub const SEED: usize = 32;
+}
+
+pub const COLUMNS: usize = 33;
+
+/// A row list: its line of names, its first column and how many it has.
+pub struct List {
+  pub names: &'static str,
+  pub first: usize,
+  pub width: usize,
+}
+
+const fn list(names: &'static str, first: usize, width: usize) -> List {
+  List { names, first, width }
+}
+
+/// The line of names of the two settings.
+pub const SETTINGS: &str = "runtime dynamic";
+
+/// The fourteen row lists, in order.
+pub const LISTS: [List; 14] = [
+  list("normal included sensitive reads exports wrap chunk", column::NORMAL, 7),
+  list("module kind target", column::RECORD_MODULE, 3),
+  list("module dependency", column::DEPENDENCY_MODULE, 2),
+  list("module included", column::STATEMENT_MODULE, 2),
+  list("statement record", column::USE_STATEMENT, 2),
+  list("owner canonical", column::OWNER, 2),
+  list("symbol link", column::CHAIN_SYMBOL, 2),
+  list("statement form symbol", column::REFERENCE_STATEMENT, 3),
+  list("reference depended", column::DEPENDED_REFERENCE, 2),
+  list("order", column::ORDER, 1),
+  list("chunk member", column::MEMBER_CHUNK, 2),
+  list("chunk imports", column::IMPORT_CHUNK, 2),
+  list("entry chunk", column::ENTRY, 2),
+  list("seed", column::SEED, 1),
+];
+
+#[derive(Clone, Debug, PartialEq, Eq)]
+pub struct Project {
+  pub runtime: u32,
+  pub dynamic: u32,
+  pub columns: [Vec<u32>; COLUMNS],
+}
+
+impl Default for Project {
+  fn default() -> Self {
+    Self { runtime: 0, dynamic: 0, columns: [const { Vec::new() }; COLUMNS] }
+  }
+}
+
+impl std::ops::Index<usize> for Project {
+  type Output = Vec<u32>;
+  fn index(&self, column: usize) -> &Vec<u32> {
+    &self.columns[column]
+  }
+}
+
+impl std::ops::IndexMut<usize> for Project {
+  fn index_mut(&mut self, column: usize) -> &mut Vec<u32> {
+    &mut self.columns[column]
+  }
+}
+
+impl Project {
+  pub fn modules(&self) -> usize {
+    self[column::NORMAL].len()
+  }
+  pub fn chunks(&self) -> usize {
+    self[column::ORDER].len()
+  }
+  /// Adds a row to a list.
+  pub fn push<const N: usize>(&mut self, first: usize, row: [u32; N]) {
+    for (at, value) in row.into_iter().enumerate() {
+      self.columns[first + at].push(value);
+    }
+  }
+  /// The rows of a list of two columns.
+  pub fn pairs(&self, first: usize) -> impl Iterator<Item = (u32, u32)> + '_ {
+    self[first].iter().copied().zip(self[first + 1].iter().copied())
+  }
+  /// Whether some chunk imports two chunks of equal `order`: the Rust sort leaves their order open.
+  pub fn tied(&self) -> bool {
+    let mut seen: Vec<(u32, u32)> = self
+      .pairs(column::IMPORT_CHUNK)
+      .map(|(importer, imported)| (importer, self[column::ORDER][imported as usize]))
+      .collect();
+    seen.sort_unstable();
+    seen.windows(2).any(|two| two[0] == two[1])
+  }
+}
