@@ -1,29 +1,28 @@
--- How labels come about: the component of a chunk by the marks of two walks, and the labels of all components whose lowest row is below a chunk.
+-- How labels come about: the component of a chunk by the marks of two walks, and the labels of the components that the edges so far lead into.
 -- Assumes nothing.
 use mathlib.Core.Path.{_≡_, refl, sym, ap, subst, _∙_}
 use mathlib.Core.Logic.{⊎-elim}
 use mathlib.Core.Bool.{Bool, true, false, cond, _&&_, true≢false}
-use mathlib.Core.List.{List, [], _∷_, map, List·Memᴰ}
+use mathlib.Core.List.{List, [], _∷_, map, List·Memᴰ, List·Memᴰ·not-nil}
 use Prim.Native.Nat.{ℕ, _+_, _≤_, _<_}
 use native.Mathlib.Decide.{ℕ-discrete}
 use native.Mathlib.Omega.{arith}
 use lib.ListN.{length, getD, replicate, length-replicate, getD-replicate}
 use lib.Seq.{ext-getD}
-use lib.Dec.{ltb}
-use borrow.Author.Tests.{ltb-true, lt-ltb, le-ltb}
 use Rattle.lists.specs.Words.{upTo, keep, any, elem, has}
-use Rattle.lists.proofs.Laws.{both, and-parts, and-join, iff-eq, any-mem, mem-any, keep-cong, elem-mem, mem-elem, mem-upTo, upTo-mem, has-in, has-marksOf, length-marksOf}
+use Rattle.lists.proofs.Laws.{both, and-parts, and-join, iff-eq, any-mem, mem-any, keep-mem, keep-cong, elem-mem, mem-elem, mem-upTo, upTo-mem, has-in, has-marksOf, length-marksOf}
 use Rattle.walk.specs.Reach.{Reach, here, step, Reach⁺}
 use Rattle.walk.specs.Walk.{everywhere}
 use Rattle.walk.proofs.Orders.{reach-next, order-met}
 use Rattle.tables.specs.Project.{missing}
-use Rattle.tables.specs.Readings.{valuesOf}
-use Rattle.chunk_cycles.specs.Cycles.{reached, connected, cyclic, label, labels, reachesCycle}
+use Rattle.tables.specs.Readings.{firstOf, valuesOf}
+use Rattle.chunk_cycles.specs.Cycles.{reached, connected, component, cyclic, label, labels, reachesCycle}
 use Rattle.chunk_cycles.specs.Graph.{Graph}
 use Rattle.chunk_cycles.specs.Steps.{reachMarks, inBoth, relabelled, componentLabelled, labelled, labelledAt}
 use Rattle.chunk_cycles.proofs.Lists.{getD-map-upTo, length-map-upTo, map-upTo-cong, map-upTo-self, keep-map, values-row, row-values}
-use Rattle.chunk_cycles.proofs.Strong.{reached-reach, reach-reached, connected-reach, reach-connected, connected-in, connected-sym, other-cyclic, cyclic-same, cyclic-reach, reach-cyclic, lowest, lowest-connected, lowest-in, lowest-le, lowest-same, label-cyclic, label-none, label-test}
+use Rattle.chunk_cycles.proofs.Strong.{reached-reach, reach-reached, connected-reach, reach-connected, connected-in, connected-self, connected-sym, connected-trans, cyclic-same, cyclic-reach, reach-cyclic, lowest, lowest-in, lowest-same, label-cyclic, label-none, label-test}
 use Rattle.chunk_cycles.proofs.Paths.{graph-inside}
+use Rattle.chunk_cycles.proofs.Numbers.{circle-rises}
 
 -- the same edges, backward
 pub graph-back : {from to : List ℕ} {n : ℕ} → Graph from to n → Graph to from n
@@ -87,120 +86,25 @@ module _ (from to : List ℕ) (n : ℕ) (g : Graph from to n) where
         let r = connected-reach n succ inside c d l e in
         and-join (has (reachMarks n succ c) d) (has (reachMarks n pred c) d) (ahead ∙ reach-reached n succ inside c d l (r .0)) (reach-behind d k (r .1)))
 
+    -- its lowest row is the first that both walks meet
+    lowest-test : firstOf (keep (inBoth (reachMarks n succ c) (reachMarks n pred c)) (upTo n)) ≡ lowest n succ inside c
+    unfolding component
+    lowest-test = ap firstOf (keep-cong (inBoth (reachMarks n succ c) (reachMarks n pred c)) (connected n succ c) (upTo n) (λ d h. both-test d (mem-upTo h)))
+
     module _ (labels : List ℕ) (len : length labels ≡ n) where
-      pub component-cyclic : cyclic n succ c ≡ true → relabelled (inBoth (reachMarks n succ c) (reachMarks n pred c)) c labels ≡ componentLabelled n succ c labels
+      pub component-cyclic : cyclic n succ c ≡ true
+          → relabelled (inBoth (reachMarks n succ c) (reachMarks n pred c)) (firstOf (keep (inBoth (reachMarks n succ c) (reachMarks n pred c)) (upTo n))) labels ≡ componentLabelled n succ c labels
       component-cyclic e =
-          map-upTo-cong (λ (d : ℕ). cond (inBoth (reachMarks n succ c) (reachMarks n pred c) d) c (getD labels d 0)) (λ (d : ℕ). cond (cyclic n succ c && connected n succ c d) c (getD labels d 0)) (length labels)
-          (λ d k. ap (λ (b : Bool). cond b c (getD labels d 0)) (both-test d (omega arith) ∙ sym (ap (λ (b : Bool). b && connected n succ c d) e)))
+          let low : ℕ = lowest n succ inside c in
+          ap (λ (x : ℕ). relabelled (inBoth (reachMarks n succ c) (reachMarks n pred c)) x labels) lowest-test
+          ∙ map-upTo-cong (λ (d : ℕ). cond (inBoth (reachMarks n succ c) (reachMarks n pred c) d) low (getD labels d 0)) (λ (d : ℕ). cond (cyclic n succ c && connected n succ c d) low (getD labels d 0)) (length labels)
+          (λ d k. ap (λ (b : Bool). cond b low (getD labels d 0)) (both-test d (omega arith) ∙ sym (ap (λ (b : Bool). b && connected n succ c d) e)))
 
       pub component-none : cyclic n succ c ≡ false → labels ≡ componentLabelled n succ c labels
       component-none e =
           sym (map-upTo-self labels (length labels) refl)
-          ∙ map-upTo-cong (λ (d : ℕ). getD labels d 0) (λ (d : ℕ). cond (cyclic n succ c && connected n succ c d) c (getD labels d 0)) (length labels) (λ d k. sym (ap (λ (b : Bool). cond (b && connected n succ c d) c (getD labels d 0)) e))
-
-  -- the labels of the components whose lowest row is below c
-
-  below : ℕ → ℕ → ℕ
-  below c d = cond (ltb (lowest n succ inside d) c) (label n succ d) missing
-
-  pub labelsBelow : ℕ → List ℕ
-  unfolding below
-  labelsBelow c = map (below c) (upTo n)
-
-  length-below : (c : ℕ) → length (labelsBelow c) ≡ n
-  unfolding labelsBelow
-  length-below c = length-map-upTo (below c) n
-
-  below-none : replicate n missing ≡ labelsBelow 0
-  unfolding labelsBelow below
-  below-none =
-      ext-getD 0 (replicate n missing) (map (below 0) (upTo n)) (length-replicate n missing ∙ sym (length-map-upTo (below 0) n))
-      (λ i h.
-      let k : i < n = omega (arith, length-replicate {A = ℕ} n missing) in
-      getD-replicate n i missing 0 k ∙ sym (getD-map-upTo (below 0) n i 0 k ∙ ap (λ (b : Bool). cond b (label n succ i) missing) (le-ltb (lowest n succ inside i) 0 (omega arith))))
-
-  below-all : (c : ℕ) → n ≤ c → labelsBelow c ≡ labels n succ
-  unfolding labelsBelow below labels
-  below-all c h = map-upTo-cong (below c) (label n succ) n (λ d k. ap (λ (b : Bool). cond b (label n succ d) missing) (lt-ltb (lowest n succ inside d) c (omega (arith, lowest-in n succ inside d k))))
-
-  module _ (c : ℕ) (l : c < n) where
-    -- a lowest row other than c is below c exactly if it is below c + 1
-    same-test : (x : ℕ) → (x ≡ c → ⊥) → ltb x c ≡ ltb x (c + 1)
-    same-test x k = iff-eq (ltb x c) (ltb x (c + 1)) (λ e. lt-ltb x (c + 1) (omega (arith, ltb-true x c e))) (λ e. lt-ltb x c (omega (arith, ltb-true x (c + 1) e)))
-
-    same-below : (d : ℕ) → (lowest n succ inside d ≡ c → ⊥) → below c d ≡ below (c + 1) d
-    unfolding below
-    same-below d k = ap (λ (b : Bool). cond b (label n succ d) missing) (same-test (lowest n succ inside d) k)
-
-    -- those of lowest row c are c's component
-    lowest-own : (d : ℕ) → d < n → lowest n succ inside d ≡ c → connected n succ c d ≡ true
-    lowest-own d k e =
-        connected-sym n succ inside d c k (subst (λ (x : ℕ). connected n succ d x ≡ true) e (lowest-connected n succ inside d k))
-
-    at-below : getD (labelsBelow c) c 0 ≡ below c c
-    unfolding labelsBelow
-    at-below = getD-map-upTo (below c) n c 0 l
-
-    -- c has its label already: no component has c as its lowest row
-    below-skip : (getD (labelsBelow c) c 0 ≡ missing → ⊥) → labelsBelow c ≡ labelsBelow (c + 1)
-    unfolding labelsBelow below
-    below-skip k =
-        let m : lowest n succ inside c < c = ⊎-elim (ltb-true (lowest n succ inside c) c) (λ e. absurd (k (at-below ∙ ap (λ (b : Bool). cond b (label n succ c) missing) e))) (both (ltb (lowest n succ inside c) c)) in
-        map-upTo-cong (below c) (below (c + 1)) n
-        (λ d h. same-below d (λ e. let s : lowest n succ inside c ≡ lowest n succ inside d = lowest-same n succ inside c d l (lowest-own d h e) in omega arith))
-
-    -- c has no label yet: it is the lowest row of its component
-    own-lowest : getD (labelsBelow c) c 0 ≡ missing → lowest n succ inside c ≡ c
-    unfolding below
-    own-lowest e = pick (ℕ-discrete (lowest n succ inside c) c)
-      where
-        pick : Dec (lowest n succ inside c ≡ c) → lowest n succ inside c ≡ c
-        pick (yes q) = q
-        pick (no k) =
-            let m = lowest-le n succ inside c l in
-            let y = other-cyclic n succ inside c (lowest n succ inside c) l k (lowest-connected n succ inside c l) in
-            let v : label n succ c ≡ missing = sym (ap (λ (b : Bool). cond b (label n succ c) missing) (lt-ltb (lowest n succ inside c) c (omega arith))) ∙ sym at-below ∙ e in
-            absurd (omega (arith, label-cyclic n succ inside c y, lowest-in n succ inside c l, g .few))
-
-    module _ (e : getD (labelsBelow c) c 0 ≡ missing) where
-      mine : (d : ℕ) → connected n succ c d ≡ true → lowest n succ inside d ≡ c
-      mine d h = sym (lowest-same n succ inside c d l h) ∙ own-lowest e
-
-      -- in c's component
-      own-step : (d : ℕ) → connected n succ c d ≡ true → cond (cyclic n succ c) c (below c d) ≡ below (c + 1) d
-      unfolding below
-      own-step d h =
-          let m = mine d h in
-          let k = connected-in n succ inside c d l h in
-          let now : below (c + 1) d ≡ label n succ d = ap (λ (b : Bool). cond b (label n succ d) missing) (lt-ltb (lowest n succ inside d) (c + 1) (omega arith)) in
-          ⊎-elim
-          (λ y. ap (λ (b : Bool). cond b c (below c d)) y ∙ sym (now ∙ label-cyclic n succ inside d (cyclic-same n succ inside c d l h y) ∙ m))
-          (λ y.
-          let no-cycle : cyclic n succ d ≡ false = ⊎-elim (λ q. absurd (true≢false (sym (cyclic-same n succ inside d c k (connected-sym n succ inside c d l h) q) ∙ y))) (λ q. q) (both (cyclic n succ d)) in
-          ap (λ (b : Bool). cond b c (below c d)) y ∙ ap (λ (b : Bool). cond b (label n succ d) missing) (le-ltb (lowest n succ inside d) c (omega arith)) ∙ sym (now ∙ label-none n succ inside d no-cycle))
-          (both (cyclic n succ c))
-
-      step-at : (d : ℕ) → d < n → cond (cyclic n succ c && connected n succ c d) c (below c d) ≡ below (c + 1) d
-      step-at d k =
-          ⊎-elim
-          (λ h. ap (λ (b : Bool). cond b c (below c d)) (ap (λ (b : Bool). cyclic n succ c && b) h ∙ and-yes (cyclic n succ c)) ∙ own-step d h)
-          (λ h. ap (λ (b : Bool). cond b c (below c d)) (ap (λ (b : Bool). cyclic n succ c && b) h ∙ and-no (cyclic n succ c)) ∙ same-below d (λ q. true≢false (sym (lowest-own d k q) ∙ h)))
-          (both (connected n succ c d))
-        where
-          and-yes : (b : Bool) → (b && true) ≡ b
-          and-yes true = refl
-          and-yes false = refl
-
-          and-no : (b : Bool) → (b && false) ≡ false
-          and-no true = refl
-          and-no false = refl
-
-      below-step : componentLabelled n succ c (labelsBelow c) ≡ labelsBelow (c + 1)
-      unfolding labelsBelow
-      below-step =
-          ap (λ (k : ℕ). map (λ (d : ℕ). cond (cyclic n succ c && connected n succ c d) c (getD (labelsBelow c) d 0)) (upTo k)) (length-below c)
-          ∙ map-upTo-cong (λ (d : ℕ). cond (cyclic n succ c && connected n succ c d) c (getD (labelsBelow c) d 0)) (below (c + 1)) n
-          (λ d k. ap (λ (x : ℕ). cond (cyclic n succ c && connected n succ c d) c x) (getD-map-upTo (below c) n d 0 k) ∙ step-at d k)
+          ∙ map-upTo-cong (λ (d : ℕ). getD labels d 0) (λ (d : ℕ). cond (cyclic n succ c && connected n succ c d) (lowest n succ inside c) (getD labels d 0)) (length labels)
+          (λ d k. sym (ap (λ (b : Bool). cond (b && connected n succ c d) (lowest n succ inside c) (getD labels d 0)) e))
 
 -- by labels
 
@@ -239,30 +143,143 @@ module _ (from to : List ℕ) (n : ℕ) (g : Graph from to n) where
       let k = reached-in c (r .0) (r .1) in
       mem-any test (upTo n) (upTo-mem k) (and-join (has (reachMarks n s c) (r .0)) (labelled (getD (labels n s) (r .0) missing)) (in-reach (r .0) k ∙ mem-elem (r .0) (reached n s c) (r .1)) (at (r .0) k ∙ r .2)))
 
--- before chunk c is looked at: the components whose lowest row was passed are labelled
-pub record LabelledBelow (from to labels : List ℕ) (n c : ℕ) : Type 0 where
+  -- where no chunk has a label, no cyclic one is reached
+  pub reach-none : (c : ℕ) → length (keep labelled (labels n (succ from to n g))) ≡ 0 → false ≡ reachesCycle n (succ from to n g) c
+  unfolding reachesCycle
+  reach-none c e =
+      let s : ℕ → List ℕ = succ from to n g in
+      ⊎-elim
+      (λ h. let r = any-mem (cyclic n s) (reached n s c) h in absurd (none (keep (cyclic n s) (upTo n)) (sym count-cyclic ∙ e) (keep-mem (cyclic n s) (upTo n) (upTo-mem (reached-in c (r .0) (r .1))) (r .2))))
+      (λ h. sym h)
+      (both (any (cyclic n s) (reached n s c)))
+    where
+      none : (xs : List ℕ) {x : ℕ} → length xs ≡ 0 → List·Memᴰ x xs → ⊥
+      none [] e h = List·Memᴰ·not-nil h
+      none (y ∷ ys) e h = omega arith
+
+-- by edges
+
+-- before a row is looked at: a component has its label throughout or nowhere, and it has it if it is cyclic and has the target of an earlier
+-- row along which the numbers don't fall
+pub record LabelledBelow (from to numbers labels : List ℕ) (n row : ℕ) : Type 0 where
   pub graph : Graph from to n
-  pub same : labels ≡ labelsBelow from to n graph c
+  pub len : length labels ≡ n
+  pub whole : (c d : ℕ) → c < n → connected n (valuesOf from to) c d ≡ true → (getD labels c 0 ≡ missing → ⊥) → getD labels d 0 ≡ label n (valuesOf from to) d
+  pub targets : (i : ℕ) → i < row → getD numbers (getD from i 0) 0 ≤ getD numbers (getD to i 0) 0 → cyclic n (valuesOf from to) (getD to i 0) ≡ true → getD labels (getD to i 0) 0 ≡ missing → ⊥
 
-module _ {from to : List ℕ} {n : ℕ} where
-  pub labelled-start : Graph from to n → LabelledBelow from to (replicate n missing) n 0
-  labelled-start g = record { graph = g; same = below-none from to n g }
+module _ {from to numbers : List ℕ} {n : ℕ} where
+  pub labelled-start : Graph from to n → (labels : List ℕ) → labels ≡ replicate n missing → LabelledBelow from to numbers labels n 0
+  labelled-start g labels q = record {
+    graph = g;
+    len = ap length q ∙ length-replicate n missing;
+    whole = λ c d l e k. absurd (k (ap (λ (xs : List ℕ). getD xs c 0) q ∙ getD-replicate n c missing 0 l));
+    targets = λ i l r y e. omega arith;
+  }
 
-  module _ {labels : List ℕ} {c : ℕ} (b : LabelledBelow from to labels n c) where
-    pub labelled-length : length labels ≡ n
-    labelled-length = ap length (b .same) ∙ length-below from to n (b .graph) c
+  module _ {labels : List ℕ} {row : ℕ} (b : LabelledBelow from to numbers labels n row) where
+    abbrev edges : ℕ → List ℕ
+    edges = valuesOf from to
 
-    pub labelled-skip : c < n → (getD labels c 0 ≡ missing → ⊥) → LabelledBelow from to labels n (c + 1)
-    labelled-skip l k = record {
-      graph = b .graph;
-      same = b .same ∙ below-skip from to n (b .graph) c l (λ e. k (ap (λ (xs : List ℕ). getD xs c 0) (b .same) ∙ e));
-    }
+    into : (m y : ℕ) → m < n → List·Memᴰ y (edges m) → y < n
+    into = graph-inside (b .graph)
 
-    pub labelled-step : (labels′ : List ℕ) → c < n → getD labels c 0 ≡ missing → labels′ ≡ componentLabelled n (valuesOf from to) c labels → LabelledBelow from to labels′ n (c + 1)
-    labelled-step labels′ l e q = record {
-      graph = b .graph;
-      same = q ∙ ap (componentLabelled n (valuesOf from to) c) (b .same) ∙ below-step from to n (b .graph) c l (sym (ap (λ (xs : List ℕ). getD xs c 0) (b .same)) ∙ e);
-    }
+    abbrev v : ℕ
+    v = getD to row 0
 
-    pub labelled-end : n ≤ c → labels ≡ Rattle.chunk_cycles.specs.Cycles.labels n (valuesOf from to)
-    labelled-end l = b .same ∙ below-all from to n (b .graph) c l
+    -- a row whose target needn't be looked at, or has its label
+    pub labelled-pass : (getD numbers (getD from row 0) 0 ≤ getD numbers v 0 → getD labels v 0 ≡ missing → ⊥) → LabelledBelow from to numbers labels n (row + 1)
+    labelled-pass k = record { graph = b .graph; len = b .len; whole = b .whole; targets = λ i l. pick i l (ℕ-discrete i row) }
+      where
+        pick : (i : ℕ) → i < row + 1 → Dec (i ≡ row) → getD numbers (getD from i 0) 0 ≤ getD numbers (getD to i 0) 0 → cyclic n edges (getD to i 0) ≡ true → getD labels (getD to i 0) 0 ≡ missing → ⊥
+        pick i l (yes q) r y e = k (rw q at r) (rw q at e)
+        pick i l (no q) r y e = b .targets i (omega arith) r y e
+
+    -- a row whose target's component is labelled, if it is cyclic
+    module _ (labels′ : List ℕ) (l : row < length from) (q : labels′ ≡ componentLabelled n edges v labels) where
+      inner : v < n
+      inner = b .graph .tos row l
+
+      abbrev mine : ℕ → Bool
+      mine d = cyclic n edges v && connected n edges v d
+
+      at : (d : ℕ) → d < n → getD labels′ d 0 ≡ cond (mine d) (lowest n edges into v) (getD labels d 0)
+      at d k = ap (λ (xs : List ℕ). getD xs d 0) q ∙ getD-map-upTo (λ (x : ℕ). cond (mine x) (lowest n edges into v) (getD labels x 0)) (length labels) d 0 (omega (arith, b .len))
+
+      at-mine : (d : ℕ) → d < n → mine d ≡ true → getD labels′ d 0 ≡ label n edges d
+      at-mine d k e =
+          let p = and-parts (cyclic n edges v) (connected n edges v d) e in
+          at d k
+          ∙ ap (λ (t : Bool). cond t (lowest n edges into v) (getD labels d 0)) e
+          ∙ lowest-same n edges into v d inner (p .1)
+          ∙ sym (label-cyclic n edges into d (cyclic-same n edges into v d inner (p .1) (p .0)))
+
+      at-other : (d : ℕ) → d < n → mine d ≡ false → getD labels′ d 0 ≡ getD labels d 0
+      at-other d k e = at d k ∙ ap (λ (t : Bool). cond t (lowest n edges into v) (getD labels d 0)) e
+
+      mine-same : (c d : ℕ) → connected n edges c d ≡ true → mine c ≡ true → mine d ≡ true
+      mine-same c d e h =
+          let p = and-parts (cyclic n edges v) (connected n edges v c) h in
+          and-join (cyclic n edges v) (connected n edges v d) (p .0) (connected-trans n edges into v c d inner (p .1) e)
+
+      whole-after : (c d : ℕ) → c < n → connected n edges c d ≡ true → (getD labels′ c 0 ≡ missing → ⊥) → getD labels′ d 0 ≡ label n edges d
+      whole-after c d m e k =
+          let i = connected-in n edges into c d m e in
+          ⊎-elim
+          (λ h. at-mine d i h)
+          (λ h.
+          let g : mine c ≡ false = ⊎-elim (λ t. absurd (true≢false (sym (mine-same c d e t) ∙ h))) (λ t. t) (both (mine c)) in
+          at-other d i h ∙ b .whole c d m e (λ x. k (at-other c m g ∙ x)))
+          (both (mine d))
+
+      -- a cyclic chunk's label is a row
+      label-row : (d : ℕ) → d < n → cyclic n edges d ≡ true → label n edges d ≡ missing → ⊥
+      label-row d k y e = omega (arith, label-cyclic n edges into d y, lowest-in n edges into d k, b .graph .few)
+
+      targets-after : (i : ℕ) → i < row + 1 → getD numbers (getD from i 0) 0 ≤ getD numbers (getD to i 0) 0 → cyclic n edges (getD to i 0) ≡ true → getD labels′ (getD to i 0) 0 ≡ missing → ⊥
+      targets-after i m r y e =
+          let k : getD to i 0 < n = b .graph .tos i (omega arith) in
+          ⊎-elim
+          (λ h. label-row (getD to i 0) k y (sym (at-mine (getD to i 0) k h) ∙ e))
+          (λ h. pick h (sym (at-other (getD to i 0) k h) ∙ e) (ℕ-discrete i row))
+          (both (mine (getD to i 0)))
+        where
+          own : i ≡ row → mine (getD to i 0) ≡ true
+          own x = and-join (cyclic n edges v) (connected n edges v (getD to i 0)) (rw x at y) (rw x (connected-self n edges into v inner))
+
+          pick : mine (getD to i 0) ≡ false → getD labels (getD to i 0) 0 ≡ missing → Dec (i ≡ row) → ⊥
+          pick h f (yes x) = true≢false (sym (own x) ∙ h)
+          pick h f (no x) = b .targets i (omega arith) r y f
+
+      pub labelled-step : LabelledBelow from to numbers labels′ n (row + 1)
+      labelled-step = record { graph = b .graph; len = ap length q ∙ length-map-upTo (λ (x : ℕ). cond (mine x) (lowest n edges into v) (getD labels x 0)) (length labels) ∙ b .len; whole = whole-after; targets = targets-after }
+
+    -- after the last row
+    module _ (l : length from ≤ row) where
+      num : ℕ → ℕ
+      num c = getD numbers c 0
+
+      at-cyclic : (d : ℕ) → d < n → cyclic n edges d ≡ true → getD labels d 0 ≡ label n edges d
+      unfolding num
+      at-cyclic d k y =
+          let r = circle-rises edges num d (cyclic-reach n edges into d k y) in
+          let t : ℕ = r .target in
+          let c : connected n edges d t ≡ true = reach-connected n edges into d t k (r .there) (r .back) in
+          let x = values-row from to (r .source) t (r .edge) in
+          b .whole t d (connected-in n edges into d t k c) (connected-sym n edges into d t k c)
+          (λ e.
+          b .targets (x .0) (omega (arith, x .1)) (rw (x .2, x .3) (r .rises)) (ap (cyclic n edges) (x .3) ∙ cyclic-same n edges into d t k c y) (ap (λ (z : ℕ). getD labels z 0) (x .3) ∙ e))
+
+      at-none : (d : ℕ) → d < n → cyclic n edges d ≡ false → getD labels d 0 ≡ label n edges d
+      at-none d k y = pick (ℕ-discrete (getD labels d 0) missing)
+        where
+          pick : Dec (getD labels d 0 ≡ missing) → getD labels d 0 ≡ label n edges d
+          pick (yes e) = e ∙ sym (label-none n edges into d y)
+          pick (no e) = b .whole d d k (connected-self n edges into d k) e
+
+      pub labelled-end : labels ≡ Rattle.chunk_cycles.specs.Cycles.labels n edges
+      unfolding Rattle.chunk_cycles.specs.Cycles.labels
+      labelled-end =
+          ext-getD 0 labels (map (label n edges) (upTo n)) (b .len ∙ sym (length-map-upTo (label n edges) n))
+          (λ d h.
+          let k : d < n = omega (arith, b .len) in
+          ⊎-elim (at-cyclic d k) (at-none d k) (both (cyclic n edges d)) ∙ sym (getD-map-upTo (label n edges) n d 0 k))

@@ -13,7 +13,8 @@ use lib.Seq.{ext-getD, take-at, drop-cons}
 use lib.Dec.{eqb}
 use borrow.Author.Tests.{eqb-true, eq-eqb}
 use Rattle.lists.specs.Words.{isZero, countFrom, upTo, keep, any}
-use Rattle.lists.proofs.Laws.{both, length-countFrom, countFrom-append, any-append, mem-keep, keep-mem, mem-upTo, upTo-mem}
+use Rattle.lists.proofs.Laws.{both, length-countFrom, countFrom-append, mem-any, any-append, mem-keep, keep-mem, keep-none, mem-upTo, upTo-mem}
+use Rattle.tables.specs.Project.{missing}
 use Rattle.tables.specs.Readings.{firstOf, rowsOf, valuesOf}
 
 -- the first that passes of a run of numbers is the lowest that passes
@@ -103,6 +104,16 @@ none-below f i a b =
     ∙ ap (λ (t : Bool). t || any f (countFrom (0 + i) 1)) a
     ∙ ap (λ (k : ℕ). any f (countFrom k 1)) (zero-add i)
     ∙ ap (λ (t : Bool). cond t true false) b
+
+-- the first that passes is one that none before it does
+pub first-at : (f : ℕ → Bool) (n i : ℕ) → i < n → any f (upTo i) ≡ false → f i ≡ true → i ≡ firstOf (keep f (upTo n))
+first-at f n i l none e =
+    let r = first-keep f 0 n i (omega arith) (omega arith) e in
+    ⊎-elim (λ q. sym q) (λ m. absurd (true≢false (sym (mem-any f (upTo i) (upTo-mem m) (r .0)) ∙ none))) (eq-or-lt-of-le (r .1))
+
+pub first-none : (f : ℕ → Bool) (n : ℕ) → any f (upTo n) ≡ false → missing ≡ firstOf (keep f (upTo n))
+first-none f n e =
+    sym (ap firstOf (keep-none f (upTo n) (λ x h. ⊎-elim (λ t. absurd (true≢false (sym (mem-any f (upTo n) h t) ∙ e))) (λ t. t) (both (f x)))))
 
 -- within a list the value that stands past its end does not matter
 pub getD-in : (xs : List ℕ) (i d e : ℕ) → i < length xs → getD xs i d ≡ getD xs i e

@@ -105,9 +105,6 @@ module _ (n : ℕ) (succ : ℕ → List ℕ) (inside : (m y : ℕ) → m < n →
   pub lowest-in : (c : ℕ) → c < n → lowest c < n
   lowest-in c l = connected-in c (lowest c) l (lowest-connected c l)
 
-  pub lowest-le : (c : ℕ) → c < n → lowest c ≤ c
-  lowest-le c l = lowest-least c c l (connected-self c l) .1
-
   pub lowest-same : (c d : ℕ) → c < n → connected n succ c d ≡ true → lowest c ≡ lowest d
   lowest-same c d l e = ap firstOf (component-same c d l e)
 

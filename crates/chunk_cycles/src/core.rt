@@ -1,13 +1,14 @@
 // Labels and reach over import columns, for crates above, on tested tables.
 ghost use mathlib.Core.Path.{_≡_};
-ghost use Prim.Native.Nat.{_<_};
+ghost use Prim.Native.Nat.{_+_, _≤_, _<_};
 ghost use lib.ListN.{length};
-ghost use Rattle.lists.specs.Words.{any, has, keep, upTo};
-ghost use Rattle.tables.specs.Readings.{valuesOf};
+ghost use Rattle.lists.specs.Words.{any, has, keep, upTo, zeros};
+ghost use Rattle.tables.specs.Readings.{firstOf, valuesOf};
+ghost use Rattle.tables.specs.Refusal.{chunkLimit};
 ghost use Rattle.chunk_cycles.specs.Cycles.{labels as labelsOver, reachesCycle};
 ghost use Rattle.chunk_cycles.specs.Graph.{Graph};
 ghost use Rattle.chunk_cycles.specs.Threads.{Threadable, Threads, Threaded};
-ghost use Rattle.chunk_cycles.specs.Steps.{Marked, reachMarks, inBoth, relabelled, componentLabelled, labelled, labelledAt, ChunksLabelled};
+ghost use Rattle.chunk_cycles.specs.Steps.{Marked, reachMarks, Numbered, inBoth, relabelled, componentLabelled, labelled, labelledAt, ChunksLabelled};
 use tables::ModuleIdx;
 
 // Threads the rows of each chunk: `heads` gets its first row, `nexts` the next row of the same chunk, or the end.
@@ -69,6 +70,23 @@ fn leads(from: &[u32], to: &[u32], heads: &[u32], nexts: &[u32], c: u32, marks: 
     false
 }
 
+// The first chunk that both sets of marks have, or the missing mark.
+fn first_both(ahead: &[u32], behind: &[u32]) -> u32
+    requires few { ⌜ length (now ahead) ≤ chunkLimit ⌝ }
+    requires behind { ⌜ length (now behind) ≡ length (now ahead) ⌝ }
+    ensures { λ r. ⌜ r ≡ firstOf (keep (inBoth (now (ahead .entry)) (now (behind .entry))) (upTo (length (now (ahead .entry))))) ⌝ }
+{
+    for d in 0..ahead.len() {
+        if ahead[d] == 0 {
+            continue;
+        }
+        if behind[d] != 0 {
+            return d as u32;
+        }
+    }
+    ModuleIdx::MISSING
+}
+
 // Labels with c what both sets of marks have.
 fn label_both(ahead: &[u32], behind: &[u32], c: u32, labels: &mut [u32])
     requires ahead { ⌜ length (now ahead) ≡ length (now labels) ⌝ }
@@ -86,7 +104,7 @@ fn label_both(ahead: &[u32], behind: &[u32], c: u32, labels: &mut [u32])
     }
 }
 
-// Labels with c its component, if it is cyclic.
+// Labels the component of c with its lowest row, if it is cyclic.
 fn label_component(
     from: &[u32],
     to: &[u32],
@@ -110,10 +128,52 @@ fn label_component(
     }
     let mut ahead = [0u32; 1024];
     reach(from, to, heads, nexts, c, &mut ahead[..n]);
-    label_both(&ahead[..n], &behind[..n], c, labels);
+    let lowest = first_both(&ahead[..n], &behind[..n]);
+    label_both(&ahead[..n], &behind[..n], lowest, labels);
 }
 
-// Labels every chunk, by rising row: one without a label yet is the lowest row of its component.
+// Numbers m and what it leads to, each chunk after those that it leads to, on from `last`; the last number given.
+// Any numbers are right for the labels: by these, only an edge that closes a cycle doesn't fall.
+fn number(
+    from: &[u32],
+    to: &[u32],
+    heads: &[u32],
+    nexts: &[u32],
+    m: u32,
+    last: u32,
+    numbers: &mut [u32],
+) -> u32
+    requires rows { ⌜ Threaded (now from) (now to) (now heads) (now nexts) (length (now numbers)) ⌝ }
+    requires chunk { ⌜ m < length (now numbers) ⌝ }
+    requires few { ⌜ last + zeros (now numbers) ≤ chunkLimit ⌝ }
+    ensures { λ r. ⌜ Numbered last (now (numbers .entry)) r (now (numbers .exit)) ⌝ }
+{
+    let at = m as usize;
+    if numbers[at] != 0 {
+        return last;
+    }
+    numbers[at] = 1;
+    let mut count = last;
+    let mut row = heads[at] as usize;
+    while row < from.len() {
+        count = number(from, to, heads, nexts, to[row], count, numbers);
+        row = nexts[row] as usize;
+    }
+    numbers[at] = count + 1;
+    count + 1
+}
+
+// Numbers every chunk. What the numbers are is left open: the labels don't depend on them.
+fn number_all(from: &[u32], to: &[u32], heads: &[u32], nexts: &[u32], numbers: &mut [u32])
+    requires rows { ⌜ Threaded (now from) (now to) (now heads) (now nexts) (length (now numbers)) ⌝ }
+{
+    let mut last = 0;
+    for c in 0..numbers.len() {
+        last = number(from, to, heads, nexts, c as u32, last, numbers);
+    }
+}
+
+// Labels every chunk. Numbers can't fall all the way around a cycle, so each cyclic component has a target of an edge that doesn't fall.
 fn label_rows(
     from: &[u32],
     to: &[u32],
@@ -127,21 +187,19 @@ fn label_rows(
     requires back { ⌜ Threaded (now to) (now from) (now «back_heads») (now «back_nexts») (length (now labels)) ⌝ }
     ensures { λ _. ⌜ now (labels .exit) ≡ labelsOver (length (now (labels .entry))) (valuesOf (now (from .entry)) (now (to .entry))) ⌝ }
 {
+    let n = labels.len();
     lists::core::fill(labels, ModuleIdx::MISSING);
-    for c in 0..labels.len() {
-        if labels[c] != ModuleIdx::MISSING {
+    let mut numbers = [0u32; 1024];
+    number_all(from, to, heads, nexts, &mut numbers[..n]);
+    for row in 0..from.len() {
+        let c = to[row];
+        if numbers[c as usize] < numbers[from[row] as usize] {
             continue;
         }
-        label_component(
-            from,
-            to,
-            heads,
-            nexts,
-            back_heads,
-            back_nexts,
-            c as u32,
-            labels,
-        );
+        if labels[c as usize] != ModuleIdx::MISSING {
+            continue;
+        }
+        label_component(from, to, heads, nexts, back_heads, back_nexts, c, labels);
     }
 }
 
@@ -198,6 +256,9 @@ pub fn reaches_cyclic(from: &[u32], to: &[u32], labels: &[u32], c: u32) -> bool
     ensures { λ r. ⌜ r ≡ reachesCycle (length (now (labels .entry))) (valuesOf (now (from .entry)) (now (to .entry))) c ⌝ }
 {
     let n = labels.len();
+    if count_labelled(labels) == 0 {
+        return false;
+    }
     let mut heads = [0u32; 1024];
     let mut nexts = [0u32; 16384];
     thread(from, &mut heads, &mut nexts);

@@ -1,14 +1,15 @@
 -- `chunk_cycles::core::label_component` meets its contract: an edge of c that leads back to c makes it cyclic, and what both walks meet is
--- its component.
+-- its component, whose lowest row is the first that they meet.
 -- Assumes nothing.
-use Prim.Native.Nat.{ℕ, _<_}
+use Prim.Native.Nat.{ℕ, _≤_, _<_}
 use mathlib.Core.Path.{_≡_, refl, sym, ap, subst, _∙_}
 use mathlib.Core.List.{List, _++_}
 use lib.ListN.{length, take, drop, replicate}
 use lib.Seq.{length-take-le, take-at}
-use Rattle.lists.specs.Words.{any, has}
+use Rattle.lists.specs.Words.{any, has, keep, upTo}
 use Rattle.lists.proofs.Laws.{not-true, not-false}
-use Rattle.tables.specs.Readings.{valuesOf}
+use Rattle.tables.specs.Readings.{firstOf, valuesOf}
+use Rattle.tables.specs.Refusal.{chunkLimit}
 use Rattle.chunk_cycles.specs.Cycles.{cyclic}
 use Rattle.chunk_cycles.specs.Threads.{Threaded}
 use Rattle.chunk_cycles.specs.Steps.{reachMarks, inBoth, relabelled}
@@ -71,6 +72,9 @@ ahead k = k .reach2 .last .1 .1 .1 .1 .1 .0
 ahead-length : (k : tie.After-reach2) → length (ahead k) ≡ size (first (second k) .before)
 ahead-length k = k .reach2 .kept .1 .1 .1 .1 .1 .0 ∙ part (first (second k) .before)
 
+ahead-view : (k : tie.After-reach2) → let n = size (first (second k) .before) in length (take n (ahead k ++ drop n room)) ≡ n
+ahead-view k = let n = size (first (second k) .before) in front-length (ahead k) (drop n room) n (ahead-length k)
+
 ahead-is : (k : tie.After-reach2) → let n = size (first (second k) .before) in let a = entry (first (second k) .before) .args in take n (ahead k ++ drop n room) ≡ reachMarks n (valuesOf (a .from .now) (a .to .now)) (a .c)
 ahead-is k =
     let b = first (second k) .before in
@@ -130,17 +134,36 @@ reach-requires-2 c κs =
 array-share-prefix-ahead : tie.Need-array-share-prefix-ahead
 array-share-prefix-ahead c = front-room (ahead (c .before)) _ _ (ahead-length (c .before))
 
-slice-aggregate-label-both : tie.Need-slice-aggregate-label-both
-slice-aggregate-label-both c = sym (front-length (ahead (c .before .before)) _ _ (ahead-length (c .before .before)))
+slice-aggregate-first-both : tie.Need-slice-aggregate-first-both
+slice-aggregate-first-both c = sym (ahead-view (c .before .before))
 
 array-share-prefix-behind-2 : tie.Need-array-share-prefix-behind-2
 array-share-prefix-behind-2 c = let k = first (second (c .before .before)) in front-room (behind k) _ _ (behind-length k)
 
+slice-aggregate-first-both-2 : tie.Need-slice-aggregate-first-both-2
+slice-aggregate-first-both-2 c = sym (view-length (first (second (c .before .before .before))))
+
+first-both-requires : tie.Need-first-both-requires
+first-both-requires c κs =
+    let k = c .before .before .before in (
+      subst (λ (n : ℕ). n ≤ chunkLimit) (sym (ahead-view k)) (entry (first (second k) .before) .pre .0 .graph .few),
+      view-length (first (second k)) ∙ sym (ahead-view k),
+    )
+
+array-share-prefix-ahead-2 : tie.Need-array-share-prefix-ahead-2
+array-share-prefix-ahead-2 c = let k = c .before .before .before .before in front-room (ahead k) _ _ (ahead-length k)
+
+slice-aggregate-label-both : tie.Need-slice-aggregate-label-both
+slice-aggregate-label-both c = sym (ahead-view (c .before .before .before .before .before))
+
+array-share-prefix-behind-3 : tie.Need-array-share-prefix-behind-3
+array-share-prefix-behind-3 c = let k = first (second (c .before .before .before .before .before)) in front-room (behind k) _ _ (behind-length k)
+
 slice-aggregate-label-both-2 : tie.Need-slice-aggregate-label-both-2
-slice-aggregate-label-both-2 c = sym (view-length (first (second (c .before .before .before))))
+slice-aggregate-label-both-2 c = sym (view-length (first (second (c .before .before .before .before .before .before))))
 
 label-both-requires : tie.Need-label-both-requires
-label-both-requires c κs = let k = c .before .before .before .before in (front-length (ahead k) _ _ (ahead-length k), view-length (first (second k)))
+label-both-requires c κs = let k = c .before .before .before .before .before .before .before in (ahead-view k, view-length (first (second k)))
 
 same-length : tie.Need-same-length
 same-length c = search needs
@@ -148,14 +171,19 @@ same-length c = search needs
 returns-2 : tie.Need-returns-2
 returns-2 c =
     let b = c .before .before in
-    let k = b .before .before .before .before .before in
+    let f = b .before .before .before .before in
+    let k = f .before .before .before .before in
     let l = second k in
     let e = entry (first l .before) in
     let a = e .args in
     let n = length (a .labels .now) in
+    let in-front : List ℕ = take n (ahead k ++ drop n room) in
+    let in-back : List ℕ = take n (behind (first l) ++ drop n room) in
+    let reached : List ℕ = reachMarks n (valuesOf (a .from .now) (a .to .now)) (a .c) in
     b .label-both .ensures
-    ∙ ap (λ (marks : List ℕ). relabelled (inBoth marks (take n (behind (first l) ++ drop n room))) (a .c) (a .labels .now)) (ahead-is k)
-    ∙ ap (λ (marks : List ℕ). relabelled (inBoth (reachMarks n (valuesOf (a .from .now) (a .to .now)) (a .c)) marks) (a .c) (a .labels .now)) (behind-is (first l))
+    ∙ ap (λ (low : ℕ). relabelled (inBoth in-front in-back) low (a .labels .now)) (f .first-both .ensures ∙ ap (λ (i : ℕ). firstOf (keep (inBoth in-front in-back) (upTo i))) (ahead-view k))
+    ∙ ap (λ (marks : List ℕ). relabelled (inBoth marks in-back) (firstOf (keep (inBoth marks in-back) (upTo n))) (a .labels .now)) (ahead-is k)
+    ∙ ap (λ (marks : List ℕ). relabelled (inBoth reached marks) (firstOf (keep (inBoth reached marks) (upTo n))) (a .labels .now)) (behind-is (first l))
     ∙ component-cyclic (a .from .now) (a .to .now) n (e .pre .0 .graph) (a .c) (e .pre .1 .1) (a .labels .now) refl (sym (answer l) ∙ not-false (l .leads .result) (k .before .before .if1 .left))
 
 pub label-component-spec : {M : Type 1} → statement M
@@ -173,8 +201,13 @@ label-component-spec =
     slice-aggregate-reach-2
     reach-requires-2
     array-share-prefix-ahead
-    slice-aggregate-label-both
+    slice-aggregate-first-both
     array-share-prefix-behind-2
+    slice-aggregate-first-both-2
+    first-both-requires
+    array-share-prefix-ahead-2
+    slice-aggregate-label-both
+    array-share-prefix-behind-3
     slice-aggregate-label-both-2
     label-both-requires
     same-length

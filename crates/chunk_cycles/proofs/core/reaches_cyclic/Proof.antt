@@ -1,4 +1,4 @@
--- `chunk_cycles::core::reaches_cyclic` meets its contract: one of the chunks that c reaches has a label.
+-- `chunk_cycles::core::reaches_cyclic` meets its contract: one of the chunks that c reaches has a label, which is not so if none has one.
 -- Assumes nothing.
 use Prim.Native.Nat.{ℕ, _≤_, _<_}
 use mathlib.Core.Path.{_≡_, sym, ap, subst, _∙_}
@@ -6,13 +6,13 @@ use mathlib.Core.List.{List, _++_}
 use native.Mathlib.Nat.{le-refl}
 use lib.ListN.{length, take, drop, replicate}
 use lib.Seq.{length-take-le, take-at}
-use Rattle.lists.specs.Words.{any, upTo}
+use Rattle.lists.specs.Words.{any, keep, upTo}
 use Rattle.tables.specs.Readings.{valuesOf}
 use Rattle.chunk_cycles.specs.Threads.{Threaded}
-use Rattle.chunk_cycles.specs.Steps.{reachMarks, labelledAt}
+use Rattle.chunk_cycles.specs.Steps.{reachMarks, labelled, labelledAt}
 use Rattle.chunk_cycles.proofs.Lists.{front-room, front-length}
 use Rattle.chunk_cycles.proofs.Threads.{threadable, threaded}
-use Rattle.chunk_cycles.proofs.Components.{reach-test}
+use Rattle.chunk_cycles.proofs.Components.{reach-test, reach-none}
 use borrow.Author.Needs.{needs}
 use Rattle.chunk_cycles.proofs.core.reaches_cyclic.Statement.{statement}
 use Rattle.chunk_cycles.proofs.core.reaches_cyclic.Tie as tie
@@ -22,7 +22,7 @@ abbrev made : tie.After-marks → tie.After-thread
 made c = c .before .before .before .before .before
 
 abbrev entry : tie.After-marks → tie.Start
-entry c = made c .before .before .before .before .before .before
+entry c = made c .before .before .before .before .before .before .before .before
 
 abbrev size : tie.After-marks → ℕ
 size c = length (entry c .args .labels .now)
@@ -50,6 +50,16 @@ marks-are k =
     ∙ k .reach .ensures
     ∙ ap (λ (n : ℕ). reachMarks n (valuesOf (a .from .now) (a .to .now)) (a .c)) (part (k .before))
 
+count-labelled-requires : tie.Need-count-labelled-requires
+count-labelled-requires c κs = search needs
+
+returns : tie.Need-returns
+returns c =
+    let k = c .before in
+    let e = k .before .before .before .before in
+    let a = e .args in
+    reach-none (a .from .now) (a .to .now) (length (a .labels .now)) (e .pre .0) (a .c) (ap (λ (xs : List ℕ). length (keep labelled xs)) (sym (e .pre .1 .0)) ∙ sym (k .count-labelled .ensures) ∙ c .if1 .taken)
+
 slice-aggregate-thread : tie.Need-slice-aggregate-thread
 slice-aggregate-thread c = search needs
 
@@ -57,7 +67,7 @@ slice-aggregate-thread-2 : tie.Need-slice-aggregate-thread-2
 slice-aggregate-thread-2 c = search needs
 
 thread-requires : tie.Need-thread-requires
-thread-requires c κs = threadable (c .before .before .before .before .before .pre .0) (replicate 1024 0) (replicate 16384 0) (le-refl 1024) (le-refl 16384)
+thread-requires c κs = threadable (c .before .before .before .before .before .before .before .pre .0) (replicate 1024 0) (replicate 16384 0) (le-refl 1024) (le-refl 16384)
 
 slice-aggregate-reach : tie.Need-slice-aggregate-reach
 slice-aggregate-reach c = search needs
@@ -89,8 +99,8 @@ slice-aggregate-meets-labelled c = sym (view-length (c .before .before))
 meets-labelled-requires : tie.Need-meets-labelled-requires
 meets-labelled-requires c κs = sym (view-length (c .before .before))
 
-returns : tie.Need-returns
-returns c =
+returns-2 : tie.Need-returns-2
+returns-2 c =
     let k = c .before .before .before in
     let e = entry (k .before) in
     let a = e .args in
@@ -106,6 +116,8 @@ pub reaches-cyclic-spec : {M : Type 1} → statement M
 reaches-cyclic-spec =
     tie.close
     (tie.spec
+    count-labelled-requires
+    returns
     slice-aggregate-thread
     slice-aggregate-thread-2
     thread-requires
@@ -117,4 +129,4 @@ reaches-cyclic-spec =
     array-share-prefix-marks
     slice-aggregate-meets-labelled
     meets-labelled-requires
-    returns)
+    returns-2)
