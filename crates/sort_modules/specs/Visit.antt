@@ -1,10 +1,12 @@
 -- What the core functions ask and ensure.
 -- Assumes nothing.
 use mathlib.Core.Path.{_≡_}
-use mathlib.Core.List.{List, _++_}
+use mathlib.Core.Bool.{Bool, cond, not}
+use mathlib.Core.List.{List, [], _∷_, _++_}
 use Prim.Native.Nat.{ℕ, _+_, _≤_}
-use lib.ListN.{length, set, drop, replicate}
-use Rattle.lists.specs.Words.{zeros}
+use lib.ListN.{length, getD, set, drop, replicate}
+use lib.Dec.{eqb}
+use Rattle.lists.specs.Words.{isZero, zeros}
 use Rattle.walk.specs.Walk.{St, Placed, place}
 use Rattle.tables.specs.Project.{missing}
 use Rattle.tables.specs.Readings.{isNormal}
@@ -19,11 +21,24 @@ pub record Fit (normal recordModule recordKind recordTarget : List ℕ) (n : ℕ
   pub rising : Rising recordModule
   pub within : BelowOrMissing n recordTarget
 
+-- r says whether m was met before; if not, it is marked
+pub record Met (marks : List ℕ) (m : ℕ) (r : Bool) (marks′ : List ℕ) : Type 0 where
+  pub before : r ≡ not (isZero (getD marks m 1))
+  pub marked : marks′ ≡ cond r marks (set marks m 1)
+
+-- t as the one module that is led to, or none if it is the mark
+abbrev pub unlessMissing : ℕ → List ℕ
+unlessMissing t = cond (eqb t missing) [] (t ∷ [])
+
 -- what the walk makes: the numbers, the next number, and the list
 pub record Numbered : Type 0 where
   pub numbers : List ℕ
   pub next : ℕ
   pub list : Placed
+
+-- what the walk has made, as the slices and the counters hold it
+abbrev pub made : List ℕ → List ℕ → ℕ → ℕ → Numbered
+made numbers sorted placed next = record { numbers = numbers; next = next; list = record { order = sorted; count = placed } }
 
 -- a module takes the next number, and is placed if it is normal
 abbrev pub number : List ℕ → Numbered → ℕ → Numbered
@@ -35,10 +50,7 @@ number normal a m = record {
 
 -- the state of the walk as the slices and the counters hold it
 abbrev pub held : List ℕ → List ℕ → List ℕ → ℕ → ℕ → St Numbered
-held marks numbers sorted placed next = record {
-  marks = marks;
-  made = record { numbers = numbers; next = next; list = record { order = sorted; count = placed } };
-}
+held marks numbers sorted placed next = record { marks = marks; made = made numbers sorted placed next }
 
 -- there is a number for each module, room to list those that are not met, and a number for each of these below the mark
 pub record Room (marks numbers sorted : List ℕ) (placed next : ℕ) : Type 0 where

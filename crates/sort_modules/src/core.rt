@@ -5,9 +5,10 @@ ghost use Prim.Native.Nat.{ℕ, _+_, _<_, _≤_};
 ghost use lib.ListN.{length};
 ghost use Rattle.walk.specs.Walk.{Visits, everywhere};
 ghost use Rattle.tables.specs.Project.{missing};
+ghost use Rattle.tables.specs.Readings.{isStatic, anyTarget, rowTargets};
 ghost use Rattle.tables.specs.Accepted.{Below};
 ghost use Rattle.sort_modules.specs.Sort.{staticsOf, numbers as numbered, sorted as listed};
-ghost use Rattle.sort_modules.specs.Visit.{Fit, number, held, Room, Sorted};
+ghost use Rattle.sort_modules.specs.Visit.{Fit, Met, unlessMissing, made, number, held, Room, Sorted};
 use lists::core::fill;
 use tables::ModuleIdx;
 use tables::Target;
@@ -21,57 +22,54 @@ struct Counters {
     next: u32,
 }
 
-// Visits a module: marks it, visits what its records lead to, and then gives it the next number, and lists it if it is normal.
-fn visit<'a>(
-    normal: &'a [u32],
-    record_module: &'a [u32],
-    record_kind: &'a [u32],
-    record_target: &'a [u32],
-    marks: &mut [u32],
-    numbers: &mut [u32],
-    sorted: &mut [u32],
-    dynamic: u32,
-    m: u32,
-    counters: Counters,
-) -> Counters
-    requires fit { ⌜ Fit (now normal) (now record_module) (now record_kind) (now record_target) (length (now marks)) ⌝ }
-    requires module { ⌜ m < length (now marks) ⌝ }
-    requires room { ⌜ Room (now marks) (now numbers) (now sorted) (counters .placed) (counters .next) ⌝ }
-    ensures { λ r. ⌜ Visits (staticsOf dynamic (now (normal .entry)) (now (record_module .entry)) (now (record_kind .entry)) (now (record_target .entry))) everywhere (number (now (normal .entry))) (held (now (marks .entry)) (now (numbers .entry)) (now (sorted .entry)) (counters .placed) (counters .next)) (m ∷ []) (held (now (marks .exit)) (now (numbers .exit)) (now (sorted .exit)) (r .placed) (r .next)) ⌝ }
+// Whether a module was met before. One that was not is met now.
+fn met(marks: &mut [u32], m: u32) -> bool
+    requires { ⌜ m < length (now marks) ⌝ }
+    ensures { λ r. ⌜ Met (now (marks .entry)) m r (now (marks .exit)) ⌝ }
 {
     let at = m as usize;
     if marks[at] != 0 {
-        return counters;
+        return true;
     }
     marks[at] = 1;
-    let start = first_row(record_module, at);
-    let end = first_row(record_module, at + 1);
-    let mut so_far = counters;
-    for row in start..end {
-        if !is_static(dynamic, record_kind[row]) {
-            continue;
-        }
-        let found = resolve(normal, record_target, row);
-        let t = match found {
-            Target::Missing => continue,
-            Target::External(e) => e,
-            Target::Normal(e) => e,
-        };
-        so_far = visit(
-            normal,
-            record_module,
-            record_kind,
-            record_target,
-            marks,
-            numbers,
-            sorted,
-            dynamic,
-            t,
-            so_far,
-        );
+    false
+}
+
+// The module that a record leads to, or the mark if it leads nowhere.
+fn led<'a>(
+    normal: &'a [u32],
+    record_kind: &'a [u32],
+    record_target: &'a [u32],
+    dynamic: u32,
+    row: usize,
+) -> u32
+    requires { ⌜ (row < length (now record_kind)) × (row < length (now record_target)) ⌝ }
+    ensures { λ r. ⌜ rowTargets (isStatic dynamic) anyTarget (now (normal .entry)) (now (record_kind .entry)) (now (record_target .entry)) row ≡ unlessMissing r ⌝ }
+{
+    if !is_static(dynamic, record_kind[row]) {
+        return ModuleIdx::MISSING;
     }
-    let placed = so_far.placed;
-    let next = so_far.next;
+    let found = resolve(normal, record_target, row);
+    let (Target::External(t) | Target::Normal(t)) = found else {
+        return ModuleIdx::MISSING;
+    };
+    t
+}
+
+// Leaves a module: it takes the next number, and is listed if it is normal.
+fn leave<'a>(
+    normal: &'a [u32],
+    numbers: &mut [u32],
+    sorted: &mut [u32],
+    m: u32,
+    counters: Counters,
+) -> Counters
+    requires { ⌜ (m < length (now normal)) × (m < length (now numbers)) × (counters .placed < length (now sorted)) × (counters .next < missing) ⌝ }
+    ensures { λ r. ⌜ made (now (numbers .exit)) (now (sorted .exit)) (r .placed) (r .next) ≡ number (now (normal .entry)) (made (now (numbers .entry)) (now (sorted .entry)) (counters .placed) (counters .next)) m ⌝ }
+{
+    let at = m as usize;
+    let placed = counters.placed;
+    let next = counters.next;
     numbers[at] = next;
     if normal[at] != 1 {
         return Counters {
@@ -86,8 +84,52 @@ fn visit<'a>(
     }
 }
 
-// Visits the entries in row order.
-fn visit_entries<'a>(
+// Visits a module: marks it, visits what its records lead to, and then leaves it. The counters are lent to each visit.
+fn visit<'a>(
+    normal: &'a [u32],
+    record_module: &'a [u32],
+    record_kind: &'a [u32],
+    record_target: &'a [u32],
+    counters: &mut Counters,
+    marks: &mut [u32],
+    numbers: &mut [u32],
+    sorted: &mut [u32],
+    dynamic: u32,
+    m: u32,
+)
+    requires { ⌜ Fit (now normal) (now record_module) (now record_kind) (now record_target) (length (now marks)) × (m < length (now marks)) × Room (now marks) (now numbers) (now sorted) (now counters .placed) (now counters .next) ⌝ }
+    ensures { λ _. ⌜ Visits (staticsOf dynamic (now (normal .entry)) (now (record_module .entry)) (now (record_kind .entry)) (now (record_target .entry))) everywhere (number (now (normal .entry))) (held (now (marks .entry)) (now (numbers .entry)) (now (sorted .entry)) (now (counters .entry) .placed) (now (counters .entry) .next)) (m ∷ []) (held (now (marks .exit)) (now (numbers .exit)) (now (sorted .exit)) (now (counters .exit) .placed) (now (counters .exit) .next)) ⌝ }
+{
+    if met(marks, m) {
+        return;
+    }
+    let at = m as usize;
+    let mut row = first_row(record_module, at);
+    let end = first_row(record_module, at + 1);
+    while row < end {
+        let t = led(normal, record_kind, record_target, dynamic, row);
+        if t != ModuleIdx::MISSING {
+            visit(
+                normal,
+                record_module,
+                record_kind,
+                record_target,
+                counters,
+                marks,
+                numbers,
+                sorted,
+                dynamic,
+                t,
+            );
+        }
+        row += 1;
+    }
+    let so_far = *counters;
+    *counters = leave(normal, numbers, sorted, m, so_far);
+}
+
+// Visits the runtime and then the entries in row order, and hands back the counters that were lent to each visit.
+fn visit_roots<'a>(
     normal: &'a [u32],
     record_module: &'a [u32],
     record_kind: &'a [u32],
@@ -96,31 +138,40 @@ fn visit_entries<'a>(
     marks: &mut [u32],
     numbers: &mut [u32],
     sorted: &mut [u32],
+    runtime: u32,
     dynamic: u32,
-    counters: Counters,
 ) -> Counters
-    requires fit { ⌜ Fit (now normal) (now record_module) (now record_kind) (now record_target) (length (now marks)) ⌝ }
-    requires entries { ⌜ Below (length (now marks)) (now entry) ⌝ }
-    requires room { ⌜ Room (now marks) (now numbers) (now sorted) (counters .placed) (counters .next) ⌝ }
-    ensures { λ r. ⌜ Visits (staticsOf dynamic (now (normal .entry)) (now (record_module .entry)) (now (record_kind .entry)) (now (record_target .entry))) everywhere (number (now (normal .entry))) (held (now (marks .entry)) (now (numbers .entry)) (now (sorted .entry)) (counters .placed) (counters .next)) (now (entry .entry)) (held (now (marks .exit)) (now (numbers .exit)) (now (sorted .exit)) (r .placed) (r .next)) ⌝ }
+    requires { ⌜ Fit (now normal) (now record_module) (now record_kind) (now record_target) (length (now marks)) × (runtime < length (now marks)) × Below (length (now marks)) (now entry) × Room (now marks) (now numbers) (now sorted) 0 0 ⌝ }
+    ensures { λ r. ⌜ Visits (staticsOf dynamic (now (normal .entry)) (now (record_module .entry)) (now (record_kind .entry)) (now (record_target .entry))) everywhere (number (now (normal .entry))) (held (now (marks .entry)) (now (numbers .entry)) (now (sorted .entry)) 0 0) (runtime ∷ now (entry .entry)) (held (now (marks .exit)) (now (numbers .exit)) (now (sorted .exit)) (r .placed) (r .next)) ⌝ }
 {
-    let mut so_far = counters;
+    let mut counters = Counters { placed: 0, next: 0 };
+    visit(
+        normal,
+        record_module,
+        record_kind,
+        record_target,
+        &mut counters,
+        marks,
+        numbers,
+        sorted,
+        dynamic,
+        runtime,
+    );
     for row in 0..entry.len() {
-        let m = entry[row];
-        so_far = visit(
+        visit(
             normal,
             record_module,
             record_kind,
             record_target,
+            &mut counters,
             marks,
             numbers,
             sorted,
             dynamic,
-            m,
-            so_far,
+            entry[row],
         );
     }
-    so_far
+    counters
 }
 
 // The module numbers and the sorted list. `marks` is working space, a place a module.
@@ -143,20 +194,7 @@ pub fn sort<'a>(
 {
     fill(marks, 0);
     fill(numbers, ModuleIdx::MISSING);
-    let begun = Counters { placed: 0, next: 0 };
-    let first = visit(
-        normal,
-        record_module,
-        record_kind,
-        record_target,
-        marks,
-        numbers,
-        sorted,
-        dynamic,
-        runtime,
-        begun,
-    );
-    let last = visit_entries(
+    let last = visit_roots(
         normal,
         record_module,
         record_kind,
@@ -165,8 +203,8 @@ pub fn sort<'a>(
         marks,
         numbers,
         sorted,
+        runtime,
         dynamic,
-        first,
     );
     fill(marks, 0);
     last.placed
