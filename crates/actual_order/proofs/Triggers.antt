@@ -1,25 +1,27 @@
 -- What a record row triggers, and that a module triggers what its rows do.
 -- Assumes nothing.
-use mathlib.Core.Path.{_≡_, refl, ap, subst, _∙_}
+use mathlib.Core.Path.{_≡_, refl, sym, ap, subst, _∙_}
 use mathlib.Core.Logic.{_⊎_, ⊎-elim}
-use mathlib.Core.Bool.{Bool, true, false, not}
-use mathlib.Core.List.{List, [], _∷_, _++_, flatMap, head-eq-of-cons-eq, nil≢cons}
+use mathlib.Core.Bool.{Bool, true, false, cond}
+use mathlib.Core.List.{List, [], _∷_, _++_, flatMap, head-eq-of-cons-eq, nil≢cons, List·Memᴰ, List·Memᴰ·not-nil, List·Memᴰ·eq-of-singleton}
 use Prim.Native.Nat.{ℕ, _+_, _-_, _≤_, _<_}
 use native.Mathlib.Omega.{arith}
 use lib.ListN.{length, getD}
 use lib.Dec.{eqb}
 use borrow.Author.Tests.{eqb-false, eq-eqb, ne-eqb, lt-ltb, le-ltb}
 use Rattle.lists.specs.Words.{countFrom, keep}
-use Rattle.lists.proofs.Laws.{both, keep-append}
+use Rattle.lists.proofs.Laws.{both, keep-append, mem-keep}
 use Rattle.tables.specs.Project.{missing}
 use Rattle.tables.specs.Lookups.{FirstRow}
 use Rattle.tables.specs.Accepted.{BelowOrMissing}
-use Rattle.tables.specs.Readings.{isNormal, wrapped, isEager, anyTarget, pickTarget, resolved, rowTargets}
+use Rattle.tables.specs.Readings.{isNormal, wrapped, isEager, anyTarget, pickTarget, resolved, rowsOf, rowTargets, targetsOf}
 use Rattle.tables.specs.declared.Target.{Target}
-use Rattle.tables.specs.declared.Target.the-variants.{External, Normal}
+use Rattle.tables.specs.declared.Target.the-variants.{Missing, External, Normal}
 use Rattle.tables.proofs.Rows.{targets-of-run}
 use Rattle.actual_order.specs.Actual.{unwrapped, triggered}
 use Rattle.actual_order.specs.Cores.{rowTriggers}
+use Rattle.actual_order.proofs.Actuals.{mem-flat}
+use Rattle.actual_order.proofs.Arranging.{mem-rows}
 
 keep-flat : (f : ℕ → Bool) (g : ℕ → List ℕ) (xs : List ℕ) → keep f (flatMap g xs) ≡ flatMap (λ (x : ℕ). keep f (g x)) xs
 unfolding flatMap
@@ -70,3 +72,21 @@ unfolding triggered
 triggered-rows normal wrap owner kind target m start end first next =
     ap (keep (wrapped wrap)) (targets-of-run owner m start end first next isEager anyTarget normal kind target)
     ∙ keep-flat (wrapped wrap) (rowTargets isEager anyTarget normal kind target) (countFrom start (end - start))
+
+-- what is triggered has a row
+pub triggered-inside : (n : ℕ) (normal wrap owner kind target : List ℕ) (m t : ℕ) → length target ≡ length owner → BelowOrMissing n target → List·Memᴰ t (triggered normal wrap owner kind target m) → t < n
+unfolding triggered targetsOf
+triggered-inside n normal wrap owner kind target m t l b h =
+    let a = mem-flat (rowTargets isEager anyTarget normal kind target) (rowsOf owner m) (mem-keep (wrapped wrap) (flatMap (rowTargets isEager anyTarget normal kind target) (rowsOf owner m)) h .0) in
+    let row = a .0 in
+    let found : List·Memᴰ t (anyTarget (resolved normal target row)) = eager (isEager (getD kind row 0)) (a .2) in
+    target-inside normal wrap kind target row n t b (omega (arith, l, mem-rows owner m (a .1) .0)) (only (resolved normal target row) found)
+  where
+    eager : (c : Bool) {xs : List ℕ} → List·Memᴰ t (cond c xs []) → List·Memᴰ t xs
+    eager true k = k
+    eager false k = absurd (List·Memᴰ·not-nil k)
+
+    only : (found : Target) → List·Memᴰ t (anyTarget found) → anyTarget found ≡ t ∷ []
+    only Missing k = absurd (List·Memᴰ·not-nil k)
+    only (External x) k = ap (λ (y : ℕ). y ∷ []) (sym (List·Memᴰ·eq-of-singleton k))
+    only (Normal x) k = ap (λ (y : ℕ). y ∷ []) (sym (List·Memᴰ·eq-of-singleton k))

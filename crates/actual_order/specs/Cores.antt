@@ -1,18 +1,20 @@
 -- What the core functions ask and ensure.
 -- Assumes nothing.
 use mathlib.Core.Path.{_≡_}
-use mathlib.Core.Bool.{cond}
-use mathlib.Core.List.{List, [], _∷_, _++_, List·Memᴰ}
-use Prim.Native.Nat.{ℕ, _+_, _*_, _≤_, _<_}
+use mathlib.Core.Bool.{Bool, false, cond}
+use mathlib.Core.List.{List, [], _∷_, _++_, flatMap, List·Memᴰ}
+use Prim.Native.Nat.{ℕ, _+_, _-_, _*_, _≤_, _<_}
 use lib.ListN.{length, getD, take, drop, set}
-use Rattle.lists.specs.Words.{keep}
+use Rattle.lists.specs.Words.{isZero, zeros, countFrom, keep}
 use Rattle.walk.specs.Walk.{St, Placed, visit}
 use Rattle.tables.specs.Lookups.{Rising}
 use Rattle.tables.specs.Accepted.{Below, BelowOrMissing}
-use Rattle.tables.specs.Refusal.{chunkLimit}
+use Rattle.tables.specs.Refusal.{moduleLimit, chunkLimit}
 use Rattle.tables.specs.Project.{missing}
 use Rattle.tables.specs.Readings.{flagged, wrapped, isEager, anyTarget, rowTargets, valuesOf, firstOf}
 use Rattle.actual_order.specs.Actual.{Executed, noted, executes, triggered}
+use Rattle.actual_order.specs.declared.core.ActualOrderTraversal.{ActualOrderTraversal}
+use Rattle.actual_order.specs.declared.core.Pending.{Pending}
 use Rattle.actual_order.specs.declared.core.Trigger.{Trigger}
 use Rattle.actual_order.specs.declared.core.Trigger.the-variants.{Nothing, Module}
 
@@ -44,9 +46,42 @@ pub record Loads (importChunk loads : List ℕ) (n : ℕ) : Type 0 where
   pub lengths : length loads ≡ length importChunk
   pub inside : Below n loads
 
+-- a row loads one chunk
+abbrev pub loaded : List ℕ → ℕ → List ℕ
+loaded loads row = getD loads row 0 ∷ []
+
 -- a walk over chunks as the slices hold it
+abbrev pub placing : List ℕ → ℕ → Placed
+placing visited count = record { order = visited; count = count }
+
 abbrev pub visiting : List ℕ → List ℕ → ℕ → St Placed
-visiting marks visited count = record { marks = marks; made = record { order = visited; count = count } }
+visiting marks visited count = record { marks = marks; made = placing visited count }
+
+-- the two counters are equal, and there is room for all that are not met
+pub record RoomFor (t : ActualOrderTraversal) (marks list : List ℕ) : Type 0 where
+  pub equal : t .next ≡ t .placed
+  pub room : t .placed + zeros marks ≤ length list
+  pub limit : t .placed + zeros marks ≤ moduleLimit
+
+-- what a visit still visits, where its rows lead to places
+abbrev pub behind : (ℕ → List ℕ) → Pending → List ℕ
+behind rows p = flatMap rows (countFrom (p .row) (p .end - p .row))
+
+abbrev pub pending : (ℕ → List ℕ) → Pending → List ℕ
+pending rows p = cond (p .more) (p .place ∷ behind rows p) []
+
+-- one place further
+pub record Next (rows : ℕ → List ℕ) (p next : Pending) : Type 0 where
+  pub rest : pending rows next ≡ behind rows p
+  pub entered : next .entered ≡ p .entered
+  pub end : next .end ≡ p .end
+
+-- a visit of m begins: where m passes and was not met, it is marked, and what it leads to is pending
+pub record Entered (succ : ℕ → List ℕ) (gate : ℕ → Bool) (rows : ℕ → List ℕ) (count : ℕ) (marks : List ℕ) (m : ℕ) (marks′ : List ℕ) (p : Pending) : Type 0 where
+  pub entered : p .entered ≡ cond (gate m) (isZero (getD marks m 1)) false
+  pub marked : marks′ ≡ cond (p .entered) (set marks m 1) marks
+  pub leads : pending rows p ≡ cond (p .entered) (succ m) []
+  pub within : p .end ≤ count
 
 -- the columns of modules and records fit each other: n modules, and records in module order
 pub record Fit (normal included wrap recordModule recordKind recordTarget : List ℕ) (n : ℕ) : Type 0 where
@@ -73,12 +108,15 @@ pub record Filling : Type 0 where
   pub count : ℕ
   pub hosts : List ℕ
 
+abbrev pub filling : List ℕ → List ℕ → ℕ → Filling
+filling order hosts count = record { order = order; count = count; hosts = hosts }
+
 -- one more is listed, and its host noted
 abbrev pub fills : ℕ → Filling → ℕ → Filling
 fills host f m = record { order = set (f .order) (f .count) m; count = f .count + 1; hosts = noted host (f .hosts) m }
 
 abbrev pub executing : List ℕ → List ℕ → List ℕ → ℕ → St Filling
-executing marks order hosts count = record { marks = marks; made = record { order = order; count = count; hosts = hosts } }
+executing marks order hosts count = record { marks = marks; made = filling order hosts count }
 
 -- a module is executed as its own host
 unfoldable pub hosted : List ℕ → List ℕ → List ℕ → List ℕ → List ℕ → List ℕ → St Filling → ℕ → St Filling

@@ -74,7 +74,7 @@ execute-all-requires c κs =
         f .fill .kept .0 ∙ n,
         (
           subst (Members (a .member-chunk .now) (a .member .now)) n (e .pre .1 .0),
-          (subst (λ (k : ℕ). a .root < k) n (e .pre .1 .1 .1 .1 .0 .0), omega (arith, z, e .pre .0 .normals, e .pre .1 .1 .1 .1 .1)),
+          (subst (λ (k : ℕ). a .root < k) n (e .pre .1 .1 .1 .1 .0 .0), (omega (arith, z, e .pre .0 .normals, e .pre .1 .1 .1 .1 .1), omega (arith, z, size o))),
         ),
       ),
     )

@@ -1,6 +1,6 @@
 -- `actual_order::core::chunk_order` meets its contract: a visit over marks that start as zeros.
 -- Assumes nothing.
-use mathlib.Core.Path.{_≡_, ap, subst, _∙_}
+use mathlib.Core.Path.{_≡_, refl, ap, subst, _∙_}
 use mathlib.Core.List.{List, [], _∷_}
 use Prim.Native.Nat.{ℕ, _<_}
 use native.Mathlib.Omega.{arith}
@@ -18,17 +18,18 @@ use Rattle.actual_order.proofs.core.chunk_order.Tie as tie
 array-borrow-prefix-marks : tie.Need-array-borrow-prefix-marks
 array-borrow-prefix-marks c = search needs
 
-slice-aggregate-visit-actual-chunk : tie.Need-slice-aggregate-visit-actual-chunk
-slice-aggregate-visit-actual-chunk c = let e = c .before .before .before .before in zeroed-length (e .args .chunks) 1024 (e .pre .1 .0)
+slice-aggregate-visit-chunk-from : tie.Need-slice-aggregate-visit-chunk-from
+slice-aggregate-visit-chunk-from c = let e = c .before .before .before .before in zeroed-length (e .args .chunks) 1024 (e .pre .1 .0)
 
-visit-actual-chunk-requires : tie.Need-visit-actual-chunk-requires
-visit-actual-chunk-requires c κs =
+visit-chunk-from-requires : tie.Need-visit-chunk-from-requires
+visit-chunk-from-requires c κs =
     let e = c .before .before .before .before .before in
     let a = e .args in
     let n = zeroed-length (a .chunks) 1024 (e .pre .1 .0) in
     let z : zeros (take (a .chunks) (replicate {A = ℕ} 1024 0)) ≡ a .chunks = ap zeros (zeroed (a .chunks) 1024 (e .pre .1 .0)) ∙ zeros-replicate (a .chunks) in (
       subst (Loads (a .import-chunk .now) (a .loads .now)) n (e .pre .0),
-      (subst (λ (k : ℕ). a .c < k) n (e .pre .1 .1 .0), omega (arith, z, e .pre .1 .1 .1)),
+      subst (λ (k : ℕ). a .c < k) n (e .pre .1 .1 .0),
+      record { equal = refl; room = omega (arith, z, e .pre .1 .1 .1); limit = omega (arith, z, e .pre .1 .0) },
     )
 
 same-length : tie.Need-same-length
@@ -39,17 +40,17 @@ returns c =
     let v = c .before .before .before in
     let e = v .before .before .before .before .before .before in
     let a = e .args in
-    let x = v .visit-actual-chunk .last .1 .1 in
-    chunks-written (valuesOf (a .import-chunk .now) (a .loads .now)) (a .chunks) (a .c) (a .visited .now) (x .0) (x .1 .0) (v .visit-actual-chunk .result) (e .pre .1 .1 .1)
-    (subst (λ (m : List ℕ). Visits (valuesOf (a .import-chunk .now) (a .loads .now)) everywhere (place everywhere) (visiting m (a .visited .now) 0) (a .c ∷ []) (visiting (x .0) (x .1 .0) (v .visit-actual-chunk .result)))
-    (zeroed (a .chunks) 1024 (e .pre .1 .0)) (v .visit-actual-chunk .ensures))
+    let x = v .visit-chunk-from .last .1 .1 in
+    chunks-written (valuesOf (a .import-chunk .now) (a .loads .now)) (a .chunks) (a .c) (a .visited .now) (x .0) (x .1 .0) (v .visit-chunk-from .result .placed) (e .pre .1 .1 .1)
+    (subst (λ (m : List ℕ). Visits (valuesOf (a .import-chunk .now) (a .loads .now)) everywhere (place everywhere) (visiting m (a .visited .now) 0) (a .c ∷ []) (visiting (x .0) (x .1 .0) (v .visit-chunk-from .result .placed)))
+    (zeroed (a .chunks) 1024 (e .pre .1 .0)) (v .visit-chunk-from .ensures .0))
 
 pub chunk-order-spec : {M : Type 1} → statement M
 chunk-order-spec =
     tie.close
     (tie.spec
     array-borrow-prefix-marks
-    slice-aggregate-visit-actual-chunk
-    visit-actual-chunk-requires
+    slice-aggregate-visit-chunk-from
+    visit-chunk-from-requires
     same-length
     returns)

@@ -1,6 +1,6 @@
 -- `actual_order::core::execute_all` meets its contract: the members of the visited chunks, and then the root if it is wrapped.
 -- Assumes nothing.
-use mathlib.Core.Path.{sym, ap, subst, _∙_}
+use mathlib.Core.Path.{refl, sym, ap, subst, _∙_}
 use mathlib.Core.List.{List, [], _∷_, foldl, foldl-append, flatMap}
 use Prim.Native.Nat.{ℕ, _≤_}
 use native.Mathlib.Omega.{arith}
@@ -29,22 +29,22 @@ turns x = let a = entry x .args in flatMap (eagerMembers (a .wrap .now) (a .memb
 
 -- what they leave
 abbrev ended : tie.After-execute-chunks → St Filling
-ended x = let k = x .execute-chunks .last .1 .1 .1 .1 .1 .1 .1 .1 .1 in executing (k .0) (k .1 .0) (k .1 .1 .0) (x .execute-chunks .result)
+ended x = let k = x .execute-chunks .last .1 .1 .1 .1 .1 .1 .1 .1 .1 in executing (k .0) (k .1 .0) (k .1 .1 .0) (x .execute-chunks .result .placed)
 
 unmet : (x : tie.After-execute-chunks) → zeros (begun x .marks) ≤ length (entry x .args .normal .now)
 unmet x = omega (arith, zeros-le (entry x .args .marks .now), entry x .pre .0 .normals)
 
 kept : (x : tie.After-execute-chunks) → let a = entry x .args in Kept (a .normal .now) (a .included .now) (a .wrap .now) (a .record-module .now) (a .record-kind .now) (a .record-target .now) (begun x) (ended x)
-kept x = let a = entry x .args in subst (Kept (a .normal .now) (a .included .now) (a .wrap .now) (a .record-module .now) (a .record-kind .now) (a .record-target .now) (begun x)) (x .execute-chunks .ensures) (turns-kept (a .normal .now) (a .included .now) (a .wrap .now) (a .record-module .now) (a .record-kind .now) (a .record-target .now) (begun x) (turns x) (unmet x))
+kept x = let a = entry x .args in subst (Kept (a .normal .now) (a .included .now) (a .wrap .now) (a .record-module .now) (a .record-kind .now) (a .record-target .now) (begun x)) (x .execute-chunks .ensures .0) (turns-kept (a .normal .now) (a .included .now) (a .wrap .now) (a .record-module .now) (a .record-kind .now) (a .record-target .now) (begun x) (turns x) (unmet x))
 
 execute-chunks-requires : tie.Need-execute-chunks-requires
-execute-chunks-requires c κs = let e = c .before .before .before .before .before .before .before .before .before .before .before .before .before .before .before in (e .pre .0, (e .pre .1 .0, (e .pre .1 .1 .0, omega (arith, e .pre .1 .1 .1 .1))))
+execute-chunks-requires c κs = let e = c .before .before .before .before .before .before .before .before .before .before .before .before .before .before .before in (e .pre .0, (e .pre .1 .0, (e .pre .1 .1 .0, record { equal = refl; room = omega (arith, e .pre .1 .1 .1 .1 .0); limit = omega (arith, e .pre .1 .1 .1 .1 .1) })))
 
 mul-if1 : tie.Need-mul-if1
 mul-if1 c = search needs
 
 shared-slice-read-if1 : tie.Need-shared-slice-read-if1
-shared-slice-read-if1 c = search needs
+shared-slice-read-if1 c = let e = entry (c .before .before .before .before .before .before .before) in omega (arith, e .pre .1 .1 .1 .0, e .pre .0 .wraps)
 
 same-length : tie.Need-same-length
 same-length c = search needs
@@ -59,16 +59,18 @@ returns : tie.Need-returns
 returns c =
     let x = c .before .before .before .before .before .before .before .before in
     let a = entry x .args in
-    ap (foldl (hosted (a .normal .now) (a .included .now) (a .wrap .now) (a .record-module .now) (a .record-kind .now) (a .record-target .now)) (begun x)) (root-plain (a .wrap .now) (a .root) (turns x) (c .if1 .taken)) ∙ x .execute-chunks .ensures
+    ap (foldl (hosted (a .normal .now) (a .included .now) (a .wrap .now) (a .record-module .now) (a .record-kind .now) (a .record-target .now)) (begun x)) (root-plain (a .wrap .now) (a .root) (turns x) (c .if1 .taken)) ∙ x .execute-chunks .ensures .0
 
-execute-actual-module-requires : tie.Need-execute-actual-module-requires
-execute-actual-module-requires c κs =
+execute-host-requires : tie.Need-execute-host-requires
+execute-host-requires c κs =
     let x = c .before .before .before .before .before .before .before .before .before .before .before in
     let e = entry x in
     let a = e .args in
     let k = kept x in (
       subst (Fit (a .normal .now) (a .included .now) (a .wrap .now) (a .record-module .now) (a .record-kind .now) (a .record-target .now)) (sym (k .marks)) (e .pre .0),
-      (k .hosts ∙ e .pre .1 .0 ∙ sym (k .marks), (omega (arith, k .marks, e .pre .1 .1 .1 .0), omega (arith, k .room, k .order, e .pre .1 .1 .1 .1))),
+      k .hosts ∙ e .pre .1 .0 ∙ sym (k .marks),
+      omega (arith, k .marks, e .pre .1 .1 .1 .0),
+      record { equal = x .execute-chunks .ensures .1; room = omega (arith, k .room, k .order, e .pre .1 .1 .1 .1 .0); limit = omega (arith, k .room, e .pre .1 .1 .1 .1 .1) },
     )
 
 same-length-4 : tie.Need-same-length-4
@@ -86,12 +88,12 @@ returns-2 c =
     let t = v .before .before .before .before in
     let x = t .before .before .before .before .before .before .before .before in
     let a = entry x .args in
-    let k = v .execute-actual-module .last .1 .1 .1 .1 .1 .1 in
-    let u : St Filling = executing (k .0) (k .1 .0) (k .1 .1 .0) (v .execute-actual-module .result) in
+    let k = v .execute-host .last .1 .1 .1 .1 .1 .1 in
+    let u : St Filling = executing (k .0) (k .1 .0) (k .1 .1 .0) (v .execute-host .result .placed) in
     ap (foldl (hosted (a .normal .now) (a .included .now) (a .wrap .now) (a .record-module .now) (a .record-kind .now) (a .record-target .now)) (begun x)) (root-wrapped (a .wrap .now) (a .root) (turns x) (t .if1 .left))
     ∙ foldl-append (hosted (a .normal .now) (a .included .now) (a .wrap .now) (a .record-module .now) (a .record-kind .now) (a .record-target .now)) (begun x) (turns x) (a .root ∷ [])
-    ∙ ap (λ (s : St Filling). hosted (a .normal .now) (a .included .now) (a .wrap .now) (a .record-module .now) (a .record-kind .now) (a .record-target .now) s (a .root)) (x .execute-chunks .ensures)
-    ∙ host-visited (a .normal .now) (a .included .now) (a .wrap .now) (a .record-module .now) (a .record-kind .now) (a .record-target .now) (ended x) u (a .root) (omega (arith, unmet x, kept x .fewer)) (v .execute-actual-module .ensures)
+    ∙ ap (λ (s : St Filling). hosted (a .normal .now) (a .included .now) (a .wrap .now) (a .record-module .now) (a .record-kind .now) (a .record-target .now) s (a .root)) (x .execute-chunks .ensures .0)
+    ∙ host-visited (a .normal .now) (a .included .now) (a .wrap .now) (a .record-module .now) (a .record-kind .now) (a .record-target .now) (ended x) u (a .root) (omega (arith, unmet x, kept x .fewer)) (v .execute-host .ensures .0)
 
 pub execute-all-spec : {M : Type 1} → statement M
 execute-all-spec =
@@ -104,7 +106,7 @@ execute-all-spec =
     same-length-2
     same-length-3
     returns
-    execute-actual-module-requires
+    execute-host-requires
     same-length-4
     same-length-5
     same-length-6

@@ -1,6 +1,6 @@
 -- `actual_order::core::execute_chunks` meets its contract: between the chunks, the slices hold what those passed have made.
 -- Assumes nothing.
-use mathlib.Core.Path.{sym, ap, subst, _∙_}
+use mathlib.Core.Path.{_≡_, sym, ap, subst, _∙_}
 use mathlib.Core.List.{List, foldl}
 use Prim.Native.Nat.{ℕ, _-_, _≤_}
 use native.Mathlib.Omega.{arith}
@@ -17,11 +17,11 @@ use Rattle.actual_order.proofs.core.execute_chunks.Statement.{statement
 use Rattle.actual_order.proofs.core.execute_chunks.Tie as tie
 
 abbrev Inv-loop : tie.InvT-loop
-Inv-loop normal included wrap record-module record-kind record-target member-chunk member chunks marks₀ order₀ hosts₀ placed count₀ i₀ i-end marks order hosts count i =
-    (i ≤ length chunks) × Turns normal included wrap record-module record-kind record-target (eagerMembers wrap member-chunk member) (executing marks₀ order₀ hosts₀ placed) chunks i (executing marks order hosts count)
+Inv-loop normal included wrap record-module record-kind record-target member-chunk member chunks marks₀ order₀ hosts₀ traversal₀ i₀ i-end marks order hosts traversal i =
+    (i ≤ length chunks) × Turns normal included wrap record-module record-kind record-target (eagerMembers wrap member-chunk member) (executing marks₀ order₀ hosts₀ (traversal₀ .placed)) chunks i (executing marks order hosts (traversal .placed)) × (traversal .next ≡ traversal .placed)
 
 abbrev μ-loop : tie.MeasureT-loop
-μ-loop normal included wrap record-module record-kind record-target member-chunk member chunks marks₀ order₀ hosts₀ placed count₀ i₀ i-end marks order hosts count i = length chunks - i
+μ-loop normal included wrap record-module record-kind record-target member-chunk member chunks marks₀ order₀ hosts₀ traversal₀ i₀ i-end marks order hosts traversal i = length chunks - i
 
 abbrev Loop : Type 0
 Loop = tie.At-loop Inv-loop μ-loop
@@ -30,10 +30,10 @@ abbrev entry : Loop → tie.Start Inv-loop μ-loop
 entry l = l .before .before .before .before .before .before .before .before .before .before .before .before .before
 
 abbrev begun : Loop → St Filling
-begun l = let a = entry l .args in executing (a .marks .now) (a .order .now) (a .hosts .now) (a .placed)
+begun l = let a = entry l .args in executing (a .marks .now) (a .order .now) (a .hosts .now) (a .before .placed)
 
 abbrev now-at : Loop → St Filling
-now-at l = executing (l .loop .marks) (l .loop .order) (l .loop .hosts) (l .loop .count)
+now-at l = executing (l .loop .marks) (l .loop .order) (l .loop .hosts) (l .loop .traversal .placed)
 
 -- the members of a chunk that execute
 abbrev own : Loop → ℕ → List ℕ
@@ -48,7 +48,7 @@ kept l =
 loop-holds : tie.Need-loop-holds Inv-loop μ-loop
 loop-holds c =
     let a = c .before .before .before .before .before .before .before .before .before .before .before .before .args in
-    (omega arith, turns-none (a .normal .now) (a .included .now) (a .wrap .now) (a .record-module .now) (a .record-kind .now) (a .record-target .now) (eagerMembers (a .wrap .now) (a .member-chunk .now) (a .member .now)) (executing (a .marks .now) (a .order .now) (a .hosts .now) (a .placed)) (a .chunks .now))
+    (omega arith, turns-none (a .normal .now) (a .included .now) (a .wrap .now) (a .record-module .now) (a .record-kind .now) (a .record-target .now) (eagerMembers (a .wrap .now) (a .member-chunk .now) (a .member .now)) (executing (a .marks .now) (a .order .now) (a .hosts .now) (a .before .placed)) (a .chunks .now), c .before .before .before .before .before .before .before .before .before .before .before .before .pre .1 .1 .1 .equal)
 
 mul-members : tie.Need-mul-members Inv-loop μ-loop
 mul-members c = let l = c .before in omega (arith, c .loop-test .taken, entry l .good .1 .1 .1 .1 .1 .1 .1 .1 .0)
@@ -72,7 +72,7 @@ execute-members-requires c κs =
         k .hosts ∙ e .pre .1 .0 ∙ sym (k .marks),
         (
           subst (λ (j : ℕ). Below j (m .members .result .now)) (sym (k .marks)) (subst (Below n) (sym (m .members .ensures)) (values-below n (a .member-chunk .now) (a .member .now) (getD (a .chunks .now) (l .loop .i) 0) (e .pre .1 .1 .0 .lengths) (e .pre .1 .1 .0 .inside))),
-          omega (arith, k .room, k .order, e .pre .1 .1 .1),
+          record { equal = l .loop .inv .2; room = omega (arith, k .room, k .order, e .pre .1 .1 .1 .room); limit = omega (arith, k .room, e .pre .1 .1 .1 .limit) },
         ),
       ),
     )
@@ -92,10 +92,11 @@ loop-again c =
     let l = m .before .before .before in
     let a = entry l .args in
     let x = v .execute-members .last .1 .1 .1 .1 .1 .1 .1 in
-    let u : St Filling = executing (x .0) (x .1 .0) (x .1 .1 .0) (v .execute-members .result) in (
+    let u : St Filling = executing (x .0) (x .1 .0) (x .1 .1 .0) (v .execute-members .result .placed) in (
       omega arith,
       turns-more (a .normal .now) (a .included .now) (a .wrap .now) (a .record-module .now) (a .record-kind .now) (a .record-target .now) (own l) (begun l) (a .chunks .now) (l .loop .i) (now-at l) u h (l .loop .inv .1)
-          (ap (λ (k : List ℕ). foldl (hosted (a .normal .now) (a .included .now) (a .wrap .now) (a .record-module .now) (a .record-kind .now) (a .record-target .now)) (now-at l) (keep (unwrapped (a .wrap .now)) k)) (sym (m .members .ensures)) ∙ v .execute-members .ensures),
+          (ap (λ (k : List ℕ). foldl (hosted (a .normal .now) (a .included .now) (a .wrap .now) (a .record-module .now) (a .record-kind .now) (a .record-target .now)) (now-at l) (keep (unwrapped (a .wrap .now)) k)) (sym (m .members .ensures)) ∙ v .execute-members .ensures .0),
+      v .execute-members .ensures .1,
     )
 
 same-length : tie.Need-same-length Inv-loop μ-loop
@@ -111,7 +112,7 @@ returns : tie.Need-returns Inv-loop μ-loop
 returns c =
     let l = c .before in
     let a = entry l .args in
-    turns-all (a .normal .now) (a .included .now) (a .wrap .now) (a .record-module .now) (a .record-kind .now) (a .record-target .now) (own l) (begun l) (a .chunks .now) (l .loop .i) (now-at l) (c .loop-test .left) (l .loop .inv .1)
+    (turns-all (a .normal .now) (a .included .now) (a .wrap .now) (a .record-module .now) (a .record-kind .now) (a .record-target .now) (own l) (begun l) (a .chunks .now) (l .loop .i) (now-at l) (c .loop-test .left) (l .loop .inv .1), l .loop .inv .2)
 
 pub execute-chunks-spec : {M : Type 1} → statement M
 execute-chunks-spec =

@@ -20,11 +20,11 @@ abbrev own : List ℕ → ℕ → List ℕ
 own wrap m = keep (unwrapped wrap) (m ∷ [])
 
 abbrev Inv-loop : tie.InvT-loop
-Inv-loop normal included wrap record-module record-kind record-target member marks₀ order₀ hosts₀ placed count₀ i₀ i-end marks order hosts count i =
-    (i ≤ length member) × Turns normal included wrap record-module record-kind record-target (own wrap) (executing marks₀ order₀ hosts₀ placed) member i (executing marks order hosts count)
+Inv-loop normal included wrap record-module record-kind record-target member marks₀ order₀ hosts₀ traversal₀ i₀ i-end marks order hosts traversal i =
+    (i ≤ length member) × Turns normal included wrap record-module record-kind record-target (own wrap) (executing marks₀ order₀ hosts₀ (traversal₀ .placed)) member i (executing marks order hosts (traversal .placed)) × (traversal .next ≡ traversal .placed)
 
 abbrev μ-loop : tie.MeasureT-loop
-μ-loop normal included wrap record-module record-kind record-target member marks₀ order₀ hosts₀ placed count₀ i₀ i-end marks order hosts count i = length member - i
+μ-loop normal included wrap record-module record-kind record-target member marks₀ order₀ hosts₀ traversal₀ i₀ i-end marks order hosts traversal i = length member - i
 
 abbrev Loop : Type 0
 Loop = tie.At-loop Inv-loop μ-loop
@@ -33,10 +33,10 @@ abbrev entry : Loop → tie.Start Inv-loop μ-loop
 entry l = l .before .before .before .before .before .before .before .before .before .before .before
 
 abbrev begun : Loop → St Filling
-begun l = let a = entry l .args in executing (a .marks .now) (a .order .now) (a .hosts .now) (a .placed)
+begun l = let a = entry l .args in executing (a .marks .now) (a .order .now) (a .hosts .now) (a .before .placed)
 
 abbrev now-at : Loop → St Filling
-now-at l = executing (l .loop .marks) (l .loop .order) (l .loop .hosts) (l .loop .count)
+now-at l = executing (l .loop .marks) (l .loop .order) (l .loop .hosts) (l .loop .traversal .placed)
 
 unmet : (l : Loop) → zeros (begun l .marks) ≤ length (entry l .args .normal .now)
 unmet l = omega (arith, zeros-le (entry l .args .marks .now), entry l .pre .0 .normals)
@@ -58,7 +58,7 @@ unfolding at
 next l u h e = let a = entry l .args in turns-more (a .normal .now) (a .included .now) (a .wrap .now) (a .record-module .now) (a .record-kind .now) (a .record-target .now) (own (a .wrap .now)) (begun l) (a .member .now) (l .loop .i) (now-at l) u h (l .loop .inv .1) e
 
 loop-holds : tie.Need-loop-holds Inv-loop μ-loop
-loop-holds c = let a = c .before .before .before .before .before .before .before .before .before .before .args in (omega arith, turns-none (a .normal .now) (a .included .now) (a .wrap .now) (a .record-module .now) (a .record-kind .now) (a .record-target .now) (own (a .wrap .now)) (executing (a .marks .now) (a .order .now) (a .hosts .now) (a .placed)) (a .member .now))
+loop-holds c = let a = c .before .before .before .before .before .before .before .before .before .before .args in (omega arith, turns-none (a .normal .now) (a .included .now) (a .wrap .now) (a .record-module .now) (a .record-kind .now) (a .record-target .now) (own (a .wrap .now)) (executing (a .marks .now) (a .order .now) (a .hosts .now) (a .before .placed)) (a .member .now), c .before .before .before .before .before .before .before .before .before .before .pre .1 .1 .1 .equal)
 
 mul-m : tie.Need-mul-m Inv-loop μ-loop
 mul-m c = let l = c .before in omega (arith, c .loop-test .taken, entry l .good .1 .1 .1 .1 .1 .1 .0)
@@ -88,18 +88,20 @@ loop-again c =
     let h = c .before .before .before .loop-test .taken in
     let l = c .before .before .before .before in
     let a = entry l .args in
-    (omega arith, next l (now-at l) h (ap (foldl (hosted (a .normal .now) (a .included .now) (a .wrap .now) (a .record-module .now) (a .record-kind .now) (a .record-target .now)) (now-at l)) (keep-none-wrapped (a .wrap .now) (at l) (c .if1 .taken))))
+    (omega arith, next l (now-at l) h (ap (foldl (hosted (a .normal .now) (a .included .now) (a .wrap .now) (a .record-module .now) (a .record-kind .now) (a .record-target .now)) (now-at l)) (keep-none-wrapped (a .wrap .now) (at l) (c .if1 .taken))), l .loop .inv .2)
 
-execute-actual-module-requires : tie.Need-execute-actual-module-requires Inv-loop μ-loop
+execute-host-requires : tie.Need-execute-host-requires Inv-loop μ-loop
 unfolding at
-execute-actual-module-requires c κs =
+execute-host-requires c κs =
     let h = c .before .before .before .before .before .before .loop-test .taken in
     let l = c .before .before .before .before .before .before .before in
     let e = entry l in
     let a = e .args in
     let k = kept l in (
       subst (Fit (a .normal .now) (a .included .now) (a .wrap .now) (a .record-module .now) (a .record-kind .now) (a .record-target .now)) (sym (k .marks)) (e .pre .0),
-      (k .hosts ∙ e .pre .1 .0 ∙ sym (k .marks), (omega (arith, inside l h, k .marks), omega (arith, k .room, k .order, e .pre .1 .1 .1))),
+      k .hosts ∙ e .pre .1 .0 ∙ sym (k .marks),
+      omega (arith, inside l h, k .marks),
+      record { equal = l .loop .inv .2; room = omega (arith, k .room, k .order, e .pre .1 .1 .1 .room); limit = omega (arith, k .room, e .pre .1 .1 .1 .limit) },
     )
 
 add-i-2 : tie.Need-add-i-2 Inv-loop μ-loop
@@ -116,11 +118,12 @@ loop-again-2 c =
     let h = t .before .before .before .loop-test .taken in
     let l = t .before .before .before .before in
     let a = entry l .args in
-    let u : St Filling = executing (v .execute-actual-module .last .1 .1 .1 .1 .1 .1 .0) (v .execute-actual-module .last .1 .1 .1 .1 .1 .1 .1 .0) (v .execute-actual-module .last .1 .1 .1 .1 .1 .1 .1 .1 .0) (v .execute-actual-module .result) in (
+    let u : St Filling = executing (v .execute-host .last .1 .1 .1 .1 .1 .1 .0) (v .execute-host .last .1 .1 .1 .1 .1 .1 .1 .0) (v .execute-host .last .1 .1 .1 .1 .1 .1 .1 .1 .0) (v .execute-host .result .placed) in (
       omega arith,
       next l u h
           (ap (foldl (hosted (a .normal .now) (a .included .now) (a .wrap .now) (a .record-module .now) (a .record-kind .now) (a .record-target .now)) (now-at l)) (keep-plainly (a .wrap .now) (at l) (t .if1 .left))
-          ∙ host-visited (a .normal .now) (a .included .now) (a .wrap .now) (a .record-module .now) (a .record-kind .now) (a .record-target .now) (now-at l) u (at l) (omega (arith, unmet l, kept l .fewer)) (v .execute-actual-module .ensures)),
+          ∙ host-visited (a .normal .now) (a .included .now) (a .wrap .now) (a .record-module .now) (a .record-kind .now) (a .record-target .now) (now-at l) u (at l) (omega (arith, unmet l, kept l .fewer)) (v .execute-host .ensures .0)),
+      v .execute-host .ensures .1,
     )
 
 same-length : tie.Need-same-length Inv-loop μ-loop
@@ -135,9 +138,11 @@ same-length-3 c = kept (c .before) .hosts
 returns : tie.Need-returns Inv-loop μ-loop
 returns c =
     let l = c .before in
-    let a = entry l .args in
-    ap (foldl (hosted (a .normal .now) (a .included .now) (a .wrap .now) (a .record-module .now) (a .record-kind .now) (a .record-target .now)) (begun l)) (keep-each (unwrapped (a .wrap .now)) (a .member .now))
-    ∙ turns-all (a .normal .now) (a .included .now) (a .wrap .now) (a .record-module .now) (a .record-kind .now) (a .record-target .now) (own (a .wrap .now)) (begun l) (a .member .now) (l .loop .i) (now-at l) (c .loop-test .left) (l .loop .inv .1)
+    let a = entry l .args in (
+      ap (foldl (hosted (a .normal .now) (a .included .now) (a .wrap .now) (a .record-module .now) (a .record-kind .now) (a .record-target .now)) (begun l)) (keep-each (unwrapped (a .wrap .now)) (a .member .now))
+          ∙ turns-all (a .normal .now) (a .included .now) (a .wrap .now) (a .record-module .now) (a .record-kind .now) (a .record-target .now) (own (a .wrap .now)) (begun l) (a .member .now) (l .loop .i) (now-at l) (c .loop-test .left) (l .loop .inv .1),
+      l .loop .inv .2,
+    )
 
 pub execute-members-spec : {M : Type 1} → statement M
 execute-members-spec =
@@ -154,7 +159,7 @@ execute-members-spec =
     add-i
     loop-less
     loop-again
-    execute-actual-module-requires
+    execute-host-requires
     add-i-2
     loop-less-2
     loop-again-2

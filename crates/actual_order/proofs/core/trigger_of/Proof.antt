@@ -1,23 +1,17 @@
 -- `actual_order::core::trigger_of` meets its contract, case by case.
 -- Assumes nothing.
-use mathlib.Core.Path.{_≡_, sym, ap, subst, _∙_}
+use mathlib.Core.Path.{_≡_, sym, ap, _∙_}
 use mathlib.Core.Logic.{⊎-elim}
 use mathlib.Core.List.{List, [], _∷_}
 use Prim.Native.Nat.{ℕ, _<_}
-use native.Mathlib.Omega.{arith}
 use lib.ListN.{length}
 use borrow.Author.Needs.{needs}
 use Rattle.lists.specs.Words.{keep}
 use Rattle.tables.specs.Readings.{wrapped, anyTarget}
-use Rattle.actual_order.specs.declared.core.Trigger.the-variants.{Nothing, Module}
 use Rattle.actual_order.specs.Cores.{rowTriggers}
 use Rattle.actual_order.proofs.Triggers.{trigger-kind, trigger-eager, target-inside, keep-wrapped, keep-plain}
 use Rattle.actual_order.proofs.core.trigger_of.Statement.{statement}
 use Rattle.actual_order.proofs.core.trigger_of.Tie as tie
-
--- no module is named
-none : {t n : ℕ} → Nothing ≡ Module t → t < n
-none e = let z : _≡_ {A = ℕ} 0 1 = cc in absurd (omega arith)
 
 -- the entry, seen from the resolved target
 abbrev entry : tie.After-resolve → tie.Start
@@ -56,7 +50,7 @@ shared-slice-read-if1 c = search needs
 returns : tie.Need-returns
 returns c =
     let a = c .before .before .before .before .before .before .args in
-    (λ t e. none e, sym (trigger-kind (a .normal .now) (a .wrap .now) (a .record-kind .now) (a .record-target .now) (a .row) (c .if1 .taken)))
+    sym (trigger-kind (a .normal .now) (a .wrap .now) (a .record-kind .now) (a .record-target .now) (a .row) (c .if1 .taken))
 
 resolve-requires : tie.Need-resolve-requires
 resolve-requires c κs = search needs
@@ -73,7 +67,7 @@ enum-told c = search needs
 returns-2 : tie.Need-returns-2
 returns-2 c =
     let r = c .before .before in
-    (λ t e. none e, sym (eager r ∙ ap (λ (l : List ℕ). keep (wrapped (entry r .args .wrap .now)) l) (ap anyTarget (c .enum-told .given .1))))
+    sym (eager r ∙ ap (λ (l : List ℕ). keep (wrapped (entry r .args .wrap .now)) l) (ap anyTarget (c .enum-told .given .1)))
 
 mul-if2 : tie.Need-mul-if2
 mul-if2 c = search needs
@@ -86,16 +80,14 @@ returns-3 c =
     let j = c .before .before .before in
     let r = j .before in
     let wrap = entry r .args .wrap .now in
-    (λ t e. none e, sym (eager r ∙ ap (keep (wrapped wrap)) (there j) ∙ keep-plain wrap (j .match .t) (c .if2 .taken)))
+    sym (eager r ∙ ap (keep (wrapped wrap)) (there j) ∙ keep-plain wrap (j .match .t) (c .if2 .taken))
 
 returns-4 : tie.Need-returns-4
 returns-4 c =
     let j = c .before .before .before in
     let r = j .before in
-    let wrap = entry r .args .wrap .now in (
-      λ t e. let q : j .match .t ≡ t = cc in subst (λ (x : ℕ). x < length wrap) q (within j),
-      sym (eager r ∙ ap (keep (wrapped wrap)) (there j) ∙ keep-wrapped wrap (j .match .t) (c .if2 .left)),
-    )
+    let wrap = entry r .args .wrap .now in
+    sym (eager r ∙ ap (keep (wrapped wrap)) (there j) ∙ keep-wrapped wrap (j .match .t) (c .if2 .left))
 
 pub trigger-of-spec : {M : Type 1} → statement M
 trigger-of-spec =
