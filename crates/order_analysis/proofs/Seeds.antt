@@ -11,8 +11,8 @@ use Rattle.lists.proofs.Laws.{iff-eq, or-parts, or-left, or-right, any-mem, mem
 use Rattle.tables.specs.Project.{Project}
 use Rattle.actual_order.proofs.Actuals.{mem-flat}
 use Rattle.at_risk.specs.Entry.{riskOfEntry}
-use Rattle.wrap_plan.specs.Plan.{roots}
-use Rattle.wrap_plan.proofs.Rows.{flat-mem}
+use Rattle.wrap_rules.specs.Plan.{roots}
+use Rattle.wrap_rules.proofs.Rows.{flat-mem}
 use Rattle.order_analysis.specs.Whole.{membersOfSet, seedsOf}
 
 module _ (p : Project) where

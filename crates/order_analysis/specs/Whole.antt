@@ -13,7 +13,7 @@ use Rattle.tables.specs.Refusal.{refusal}
 use Rattle.tables.specs.Answers.{numberOf, countOf, verdict, counted, after}
 use Rattle.tables.specs.declared.Answer.{Answer}
 use Rattle.at_risk.specs.Entry.{riskOfEntry}
-use Rattle.wrap_plan.specs.Plan.{roots}
+use Rattle.wrap_rules.specs.Plan.{roots}
 use Rattle.wrap_plan.specs.Planned.{planOf}
 
 -- the members of a set of marks, rising

@@ -16,9 +16,9 @@ use Rattle.chunk_cycles.specs.Cycles as cycles
 use Rattle.at_risk.specs.Marks.{wakes, usesWrapped, sensitive, eligible}
 use Rattle.at_risk.specs.Risk.{early, isFlagged, orderRisk, cycleRisk, riskOf}
 use Rattle.at_risk.specs.Entry.{expectedSensitiveOf, actualSensitiveOf, riskOfEntry}
-use Rattle.wrap_plan.specs.Rules.{suffixAsks, componentAsks, leads, importAsks, symbolTouches, referenceTouches, readAsks}
-use Rattle.wrap_plan.specs.Plan.{asked, start, planFrom}
-use Rattle.wrap_plan.specs.Plan as plan
+use Rattle.wrap_rules.specs.Rules.{suffixAsks, componentAsks, leads, importAsks, symbolTouches, referenceTouches, readAsks}
+use Rattle.wrap_rules.specs.Plan.{asked, start, planFrom}
+use Rattle.wrap_rules.specs.Plan as plan
 use Rattle.wrap_plan.specs.Planned.{ordersOf, planOf}
 use Rattle.order_analysis.specs.Whole.{seedsOf, wholePlan}
 

@@ -27,8 +27,8 @@ use Rattle.actual_order.specs.Actual.{executes, triggered, unwrapped, eagerMemb
 use Rattle.actual_order.proofs.Actuals.{mem-flat, run-order, turn-host}
 use Rattle.at_risk.specs.Marks.{sensitive, eligible}
 use Rattle.at_risk.specs.Entry.{expectedSensitiveOf, actualSensitiveOf}
-use Rattle.wrap_plan.specs.Plan.{reached}
-use Rattle.wrap_plan.proofs.Rows.{mem-rows, flat-mem}
+use Rattle.wrap_rules.specs.Plan.{reached}
+use Rattle.wrap_rules.proofs.Rows.{mem-rows, flat-mem}
 use Rattle.order_analysis.specs.Whole.{wholePlan}
 use Rattle.promises.specs.Statements.{WholePlanIsLeast, WholePlanKeepsTheOrder, AllEligible, SameOrder, unplanned}
 use Rattle.promises.specs.Load.{implies, plannedWraps, normalImports, belongs, membersBelong, Plain, PlannedLoadKeepsTheOrder}

@@ -21,9 +21,9 @@ use Rattle.expected_order.proofs.Rows.{normal-in}
 use Rattle.actual_order.specs.Actual.{triggered}
 use Rattle.actual_order.proofs.Actuals.{mem-flat}
 use Rattle.at_risk.specs.Marks.{eligible}
-use Rattle.wrap_plan.specs.Rules.{importsOf, leads, importAsks}
-use Rattle.wrap_plan.specs.Plan.{reached, roots, importRule}
-use Rattle.wrap_plan.proofs.Rows.{mem-rows, flat-mem}
+use Rattle.wrap_rules.specs.Rules.{importsOf, leads, importAsks}
+use Rattle.wrap_rules.specs.Plan.{reached, roots, importRule}
+use Rattle.wrap_rules.proofs.Rows.{mem-rows, flat-mem}
 use Rattle.order_analysis.specs.Whole.{wholePlan}
 use Rattle.promises.specs.Statements.{WholePlanIsLeast}
 use Rattle.promises.specs.Load.{implies, readAsTwo, reachedNormal, normalImports, onlyEligible, noRequire, importsAreDependencies, Plain}

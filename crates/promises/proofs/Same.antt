@@ -10,8 +10,8 @@ use Rattle.expected_order.specs.OfProject.{expectedOf}
 use Rattle.actual_order.specs.Actual.{runOf, actualOf, hostsOf}
 use Rattle.at_risk.specs.Marks.{usesWrapped, sensitive, eligible}
 use Rattle.at_risk.specs.Entry.{expectedSensitiveOf, riskOfEntry}
-use Rattle.wrap_plan.specs.Rules.{componentAsks, leads, importAsks, symbolTouches, referenceTouches, readAsks}
-use Rattle.wrap_plan.specs.Plan.{Rule, suffixRule, componentRule, importRule, readRule, roots, reached, asks, asked, start, planFrom}
+use Rattle.wrap_rules.specs.Rules.{componentAsks, leads, importAsks, symbolTouches, referenceTouches, readAsks}
+use Rattle.wrap_rules.specs.Plan.{Rule, suffixRule, componentRule, importRule, readRule, roots, reached, asks, asked, start, planFrom}
 use Rattle.wrap_plan.specs.Planned.{ordersOf, planOf}
 use Rattle.promises.specs.Changes.{withSeed, withImports}
 

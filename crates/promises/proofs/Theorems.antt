@@ -29,13 +29,13 @@ use Rattle.at_risk.specs.Risk.{isFlagged}
 use Rattle.at_risk.specs.Entry.{expectedSensitiveOf, actualSensitiveOf, riskOfEntry}
 use Rattle.at_risk.proofs.Marks.{eligible-in}
 use Rattle.at_risk.proofs.Risks.{struck-same, flagged-risk}
-use Rattle.wrap_plan.specs.Rules.{fromFirst}
-use Rattle.wrap_plan.specs.Plan.{suffixRule, roots, asks}
+use Rattle.wrap_rules.specs.Rules.{fromFirst}
+use Rattle.wrap_rules.specs.Plan.{suffixRule, roots, asks}
 use Rattle.wrap_plan.specs.Planned.{ordersOf, planOf, planVerdict}
-use Rattle.wrap_plan.proofs.Monotone.{mem-fromFirst, asks-labels}
-use Rattle.wrap_plan.proofs.Rows.{mem-rows}
-use Rattle.wrap_plan.proofs.Suffix.{suffix-split, suffix-planned}
-use Rattle.wrap_plan.proofs.Plans.{plan-length, plan-bits, plan-seeds, plan-closed, plan-least, plan-eligible, plan-rises, plan-more-seeds}
+use Rattle.wrap_rules.proofs.Monotone.{mem-fromFirst, asks-labels}
+use Rattle.wrap_rules.proofs.Rows.{mem-rows}
+use Rattle.wrap_rules.proofs.Suffix.{suffix-split, suffix-planned}
+use Rattle.wrap_rules.proofs.Plans.{plan-length, plan-bits, plan-seeds, plan-closed, plan-least, plan-eligible, plan-rises, plan-more-seeds}
 use Rattle.order_analysis.specs.Whole.{seedsOf, wholePlan, wholeVerdict}
 use Rattle.order_analysis.proofs.Seeds.{risk-seed, row-seed, seed-cases}
 use Rattle.promises.specs.Changes.{withSeed, withImports}

@@ -39,6 +39,11 @@ abbrev pub withExports : Project → List ℕ → Project
 withExports p exports′ =
     project (p .runtime) (p .dynamic) (p .normal) (p .included) (p .sensitive) (p .reads) exports′ (p .wrap) (p .chunk) (p .recordModule) (p .recordKind) (p .recordTarget) (p .dependencyModule) (p .dependency) (p .statementModule) (p .statementIncluded) (p .useStatement) (p .useRecord) (p .owner) (p .canonical) (p .chainSymbol) (p .chainLink) (p .referenceStatement) (p .referenceForm) (p .referenceSymbol) (p .dependedReference) (p .depended) (p .order) (p .memberChunk) (p .member) (p .importChunk) (p .imports) (p .entry) (p .entryChunk) (p .seed)
 
+-- with other records
+abbrev pub withRecords : Project → List ℕ → List ℕ → List ℕ → Project
+withRecords p recordModule′ recordKind′ recordTarget′ =
+    project (p .runtime) (p .dynamic) (p .normal) (p .included) (p .sensitive) (p .reads) (p .exports) (p .wrap) (p .chunk) recordModule′ recordKind′ recordTarget′ (p .dependencyModule) (p .dependency) (p .statementModule) (p .statementIncluded) (p .useStatement) (p .useRecord) (p .owner) (p .canonical) (p .chainSymbol) (p .chainLink) (p .referenceStatement) (p .referenceForm) (p .referenceSymbol) (p .dependedReference) (p .depended) (p .order) (p .memberChunk) (p .member) (p .importChunk) (p .imports) (p .entry) (p .entryChunk) (p .seed)
+
 -- with other dependency rows
 abbrev pub withDependencies : Project → List ℕ → List ℕ → Project
 withDependencies p dependencyModule′ dependency′ =

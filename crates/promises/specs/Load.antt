@@ -13,7 +13,7 @@ use Rattle.tables.specs.Refusal.{refusal}
 use Rattle.actual_order.specs.Actual.{executes, runOf}
 use Rattle.at_risk.specs.Marks.{sensitive, eligible}
 use Rattle.at_risk.specs.Entry.{expectedSensitiveOf}
-use Rattle.wrap_plan.specs.Plan.{reached}
+use Rattle.wrap_rules.specs.Plan.{reached}
 use Rattle.order_analysis.specs.Whole.{wholePlan}
 
 -- if a, then b

@@ -5,15 +5,15 @@ use mathlib.Core.Bool.{Bool, true, false, _&&_}
 use mathlib.Core.List.{List, [], _∷_, map}
 use Prim.Native.Nat.{ℕ}
 use Rattle.lists.specs.Words.{isZero, keep, every, has}
-use Rattle.tables.specs.Project.{Project, project}
+use Rattle.tables.specs.Project.{Project}
 use Rattle.tables.specs.Readings.{isAnalysed}
 use Rattle.tables.specs.Refusal.{refusal}
 use Rattle.actual_order.specs.Actual.{runOf}
 use Rattle.at_risk.specs.Marks.{sensitive, eligible}
 use Rattle.at_risk.specs.Entry.{expectedSensitiveOf}
-use Rattle.wrap_plan.specs.Plan.{importRule}
+use Rattle.wrap_rules.specs.Plan.{importRule}
 use Rattle.order_analysis.specs.Whole.{seedsOf, wholePlan}
-use Rattle.promises.specs.Changes.{withMembers, withSensitive, withExports, withDependencies}
+use Rattle.promises.specs.Changes.{withMembers, withSensitive, withExports, withRecords, withDependencies}
 use Rattle.promises.specs.Listing.{listing}
 use Rattle.promises.specs.Needed.{closedUnder, others}
 use Rattle.promises.specs.Load.{implies, readAsTwo, plannedWraps, onlyEligible, noRequire, importsAreDependencies, membersBelong, Plain}
@@ -49,11 +49,6 @@ loadCase p root = record {
   expected = expectedSensitiveOf p root;
   loaded = keep (sensitive p) (runOf p (plannedWraps p) root .listed);
 }
-
--- with other records
-abbrev withRecords : Project → List ℕ → List ℕ → List ℕ → Project
-withRecords p recordModule′ recordKind′ recordTarget′ =
-    project (p .runtime) (p .dynamic) (p .normal) (p .included) (p .sensitive) (p .reads) (p .exports) (p .wrap) (p .chunk) recordModule′ recordKind′ recordTarget′ (p .dependencyModule) (p .dependency) (p .statementModule) (p .statementIncluded) (p .useStatement) (p .useRecord) (p .owner) (p .canonical) (p .chainSymbol) (p .chainLink) (p .referenceStatement) (p .referenceForm) (p .referenceSymbol) (p .dependedReference) (p .depended) (p .order) (p .memberChunk) (p .member) (p .importChunk) (p .imports) (p .entry) (p .entryChunk) (p .seed)
 
 -- (a) module 3 is CommonJs: it is never planned, and runs with its chunk
 abbrev commonJs3 : Project

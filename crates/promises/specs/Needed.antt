@@ -11,7 +11,7 @@ use Rattle.tables.specs.Refusal.{refusal}
 use Rattle.chunk_cycles.specs.Cycles.{labelsOf}
 use Rattle.at_risk.specs.Marks.{eligible}
 use Rattle.at_risk.specs.Entry.{expectedSensitiveOf, actualSensitiveOf}
-use Rattle.wrap_plan.specs.Plan.{Rule, suffixRule, componentRule, importRule, readRule, asks}
+use Rattle.wrap_rules.specs.Plan.{Rule, suffixRule, componentRule, importRule, readRule, asks}
 use Rattle.wrap_plan.specs.Planned.{ordersOf, planOf}
 use Rattle.order_analysis.specs.Whole.{wholePlan}
 use Rattle.promises.specs.Changes.{withImports, withMembers, withEntryChunks, withSensitive, withExports, withDependencies, withReferences}
@@ -27,7 +27,7 @@ pub record NeededRule : Type 0 where
   pub on : Project
   pub seeds : List ℕ
   pub rule : Rule
-  pub set : List ℕ
+  pub marks : List ℕ
 
 -- what a rule asks for is in
 abbrev pub closedUnder : Project → List ℕ → Rule → Bool
@@ -42,9 +42,9 @@ others readRule = suffixRule ∷ componentRule ∷ importRule ∷ []
 unfoldable pub isNeeded : NeededRule → Bool
 isNeeded c =
     isZero (refusal (c .on))
-    && (every (λ (m : ℕ). implies (eligible (c .on) m) (has (c .set) m)) (c .seeds)
-    && (every (closedUnder (c .on) (c .set)) (others (c .rule))
-    && not (every (λ (m : ℕ). implies (has (planOf (c .on) (c .seeds)) m) (has (c .set) m)) (upTo (modules (c .on))))))
+    && (every (λ (m : ℕ). implies (eligible (c .on) m) (has (c .marks) m)) (c .seeds)
+    && (every (closedUnder (c .on) (c .marks)) (others (c .rule))
+    && not (every (λ (m : ℕ). implies (has (planOf (c .on) (c .seeds)) m) (has (c .marks) m)) (upTo (modules (c .on))))))
 
 -- module 1 insensitive: only its dependency and import bring it in
 abbrev insensitive1 : Project
@@ -57,10 +57,10 @@ reads1 =
 
 unfoldable pub neededRules : List NeededRule
 neededRules =
-    record { on = listing; seeds = 2 ∷ []; rule = suffixRule; set = 0 ∷ 1 ∷ 1 ∷ 0 ∷ [] }
-    ∷ record { on = edge10; seeds = 1 ∷ []; rule = componentRule; set = 0 ∷ 1 ∷ 0 ∷ 0 ∷ [] }
-    ∷ record { on = insensitive1; seeds = 2 ∷ []; rule = importRule; set = 0 ∷ 0 ∷ 1 ∷ 1 ∷ [] }
-    ∷ record { on = reads1; seeds = 2 ∷ []; rule = readRule; set = 0 ∷ 0 ∷ 1 ∷ 1 ∷ [] }
+    record { on = listing; seeds = 2 ∷ []; rule = suffixRule; marks = 0 ∷ 1 ∷ 1 ∷ 0 ∷ [] }
+    ∷ record { on = edge10; seeds = 1 ∷ []; rule = componentRule; marks = 0 ∷ 1 ∷ 0 ∷ 0 ∷ [] }
+    ∷ record { on = insensitive1; seeds = 2 ∷ []; rule = importRule; marks = 0 ∷ 0 ∷ 1 ∷ 1 ∷ [] }
+    ∷ record { on = reads1; seeds = 2 ∷ []; rule = readRule; marks = 0 ∷ 0 ∷ 1 ∷ 1 ∷ [] }
     ∷ []
 
 unfoldable pub EachRuleIsNeeded : Type 0

@@ -16,7 +16,7 @@ use Rattle.chunk_cycles.specs.Cycles.{labelsOf}
 use Rattle.chunk_cycles.specs.Paths.{MoreImports}
 use Rattle.at_risk.specs.Marks.{eligible}
 use Rattle.at_risk.specs.Entry.{expectedSensitiveOf, actualSensitiveOf}
-use Rattle.wrap_plan.specs.Plan.{Rule, asks}
+use Rattle.wrap_rules.specs.Plan.{Rule, asks}
 use Rattle.wrap_plan.specs.Planned.{ordersOf, planOf, PlanFromSeeds}
 use Rattle.order_analysis.specs.Whole.{seedsOf, wholePlan, WholeAnalysis}
 use Rattle.promises.specs.Changes.{withSeed, withImports}

@@ -26,21 +26,21 @@ use Rattle.chunk_cycles.proofs.Strong.{lowest-in, label-cyclic, label-none}
 use Rattle.at_risk.specs.Marks.{sensitive, eligible}
 use Rattle.at_risk.specs.Entry.{expectedSensitiveOf}
 use Rattle.at_risk.proofs.Marks.{eligible-in, marks-test, eligible-marks, sensitive-marks}
-use Rattle.wrap_plan.specs.Rules.{suffixAsks, sameComponent, importsOf, leads, chainTouches, symbolTouches, referenceTouches}
-use Rattle.wrap_plan.specs.Plan.{suffixRule, componentRule, importRule, readRule, roots, reached, asks}
+use Rattle.wrap_rules.specs.Rules.{suffixAsks, sameComponent, importsOf, leads, chainTouches, symbolTouches, referenceTouches}
+use Rattle.wrap_rules.specs.Plan.{suffixRule, componentRule, importRule, readRule, roots, reached, asks}
 use Rattle.wrap_plan.specs.Planned.{ordersOf}
-use Rattle.wrap_plan.specs.Passes.{Passed}
-use Rattle.wrap_plan.specs.Steps.{importTargets, Added}
-use Rattle.wrap_plan.specs.Spread.{Along, Under, Spreads}
-use Rattle.wrap_plan.specs.Asked.{Together, Members, Row, Importer, Importing, ChainTouch, SymbolTouch, Touching, bySymbol, byDepended, TopLevelRead, Symbols, Reading}
-use Rattle.wrap_plan.specs.Suffix.{Suffixes, sensitiveOrders}
+use Rattle.wrap_rules.specs.Passes.{Passed}
+use Rattle.wrap_rules.specs.Steps.{importTargets, Added}
+use Rattle.wrap_rules.specs.Spread.{Along, Under, Spreads}
+use Rattle.wrap_rules.specs.Asked.{Together, Members, Row, Importer, Importing, ChainTouch, SymbolTouch, Touching, bySymbol, byDepended, TopLevelRead, Symbols, Reading}
+use Rattle.wrap_rules.specs.Suffix.{Suffixes, sensitiveOrders}
 use Rattle.wrap_plan.specs.Closing.{sensitiveMarks, eligibleMarks, candidateMarks}
-use Rattle.wrap_plan.proofs.Monotone.{asks-monotone}
-use Rattle.wrap_plan.proofs.Steps.{length-targets, target-at}
-use Rattle.wrap_plan.proofs.Extending.{passed-added}
-use Rattle.wrap_plan.proofs.Rows.{component-asks, component-rows, import-row, row-import, import-asks, import-rows, read-asks, read-rows}
-use Rattle.wrap_plan.proofs.Leads.{Backward, leads-in, in-leads}
-use Rattle.wrap_plan.proofs.Touches.{chain-owner, chain-link, chain-rows, reference-symbol, reference-depended, reference-rows}
+use Rattle.wrap_rules.proofs.Monotone.{asks-monotone}
+use Rattle.wrap_rules.proofs.Steps.{length-targets, target-at}
+use Rattle.wrap_rules.proofs.Extending.{passed-added}
+use Rattle.wrap_rules.proofs.Rows.{component-asks, component-rows, import-row, row-import, import-asks, import-rows, read-asks, read-rows}
+use Rattle.wrap_rules.proofs.Leads.{Backward, leads-in, in-leads}
+use Rattle.wrap_rules.proofs.Touches.{chain-owner, chain-link, chain-rows, reference-symbol, reference-depended, reference-rows}
 
 -- the marks say what they are marks of
 

@@ -17,7 +17,7 @@ use Rattle.tables.specs.declared.Answer.the-variants.{Refused, Counted}
 use Rattle.tables.proofs.Answering.{verdict-project, verdict-unfit, verdict-short, verdict-none, counted-refused, after-refused, counted-accepted, after-accepted}
 use Rattle.chunk_cycles.specs.Cycles.{labelsOf}
 use Rattle.wrap_plan.specs.Planned.{ordersOf, planOf, seedsFit, planVerdict, PlanFromSeeds}
-use Rattle.wrap_plan.proofs.Plans.{plan-length}
+use Rattle.wrap_rules.proofs.Plans.{plan-length}
 
 -- a plan has a mark for each module
 pub length-plan : (p : Project) (seeds : List ℕ) → length (planOf p seeds) ≡ modules p

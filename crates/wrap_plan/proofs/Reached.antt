@@ -27,87 +27,20 @@ use Rattle.actual_order.proofs.Actuals.{mem-flat}
 use Rattle.chunk_cycles.proofs.Lists.{mark-in}
 use Rattle.at_risk.specs.Marks.{eligible}
 use Rattle.at_risk.proofs.Marks.{eligible-normal, eligible-in}
-use Rattle.wrap_plan.specs.Rules.{importsOf}
-use Rattle.wrap_plan.specs.Plan.{roots, reached}
-use Rattle.wrap_plan.specs.Steps.{looked, importTargets, Owners}
-use Rattle.wrap_plan.specs.Spread.{Along, Under, Spreads}
-use Rattle.wrap_plan.specs.Closing.{eligibleMarks, candidateMarks, rootsOver, Written, Reaching, Chosen}
-use Rattle.wrap_plan.proofs.Rows.{mem-at, flat-mem, mem-rows, rows-mem, import-row}
-use Rattle.wrap_plan.proofs.Steps.{looked-has}
+use Rattle.wrap_rules.specs.Rules.{importsOf}
+use Rattle.wrap_rules.specs.Plan.{roots, reached}
+use Rattle.wrap_rules.specs.Steps.{looked, importTargets, Owners}
+use Rattle.wrap_rules.specs.Spread.{Along, Under, Spreads}
+use Rattle.wrap_rules.specs.Roots.{rootsOver, Reaching, Chosen}
+use Rattle.wrap_plan.specs.Closing.{eligibleMarks, candidateMarks}
+use Rattle.wrap_rules.proofs.Rows.{mem-at, flat-mem, mem-rows, rows-mem, import-row}
+use Rattle.wrap_rules.proofs.Steps.{looked-has}
 use Rattle.wrap_plan.proofs.AtProject.{eligible-has, candidate-has, target-row, row-target}
 
 -- a project's roots, over columns
 pub roots-over : (p : Project) → rootsOver (p .included) (p .entry) (p .entryChunk) ≡ roots p
 unfolding rootsOver analysed
 roots-over p = refl
-
--- listing the roots: the rows below `row` are done
-module _ (included entry entryChunk : List ℕ) where
-  abbrev pub isRoot : ℕ → Bool
-  isRoot row = flagged included (getD entry row 0) && not (eqb (getD entryChunk row 0) missing)
-
-  abbrev pub rootsTo : ℕ → List ℕ
-  rootsTo row = map (λ (i : ℕ). getD entry i 0) (keep isRoot (upTo row))
-
-  rows-more : (row : ℕ) → upTo (row + 1) ≡ upTo row ++ (row ∷ [])
-  rows-more row = countFrom-append 0 row 1 ∙ ap (λ (i : ℕ). upTo row ++ (i ∷ [])) (zero-add row)
-
-  roots-more : (row : ℕ) → rootsTo (row + 1) ≡ rootsTo row ++ map (λ (i : ℕ). getD entry i 0) (keep isRoot (row ∷ []))
-  roots-more row =
-      ap (λ (xs : List ℕ). map (λ (i : ℕ). getD entry i 0) (keep isRoot xs)) (rows-more row)
-      ∙ ap (map (λ (i : ℕ). getD entry i 0)) (keep-append isRoot (upTo row) (row ∷ []))
-      ∙ map-append (λ (i : ℕ). getD entry i 0) (keep isRoot (upTo row)) (keep isRoot (row ∷ []))
-
-  pub root-passed : (row : ℕ) → isRoot row ≡ false → rootsTo (row + 1) ≡ rootsTo row
-  root-passed row e = roots-more row ∙ ap (λ (b : Bool). rootsTo row ++ map (λ (i : ℕ). getD entry i 0) (cond b (row ∷ []) [])) e ∙ mathlib.Core.List.append-nil (rootsTo row)
-
-  pub root-listed : (row : ℕ) → isRoot row ≡ true → rootsTo (row + 1) ≡ rootsTo row ++ (getD entry row 0 ∷ [])
-  root-listed row e = roots-more row ∙ ap (λ (b : Bool). rootsTo row ++ map (λ (i : ℕ). getD entry i 0) (cond b (row ∷ []) [])) e
-
-  pub roots-few : (row : ℕ) → length (rootsTo row) ≤ row
-  roots-few row = omega (arith, length-map (keep isRoot (upTo row)) (λ (i : ℕ). getD entry i 0), length-keep isRoot (upTo row), length-countFrom 0 row)
-
-  pub record Listing (old : List ℕ) (row : ℕ) (new : List ℕ) (count : ℕ) : Type 0 where
-    pub counted : count ≡ length (rootsTo row)
-    pub written : new ≡ rootsTo row ++ drop (length (rootsTo row)) old
-
-  module _ (old : List ℕ) (row : ℕ) (new : List ℕ) (count : ℕ) (g : Listing old row new count) where
-    pub listing-pass : isRoot row ≡ false → Listing old (row + 1) new count
-    listing-pass e = let q = root-passed row e in record { counted = g .counted ∙ ap length (sym q); written = g .written ∙ ap (λ (xs : List ℕ). xs ++ drop (length xs) old) (sym q) }
-
-    pub listing-put : isRoot row ≡ true → row < length old → Listing old (row + 1) (set new count (getD entry row 0)) (count + 1)
-    listing-put e l =
-        let q = root-listed row e in
-        let m = getD entry row 0 in
-        let one : length (rootsTo (row + 1)) ≡ count + 1 = ap length q ∙ omega (arith, length-append (rootsTo row) (m ∷ []), g .counted) in
-        record {
-          counted = sym one;
-          written = ap (λ (xs : List ℕ). set xs count m) (g .written ∙ ap (λ (i : ℕ). rootsTo row ++ drop i old) (sym (g .counted)))
-              ∙ front-more (rootsTo row) old count m (sym (g .counted)) (omega (arith, g .counted, roots-few row))
-              ∙ ap (λ (xs : List ℕ). xs ++ drop (count + 1) old) (sym q)
-              ∙ ap (λ (i : ℕ). rootsTo (row + 1) ++ drop i old) (sym one);
-        }
-
-  pub listing-start : (old : List ℕ) → Listing old 0 old 0
-  listing-start old = record { counted = refl; written = refl }
-
-  pub listing-end : (old : List ℕ) (row : ℕ) (new : List ℕ) (count : ℕ) → Listing old row new count → row ≡ length entry → Written (rootsOver included entry entryChunk) old new count
-  unfolding rootsOver
-  listing-end old row new count g e = record {
-    count = g .counted ∙ ap (λ (i : ℕ). length (rootsTo i)) e;
-    written = g .written ∙ ap (λ (i : ℕ). rootsTo i ++ drop (length (rootsTo i)) old) e;
-  }
-
--- marking the roots, and then closing
-pub reaching : (included rootList from to s start t : List ℕ) → ((m : ℕ) → has s m ≡ true → ⊥) → Owners rootList (looked 0 included rootList) (length rootList) s start
-    → Spreads from to start t → Reaching included rootList from to (length s) t
-reaching included rootList from to s start t none o w = record {
-  start = start;
-  len = o .len;
-  root = λ k l h i. o .new k l (looked-has included rootList k l ∙ h) i;
-  only = λ m e. ⊎-elim (λ h. absurd (none m h)) (λ r. (r .0, r .1, r .3)) (o .only m e);
-  spreads = w;
-}
 
 normal-any : (t : Target) (y : ℕ) → List·Memᴰ y (normalTarget t) → List·Memᴰ y (anyTarget t)
 normal-any Missing y h = h

@@ -13,18 +13,18 @@ use Rattle.tables.specs.Readings.{modules}
 use Rattle.tables.specs.Accepted.{Below}
 use Rattle.tables.proofs.Accepted.{getD-mem}
 use Rattle.chunk_cycles.specs.Cycles.{labelsOf}
-use Rattle.wrap_plan.specs.Rules.{suffixAsks}
-use Rattle.wrap_plan.specs.Plan.{suffixRule, componentRule, importRule, readRule, roots, asks, asked}
+use Rattle.wrap_rules.specs.Rules.{suffixAsks}
+use Rattle.wrap_rules.specs.Plan.{suffixRule, componentRule, importRule, readRule, roots, asks, asked}
 use Rattle.wrap_plan.specs.Planned.{ordersOf}
-use Rattle.wrap_plan.specs.Passes.{Passed}
-use Rattle.wrap_plan.specs.Steps.{importTargets, Added}
-use Rattle.wrap_plan.specs.Spread.{Along, Under, Spreads}
-use Rattle.wrap_plan.specs.Asked.{Together, Members, Importer, Importing, TopLevelRead, Reading}
-use Rattle.wrap_plan.specs.Suffix.{Suffixes, sensitiveOrders, AllPlanned, Settled}
+use Rattle.wrap_rules.specs.Passes.{Passed}
+use Rattle.wrap_rules.specs.Steps.{importTargets, Added}
+use Rattle.wrap_rules.specs.Spread.{Along, Under, Spreads}
+use Rattle.wrap_rules.specs.Asked.{Together, Members, Importer, Importing, TopLevelRead, Reading}
+use Rattle.wrap_rules.specs.Suffix.{Suffixes, sensitiveOrders, AllPlanned, Settled}
 use Rattle.wrap_plan.specs.Closing.{sensitiveMarks, eligibleMarks, candidateMarks, Made, Kept}
-use Rattle.wrap_plan.proofs.Monotone.{asked-monotone}
-use Rattle.wrap_plan.proofs.Passes.{pass-rules, Spread, spread-start, spread-step, spread-end}
-use Rattle.wrap_plan.proofs.Extending.{planned-more}
+use Rattle.wrap_rules.proofs.Monotone.{asked-monotone}
+use Rattle.wrap_rules.proofs.Passes.{pass-rules, Spread, spread-start, spread-step, spread-end}
+use Rattle.wrap_rules.proofs.Extending.{planned-more}
 use Rattle.wrap_plan.proofs.AtProject.{suffixes-fit, suffix-pass, members-fit, component-pass, importing-fit, import-pass, reading-fit, read-pass}
 use Rattle.wrap_plan.proofs.Reached.{root-in}
 

@@ -19,12 +19,12 @@ use Rattle.chunk_cycles.specs.Cycles.{labels, importedBy, labelsOf}
 use Rattle.at_risk.specs.Marks.{usesWrapped, isSensitive, isEligible, sensitive, eligible}
 use Rattle.at_risk.specs.Index.{Records, Flags, Statements, Kinds, UseRows}
 use Rattle.at_risk.proofs.Marks.{eligible-in}
-use Rattle.wrap_plan.specs.Plan.{start, planFrom, asked}
+use Rattle.wrap_rules.specs.Plan.{start, planFrom, asked}
 use Rattle.wrap_plan.specs.Planned.{ordersOf, planOf}
-use Rattle.wrap_plan.specs.Steps.{looked, Owners}
+use Rattle.wrap_rules.specs.Steps.{looked, Owners}
 use Rattle.wrap_plan.specs.Closing.{sensitiveMarks, eligibleMarks, Basis, Marked}
-use Rattle.wrap_plan.proofs.Steps.{looked-has, has-looked}
-use Rattle.wrap_plan.proofs.Rows.{mem-at}
+use Rattle.wrap_rules.proofs.Steps.{looked-has, has-looked}
+use Rattle.wrap_rules.proofs.Rows.{mem-at}
 use Rattle.wrap_plan.proofs.AtProject.{eligible-has}
 
 -- nothing is marked in zeros

@@ -10,13 +10,15 @@ use Rattle.walk.specs.Close.{Within, Bits}
 use Rattle.tables.specs.Project.{Project}
 use Rattle.tables.specs.Readings.{modules}
 use Rattle.tables.specs.Accepted.{Accepted}
-use Rattle.wrap_plan.specs.Plan.{roots}
-use Rattle.wrap_plan.specs.Steps.{importTargets}
-use Rattle.wrap_plan.specs.Spread.{Under}
-use Rattle.wrap_plan.specs.Suffix.{Settled}
-use Rattle.wrap_plan.specs.Closing.{eligibleMarks, candidateMarks, Made, Kept, Basis, rootsOver, Written, Chosen}
-use Rattle.wrap_plan.proofs.Parts.{part-none, part-bits, part-length}
-use Rattle.wrap_plan.proofs.Reached.{roots-over, roots-few, chosen-candidates}
+use Rattle.wrap_rules.specs.Plan.{roots}
+use Rattle.wrap_rules.specs.Steps.{importTargets}
+use Rattle.wrap_rules.specs.Spread.{Under}
+use Rattle.wrap_rules.specs.Suffix.{Settled}
+use Rattle.wrap_rules.specs.Roots.{rootsOver, Written, Chosen}
+use Rattle.wrap_plan.specs.Closing.{eligibleMarks, candidateMarks, Made, Kept, Basis}
+use Rattle.wrap_rules.proofs.Parts.{part-none, part-bits, part-length}
+use Rattle.wrap_rules.proofs.Listing.{roots-few}
+use Rattle.wrap_plan.proofs.Reached.{roots-over, chosen-candidates}
 
 -- there are no more roots than entries
 pub few-roots : (p : Project) → Accepted p → length (roots p) ≤ 16384

@@ -1,24 +1,23 @@
 -- What closing a plan asks and ensures, over the columns that it reads; the rest of the project is as it may be.
 -- Assumes nothing.
 use mathlib.Core.Path.{_≡_}
-use mathlib.Core.Bool.{Bool, true, not, _&&_}
-use mathlib.Core.List.{List, _++_, map}
-use Prim.Native.Nat.{ℕ, _<_}
-use lib.ListN.{length, getD, drop}
-use lib.Dec.{eqb}
-use Rattle.lists.specs.Words.{upTo, keep, has, ones, marksOf}
+use mathlib.Core.Bool.{Bool, _&&_}
+use mathlib.Core.List.{List}
+use Prim.Native.Nat.{ℕ}
+use lib.ListN.{length}
+use Rattle.lists.specs.Words.{ones, marksOf}
 use Rattle.walk.specs.Close.{close, Bits}
-use Rattle.tables.specs.Project.{Project, missing}
-use Rattle.tables.specs.Readings.{modules, flagged}
+use Rattle.tables.specs.Project.{Project}
+use Rattle.tables.specs.Readings.{modules}
 use Rattle.tables.specs.Accepted.{Accepted}
 use Rattle.chunk_cycles.specs.Cycles.{labelsOf}
 use Rattle.at_risk.specs.Marks.{sensitive, eligible}
-use Rattle.wrap_plan.specs.Plan.{roots, reached, asked}
+use Rattle.wrap_rules.specs.Plan.{roots, reached, asked}
 use Rattle.wrap_plan.specs.Planned.{ordersOf, planOf}
-use Rattle.wrap_plan.specs.Passes.{Passed}
-use Rattle.wrap_plan.specs.Steps.{importTargets}
-use Rattle.wrap_plan.specs.Spread.{Under, Spreads}
-use Rattle.wrap_plan.specs.Suffix.{Settled}
+use Rattle.wrap_rules.specs.Passes.{Passed}
+use Rattle.wrap_rules.specs.Steps.{importTargets}
+use Rattle.wrap_rules.specs.Spread.{Under}
+use Rattle.wrap_rules.specs.Suffix.{Settled}
 
 -- the columns that closing doesn't read, or reads only at first
 pub record Rest : Type 0 where
@@ -217,30 +216,3 @@ Acceptable of n = (rest : Rest) × Accepted (of rest) × (n ≡ modules (of rest
 -- the plan from seeds and its count, at every such project
 unfoldable pub PlanCounted : (Rest → Project) → List ℕ → ℕ → List ℕ → ℕ → Type 0
 PlanCounted of seeds n plan count = (rest : Rest) → Accepted (of rest) → n ≡ modules (of rest) → (plan ≡ planOf (of rest) seeds) × (count ≡ ones (planOf (of rest) seeds))
-
--- the modules of the analysed entries, in row order, over the columns that say which these are
-unfoldable pub rootsOver : List ℕ → List ℕ → List ℕ → List ℕ
-rootsOver included entry entryChunk =
-    map (λ (row : ℕ). getD entry row 0) (keep (λ (row : ℕ). flagged included (getD entry row 0) && not (eqb (getD entryChunk row 0) missing)) (upTo (length entry)))
-
--- a list is written to a slice from place 0 and the rest stays, and r is its length
-pub record Written (list old new : List ℕ) (r : ℕ) : Type 0 where
-  pub count : r ≡ length list
-  pub written : new ≡ list ++ drop (length list) old
-
--- the least set of n places that holds the included roots and is closed along the records
-pub record Reaching (included rootList from to : List ℕ) (n : ℕ) (reachedSet : List ℕ) : Type 0 where
-  pub start : List ℕ
-  pub len : length start ≡ n
-  pub root : (k : ℕ) → k < length rootList → has included (getD rootList k 0) ≡ true → getD rootList k 0 < n → has start (getD rootList k 0) ≡ true
-  pub only : (m : ℕ) → has start m ≡ true → (k : ℕ) × (k < length rootList) × (getD rootList k 0 ≡ m)
-  pub spreads : Spreads from to start reachedSet
-
--- the eligible modules of that set
-pub record Chosen (included rootList from to eligibles old candidates : List ℕ) : Type 0 where
-  pub reachedSet : List ℕ
-  pub reaching : Reaching included rootList from to (length old) reachedSet
-  pub len : length candidates ≡ length old
-  pub bits : Bits old → Bits candidates
-  pub all : (m : ℕ) → m < length old → has reachedSet m ≡ true → has eligibles m ≡ true → has candidates m ≡ true
-  pub only : (m : ℕ) → has candidates m ≡ true → (has reachedSet m ≡ true) × (has eligibles m ≡ true)

@@ -2,18 +2,18 @@
 ghost use Prim.Native.Nat.{_≤_};
 ghost use lib.ListN.{length};
 ghost use Rattle.wrap_plan.specs.Closing.{whole, Ready, Once, Finished, Rooted, ClosedFrom, withEntries, Plannable, PlanClosed, Seedable, SeedsPlanned, filled, Acceptable, PlanCounted};
-use crate::component::close_cyclic_chunk_members;
-use crate::imports::close_static_importers;
-use crate::marks::mark_owners;
-use crate::reads::close_top_level_readers;
-use crate::roots::list_roots;
-use crate::roots::mark_candidates;
-use crate::suffixes::close_expected_sensitive_suffixes;
 use at_risk::core::mark_eligible;
 use at_risk::core::mark_sensitive;
 use chunk_cycles::core::label_chunks;
 use lists::core::count_marked;
 use lists::core::fill;
+use wrap_rules::component::close_cyclic_chunk_members;
+use wrap_rules::imports::close_static_importers;
+use wrap_rules::reads::close_top_level_readers;
+use wrap_rules::roots::list_roots;
+use wrap_rules::roots::mark_candidates;
+use wrap_rules::seeds::mark_seeds;
+use wrap_rules::suffixes::close_expected_sensitive_suffixes;
 
 // One pass of each rule. Whether any module was added.
 fn close_once<'a>(
@@ -142,7 +142,7 @@ fn close_plan<'a>(
 {
     let mut more = true;
     while more {
-        more = close_once(
+        let changed = close_once(
             normal,
             included,
             reads,
@@ -172,6 +172,7 @@ fn close_plan<'a>(
             leads,
             plan,
         );
+        more = changed;
     }
 }
 
@@ -350,7 +351,7 @@ fn plan_marked<'a>(
     ensures { λ _. ⌜ SeedsPlanned (λ rest. whole (withEntries rest (now (entry .entry)) (now («entry_chunk» .entry))) (now (normal .entry)) (now (included .entry)) (now (reads .entry)) (now (chunk .entry)) (now («record_module» .entry)) (now («record_kind» .entry)) (now («record_target» .entry)) (now («dependency_module» .entry)) (now (dependency .entry)) (now («statement_module» .entry)) (now (owner .entry)) (now (canonical .entry)) (now («chain_symbol» .entry)) (now («chain_link» .entry)) (now («reference_statement» .entry)) (now («reference_symbol» .entry)) (now («depended_reference» .entry)) (now (depended .entry)) (now («member_chunk» .entry)) (now (member .entry))) (now (labels .entry)) (now (sensitive .entry)) (now (eligible .entry)) (now (seeds .entry)) (length (now (plan .entry))) (now (plan .exit)) ⌝ }
 {
     fill(plan, 0);
-    mark_owners(seeds, seeds, eligible, plan);
+    mark_seeds(seeds, eligible, plan);
     build_order_wrap_plan(
         normal,
         included,

@@ -1,20 +1,12 @@
-// The wrap plan: the four rules, and the plan from seeds.
+// The wrap plan: the plan from seeds, closed under the four rules.
 ghost use Rattle.tables.specs.Project.{project};
 ghost use Rattle.wrap_plan.specs.Planned.{PlanFromSeeds};
 use core::plan_seeds;
-use seeds::seeds_fit;
 use tables::Answer;
 use tables::refusal_number;
+use wrap_rules::seeds::seeds_fit;
 
-mod component;
 pub mod core;
-mod imports;
-mod marks;
-mod reads;
-mod roots;
-mod seeds;
-mod spread;
-mod suffixes;
 
 // The plan from seeds: 0 or 1 for each module, written to `marks` from place 0. The count is that of the ones.
 pub fn plan_from_seeds<'a>(

@@ -7,7 +7,7 @@ use native.Mathlib.Omega.{arith}
 use lib.ListN.{length, getD, take, replicate}
 use borrow.Author.Needs.{needs}
 use Rattle.tables.specs.Project.{Project}
-use Rattle.wrap_plan.specs.Plan.{roots}
+use Rattle.wrap_rules.specs.Plan.{roots}
 use Rattle.wrap_plan.specs.Closing.{Rest, whole, withEntries, Basis, Rooted, ClosedFrom, Plannable, PlanClosed}
 use Rattle.wrap_plan.proofs.Reached.{roots-over}
 use Rattle.wrap_plan.proofs.Starting.{written-room, written-read}
@@ -17,7 +17,7 @@ use Rattle.wrap_plan.proofs.core.build_order_wrap_plan.Tie as tie
 use Rattle.wrap_plan.proofs.core.build_order_wrap_plan.Reads as reads
 use Rattle.wrap_plan.proofs.core.build_order_wrap_plan.Lts as lts
 use Rattle.wrap_plan.proofs.core.close_from_roots.Reads as close-from-roots-reads
-use Rattle.wrap_plan.proofs.roots.list_roots.Reads as list-roots-reads
+use Rattle.wrap_rules.proofs.roots.list_roots.Reads as list-roots-reads
 
 -- the project with a rest, and what is known of it
 

@@ -10,9 +10,9 @@ use Rattle.lists.proofs.Laws.{length-marksOf}
 use Rattle.tables.specs.Project.{Project}
 use Rattle.tables.specs.Readings.{modules}
 use Rattle.at_risk.specs.Marks.{eligible}
-use Rattle.wrap_plan.specs.Plan.{roots}
+use Rattle.wrap_rules.specs.Plan.{roots}
 use Rattle.wrap_plan.specs.Closing.{Rest, whole, Made, Kept, Ready, Finished, Basis, Rooted, ClosedFrom}
-use Rattle.wrap_plan.proofs.Parts.{Lent, view, part-none, part-length, view-room, view-is, view-length}
+use Rattle.wrap_rules.proofs.Parts.{Lent, view, part-none, part-length, view-room, view-is, view-length}
 use Rattle.wrap_plan.proofs.Starting.{few-roots, made-from, kept-from}
 use borrow.Author.Needs.{needs}
 use Rattle.wrap_plan.proofs.core.close_from_roots.Statement.{statement}
@@ -20,7 +20,7 @@ use Rattle.wrap_plan.proofs.core.close_from_roots.Tie as tie
 use Rattle.wrap_plan.proofs.core.close_from_roots.Reads as reads
 use Rattle.wrap_plan.proofs.core.close_from_roots.Lts as lts
 use Rattle.wrap_plan.proofs.core.close_plan.Reads as close-plan-reads
-use Rattle.wrap_plan.proofs.roots.mark_candidates.Reads as mark-candidates-reads
+use Rattle.wrap_rules.proofs.roots.mark_candidates.Reads as mark-candidates-reads
 
 -- the project with a rest, and what is known of it
 

@@ -10,14 +10,14 @@ use Rattle.walk.specs.Close.{Within}
 use Rattle.tables.specs.Project.{Project}
 use Rattle.tables.specs.Readings.{modules}
 use Rattle.chunk_cycles.specs.Cycles.{labelsOf}
-use Rattle.wrap_plan.specs.Plan.{asked}
+use Rattle.wrap_rules.specs.Plan.{asked}
 use Rattle.wrap_plan.specs.Planned.{ordersOf}
-use Rattle.wrap_plan.specs.Passes.{Passed}
-use Rattle.wrap_plan.specs.Steps.{importTargets}
-use Rattle.wrap_plan.specs.Spread.{Under}
+use Rattle.wrap_rules.specs.Passes.{Passed}
+use Rattle.wrap_rules.specs.Steps.{importTargets}
+use Rattle.wrap_rules.specs.Spread.{Under}
 use Rattle.wrap_plan.specs.Closing.{Rest, whole, Made, Kept, Ready, Once}
 use Rattle.lists.proofs.Laws.{or-left, or-right}
-use Rattle.wrap_plan.proofs.Lists.{or-skip}
+use Rattle.wrap_rules.proofs.Lists.{or-skip}
 use Rattle.wrap_plan.proofs.AtProject.{symbols-fit}
 use Rattle.wrap_plan.proofs.Rounds.{under-more, suffixes-ready, roots-ready, members-ready, importing-ready, reading-ready, once}
 use borrow.Author.Needs.{needs}
@@ -25,10 +25,10 @@ use Rattle.wrap_plan.proofs.core.close_once.Statement.{statement}
 use Rattle.wrap_plan.proofs.core.close_once.Tie as tie
 use Rattle.wrap_plan.proofs.core.close_once.Reads as reads
 use Rattle.wrap_plan.proofs.core.close_once.Lts as lts
-use Rattle.wrap_plan.proofs.component.close_cyclic_chunk_members.Reads as close-cyclic-chunk-members-reads
-use Rattle.wrap_plan.proofs.imports.close_static_importers.Reads as close-static-importers-reads
-use Rattle.wrap_plan.proofs.reads.close_top_level_readers.Reads as close-top-level-readers-reads
-use Rattle.wrap_plan.proofs.suffixes.close_expected_sensitive_suffixes.Reads as close-expected-sensitive-suffixes-reads
+use Rattle.wrap_rules.proofs.component.close_cyclic_chunk_members.Reads as close-cyclic-chunk-members-reads
+use Rattle.wrap_rules.proofs.imports.close_static_importers.Reads as close-static-importers-reads
+use Rattle.wrap_rules.proofs.reads.close_top_level_readers.Reads as close-top-level-readers-reads
+use Rattle.wrap_rules.proofs.suffixes.close_expected_sensitive_suffixes.Reads as close-expected-sensitive-suffixes-reads
 
 -- the project with a rest, and what is known of it
 

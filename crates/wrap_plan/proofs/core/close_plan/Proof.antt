@@ -9,11 +9,11 @@ use lib.ListN.{length}
 use Rattle.lists.specs.Words.{zeros, bit}
 use Rattle.tables.specs.Project.{Project}
 use Rattle.chunk_cycles.specs.Cycles.{labelsOf}
-use Rattle.wrap_plan.specs.Plan.{asked}
+use Rattle.wrap_rules.specs.Plan.{asked}
 use Rattle.wrap_plan.specs.Planned.{ordersOf}
-use Rattle.wrap_plan.specs.Passes.{Passed}
+use Rattle.wrap_rules.specs.Passes.{Passed}
 use Rattle.wrap_plan.specs.Closing.{Rest, whole, Made, Kept, Ready, Once, Finished}
-use Rattle.wrap_plan.proofs.Passes.{spread-start, spread-step, spread-falls}
+use Rattle.wrap_rules.proofs.Passes.{spread-start, spread-step, spread-falls}
 use Rattle.wrap_plan.proofs.Rounds.{Turning, turning-end}
 use Rattle.wrap_plan.proofs.core.close_plan.Statement.{statement}
 use Rattle.wrap_plan.proofs.core.close_plan.Tie as tie

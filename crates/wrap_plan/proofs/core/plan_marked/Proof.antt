@@ -16,7 +16,7 @@ use Rattle.wrap_plan.proofs.core.plan_marked.Reads as reads
 use Rattle.wrap_plan.proofs.core.plan_marked.Lts as lts
 use Rattle.lists.proofs.core.fill.Reads as fill-reads
 use Rattle.wrap_plan.proofs.core.build_order_wrap_plan.Reads as build-order-wrap-plan-reads
-use Rattle.wrap_plan.proofs.marks.mark_owners.Reads as mark-owners-reads
+use Rattle.wrap_rules.proofs.seeds.mark_seeds.Reads as mark-seeds-reads
 
 -- the project with a rest, and what is known of it
 
@@ -31,30 +31,30 @@ unfolding Seedable
 ready e = e .pre .0
 
 -- the marks of the eligible seeds
-abbrev marks : tie.After-mark-owners → List ℕ
-marks k = k .mark-owners .last .1 .1 .1 .0
+abbrev marks : tie.After-mark-seeds → List ℕ
+marks k = k .mark-seeds .last .1 .1 .0
 
-basis : (k : tie.After-mark-owners) (rest : Rest) → MarkedOf (k .before .before .before .before .before .before .before .before .before .before .before .before .before .before .before .before .before .before .before .before .before .before .before .before .before .before .before .before .before .before .before .before .before) rest → let a = k .before .before .before .before .before .before .before .before .before .before .before .before .before .before .before .before .before .before .before .before .before .before .before .before .before .before .before .before .before .before .before .before .before .args in Basis (of (k .before .before .before .before .before .before .before .before .before .before .before .before .before .before .before .before .before .before .before .before .before .before .before .before .before .before .before .before .before .before .before .before .before) rest) (a .labels .now) (a .sensitive .now) (a .eligible .now) (marks k)
+basis : (k : tie.After-mark-seeds) (rest : Rest) → MarkedOf (k .before .before .before .before .before .before .before .before .before .before .before .before .before .before .before .before .before .before .before .before .before .before .before .before .before .before .before .before .before .before .before .before .before) rest → let a = k .before .before .before .before .before .before .before .before .before .before .before .before .before .before .before .before .before .before .before .before .before .before .before .before .before .before .before .before .before .before .before .before .before .args in Basis (of (k .before .before .before .before .before .before .before .before .before .before .before .before .before .before .before .before .before .before .before .before .before .before .before .before .before .before .before .before .before .before .before .before .before) rest) (a .labels .now) (a .sensitive .now) (a .eligible .now) (marks k)
 basis k rest m =
     let e = k .before .before .before .before .before .before .before .before .before .before .before .before .before .before .before .before .before .before .before .before .before .before .before .before .before .before .before .before .before .before .before .before .before in
     let a = e .args in
     let f = k .before .before .before .before .fill in
-    seeds-basis (of e rest) (a .labels .now) (a .sensitive .now) (a .eligible .now) (length (a .plan .now)) m (a .seeds .now) (f .last .0) (marks k) (f .ensures) (k .mark-owners .ensures)
+    seeds-basis (of e rest) (a .labels .now) (a .sensitive .now) (a .eligible .now) (length (a .plan .now)) m (a .seeds .now) (f .last .0) (marks k) (f .ensures) (k .mark-seeds .ensures)
 
-planned : (k : tie.After-mark-owners) (rest : Rest) → MarkedOf (k .before .before .before .before .before .before .before .before .before .before .before .before .before .before .before .before .before .before .before .before .before .before .before .before .before .before .before .before .before .before .before .before .before) rest → (made : List ℕ) → PlanClosed (of (k .before .before .before .before .before .before .before .before .before .before .before .before .before .before .before .before .before .before .before .before .before .before .before .before .before .before .before .before .before .before .before .before .before)) (k .before .before .before .before .before .before .before .before .before .before .before .before .before .before .before .before .before .before .before .before .before .before .before .before .before .before .before .before .before .before .before .before .before .args .labels .now) (k .before .before .before .before .before .before .before .before .before .before .before .before .before .before .before .before .before .before .before .before .before .before .before .before .before .before .before .before .before .before .before .before .before .args .sensitive .now) (k .before .before .before .before .before .before .before .before .before .before .before .before .before .before .before .before .before .before .before .before .before .before .before .before .before .before .before .before .before .before .before .before .before .args .eligible .now) (marks k) made
+planned : (k : tie.After-mark-seeds) (rest : Rest) → MarkedOf (k .before .before .before .before .before .before .before .before .before .before .before .before .before .before .before .before .before .before .before .before .before .before .before .before .before .before .before .before .before .before .before .before .before) rest → (made : List ℕ) → PlanClosed (of (k .before .before .before .before .before .before .before .before .before .before .before .before .before .before .before .before .before .before .before .before .before .before .before .before .before .before .before .before .before .before .before .before .before)) (k .before .before .before .before .before .before .before .before .before .before .before .before .before .before .before .before .before .before .before .before .before .before .before .before .before .before .before .before .before .before .before .before .before .args .labels .now) (k .before .before .before .before .before .before .before .before .before .before .before .before .before .before .before .before .before .before .before .before .before .before .before .before .before .before .before .before .before .before .before .before .before .args .sensitive .now) (k .before .before .before .before .before .before .before .before .before .before .before .before .before .before .before .before .before .before .before .before .before .before .before .before .before .before .before .before .before .before .before .before .before .args .eligible .now) (marks k) made
     → made ≡ planOf (of (k .before .before .before .before .before .before .before .before .before .before .before .before .before .before .before .before .before .before .before .before .before .before .before .before .before .before .before .before .before .before .before .before .before) rest) (k .before .before .before .before .before .before .before .before .before .before .before .before .before .before .before .before .before .before .before .before .before .before .before .before .before .before .before .before .before .before .before .before .before .args .seeds .now)
 unfolding PlanClosed
 planned k rest m made h =
     let e = k .before .before .before .before .before .before .before .before .before .before .before .before .before .before .before .before .before .before .before .before .before .before .before .before .before .before .before .before .before .before .before .before .before in
     let a = e .args in
     let f = k .before .before .before .before .fill in
-    seeds-planned (of e rest) (a .labels .now) (a .sensitive .now) (a .eligible .now) (length (a .plan .now)) m (a .seeds .now) (f .last .0) (marks k) (f .ensures) (k .mark-owners .ensures) made (h rest (basis k rest m))
+    seeds-planned (of e rest) (a .labels .now) (a .sensitive .now) (a .eligible .now) (length (a .plan .now)) m (a .seeds .now) (f .last .0) (marks k) (f .ensures) (k .mark-seeds .ensures) made (h rest (basis k rest m))
 
 fill-requires : tie.Need-fill-requires
 fill-requires c κs = search needs
 
-mark-owners-requires : tie.Need-mark-owners-requires
-mark-owners-requires c κs = (refl, c .before .before .before .before .before .before .before .before .before .before .before .before .before .before .before .before .before .before .before .before .before .before .before .before .before .before .before .before .before .before .before .before .pre .1)
+mark-seeds-requires : tie.Need-mark-seeds-requires
+mark-seeds-requires c κs = c .before .before .before .before .before .before .before .before .before .before .before .before .before .before .before .before .before .before .before .before .before .before .before .before .before .before .before .before .before .before .before .before .pre .1
 
 build-order-wrap-plan-requires : tie.Need-build-order-wrap-plan-requires
 unfolding Plannable
@@ -74,9 +74,4 @@ returns c =
 pub plan-marked-spec : {M : Type 1} → statement M
 plan-marked-spec =
     tie.close
-    (tie.spec
-    fill-requires
-    mark-owners-requires
-    build-order-wrap-plan-requires
-    same-length
-    returns)
+    (tie.spec fill-requires mark-seeds-requires build-order-wrap-plan-requires same-length returns)

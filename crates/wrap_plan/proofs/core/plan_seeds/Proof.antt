@@ -14,7 +14,7 @@ use Rattle.chunk_cycles.specs.Graph.{Graph}
 use Rattle.chunk_cycles.proofs.Promises.{accepted-fit}
 use Rattle.wrap_plan.specs.Planned.{planOf}
 use Rattle.wrap_plan.specs.Closing.{Rest, whole, filled, Marked, Seedable, SeedsPlanned, Acceptable, PlanCounted}
-use Rattle.wrap_plan.proofs.Parts.{Lent, view, part-length, view-room, view-is, view-length}
+use Rattle.wrap_rules.proofs.Parts.{Lent, view, part-length, view-room, view-is, view-length}
 use Rattle.wrap_plan.proofs.Seeding.{made-sensitive, made-eligible, made-labels, flags-fit, records-fit, uses-fit, statements-fit, kinds-fit}
 use borrow.Author.Needs.{needs}
 use Rattle.wrap_plan.proofs.core.plan_seeds.Statement.{statement}

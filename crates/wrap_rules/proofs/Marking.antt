@@ -1,0 +1,212 @@
+-- What the passes over rows mark: the steps put together.
+-- Assumes nothing.
+use mathlib.Core.Path.{_≡_, refl, sym, ap, subst, _∙_}
+use mathlib.Core.Logic.{_⊎_, inl, inr, ⊎-elim}
+use mathlib.Core.Bool.{Bool, true, false}
+use mathlib.Core.List.{List}
+use Prim.Native.Nat.{ℕ, _≤_, _<_}
+use native.Mathlib.Omega.{arith}
+use lib.ListN.{length, getD}
+use Rattle.lists.specs.Words.{has}
+use Rattle.lists.proofs.Laws.{has-in}
+use Rattle.walk.specs.Close.{Within}
+use Rattle.tables.specs.Project.{missing}
+use Rattle.chunk_cycles.proofs.Lists.{getD-in}
+use Rattle.wrap_rules.specs.Steps.{looked, Owners, Added, InAll}
+use Rattle.wrap_rules.specs.Asked.{Marks, Together, Row, Importer, ChainTouch, SymbolTouch, ReferenceTouch, Touching, bySymbol, byDepended, Reader, TopLevelRead}
+use Rattle.wrap_rules.proofs.Steps.{length-looked, looked-at, looked-has, has-looked}
+
+-- owners of rows, from a set that holds nothing
+module _ (owner value S s t : List ℕ) (none : (m : ℕ) → has s m ≡ true → ⊥) (lengths : length value ≡ length owner) (o : Owners owner (looked 0 S value) (length owner) s t) where
+  pub owners-row : (m : ℕ) → has t m ≡ true → Row owner value S m
+  owners-row m e =
+      ⊎-elim (λ h. absurd (none m h))
+      (λ r. record { row = r .0; there = r .1; named = r .3; holds = has-looked S value (r .0) (r .2) .1 })
+      (o .only m e)
+
+  pub row-owners : (m : ℕ) → m < length s → Row owner value S m → has t m ≡ true
+  row-owners m l r =
+      subst (λ (x : ℕ). has t x ≡ true) (r .named)
+      (o .new (r .row) (r .there) (looked-has S value (r .row) (omega (arith, lengths, r .there)) ∙ r .holds) (subst (λ (x : ℕ). x < length s) (sym (r .named)) l))
+
+-- (ii)
+
+module _ (chunk memberChunk member labels S hits₀ hits marks₀ marks : List ℕ)
+    (noHits : (m : ℕ) → has hits₀ m ≡ true → ⊥) (noMarks : (m : ℕ) → has marks₀ m ≡ true → ⊥)
+    (size : length hits₀ ≡ length labels) (chunks : length chunk ≡ length S) (rows : length memberChunk ≡ length member)
+    (h : Owners (looked missing labels chunk) S (length S) hits₀ hits)
+    (o : Owners member (looked 0 hits (looked missing labels memberChunk)) (length member) marks₀ marks) where
+  pub members-together : (m : ℕ) → has marks m ≡ true → Together chunk memberChunk member labels S m
+  members-together m e =
+      let r = owners-row member (looked missing labels memberChunk) hits marks₀ marks noMarks (length-looked missing labels memberChunk ∙ rows) o m e in
+      let label : getD (looked missing labels memberChunk) (r .row) 0 ≡ getD labels (getD memberChunk (r .row) 0) missing = looked-at missing labels memberChunk (r .row) 0 (omega (arith, rows, r .there)) in
+      ⊎-elim (λ k. absurd (noHits (getD (looked missing labels memberChunk) (r .row) 0) k))
+      (λ q.
+      let x = q .0 in
+      let of : getD (looked missing labels chunk) x 0 ≡ getD labels (getD chunk x 0) missing = looked-at missing labels chunk x 0 (omega (arith, chunks, q .1)) in
+      let within : getD (looked missing labels memberChunk) (r .row) 0 < length hits = has-in hits _ (r .holds) in
+      record {
+        row = r .row;
+        there = r .there;
+        named = r .named;
+        planned = x;
+        inside = omega (arith, chunks, q .1);
+        holds = q .2;
+        same = sym label ∙ sym (q .3) ∙ of;
+        labelled = subst (λ (i : ℕ). i < length labels) (sym (q .3) ∙ of) (omega (arith, within, h .len, size));
+      })
+      (h .only (getD (looked missing labels memberChunk) (r .row) 0) (r .holds))
+
+  pub together-members : (m : ℕ) → m < length marks₀ → Together chunk memberChunk member labels S m → has marks m ≡ true
+  together-members m l t =
+      let label : getD (looked missing labels memberChunk) (t .row) 0 ≡ getD labels (getD memberChunk (t .row) 0) missing = looked-at missing labels memberChunk (t .row) 0 (omega (arith, rows, t .there)) in
+      let of : getD (looked missing labels chunk) (t .planned) 0 ≡ getD labels (getD chunk (t .planned) 0) missing = looked-at missing labels chunk (t .planned) 0 (t .inside) in
+      let hit : has hits (getD (looked missing labels chunk) (t .planned) 0) ≡ true =
+      h .new (t .planned) (omega (arith, chunks, t .inside)) (t .holds) (subst (λ (i : ℕ). i < length hits₀) (sym of) (omega (arith, t .labelled, size)))
+      in
+      row-owners member (looked missing labels memberChunk) hits marks₀ marks noMarks (length-looked missing labels memberChunk ∙ rows) o m l
+      (record { row = t .row; there = t .there; named = t .named; holds = subst (λ (i : ℕ). has hits i ≡ true) (of ∙ sym (t .same) ∙ sym label) hit })
+
+-- (iii)
+
+module _ (recordModule targets dependencyModule dependency candidates S leads importers₀ importers dependents₀ dependents : List ℕ)
+    (noImporters : (m : ℕ) → has importers₀ m ≡ true → ⊥) (noDependents : (m : ℕ) → has dependents₀ m ≡ true → ⊥)
+    (target : length targets ≡ length recordModule) (depends : length dependency ≡ length dependencyModule)
+    (i : Owners recordModule (looked 0 leads targets) (length recordModule) importers₀ importers)
+    (d : Owners dependencyModule (looked 0 S dependency) (length dependencyModule) dependents₀ dependents) where
+  pub marked-importer : (m : ℕ) → InAll importers dependents candidates m → Importer recordModule targets dependencyModule dependency candidates S leads m
+  marked-importer m e = record {
+    candidate = e .2;
+    depends = owners-row dependencyModule dependency S dependents₀ dependents noDependents depends d m (e .1);
+    leading = owners-row recordModule targets leads importers₀ importers noImporters target i m (e .0);
+  }
+
+  pub importer-marked : (m : ℕ) → m < length importers₀ → m < length dependents₀ → Importer recordModule targets dependencyModule dependency candidates S leads m → InAll importers dependents candidates m
+  importer-marked m l k e = (
+    row-owners recordModule targets leads importers₀ importers noImporters target i m l (e .leading),
+    row-owners dependencyModule dependency S dependents₀ dependents noDependents depends d m k (e .depends),
+    e .candidate,
+  )
+
+-- (iv)
+
+pub chains-marked : (owner chainSymbol chainLink S chains₀ owners chains : List ℕ) → length chainLink ≡ length chainSymbol
+    → chains₀ ≡ looked 0 S owner → owners ≡ looked missing owner chainLink → Owners chainSymbol (looked 0 S owners) (length chainSymbol) chains₀ chains
+    → Marks (ChainTouch owner chainSymbol chainLink S) chains
+unfolding Within
+chains-marked owner chainSymbol chainLink S chains₀ owners chains links start look o = record { only = back; all = there }
+  where
+    count : length chains₀ ≡ length owner
+    count = ap length start ∙ length-looked 0 S owner
+
+    linked : (row : ℕ) → row < length chainSymbol → getD owners row 0 ≡ getD owner (getD chainLink row 0) missing
+    linked row l = ap (λ (xs : List ℕ). getD xs row 0) look ∙ looked-at missing owner chainLink row 0 (omega (arith, links))
+
+    back : (y : ℕ) → has chains y ≡ true → ChainTouch owner chainSymbol chainLink S y
+    back y e =
+        ⊎-elim
+        (λ h. let r = has-looked S owner y (subst (λ (xs : List ℕ). has xs y ≡ true) start h) in inl (subst (λ (x : ℕ). has S x ≡ true) (getD-in owner y 0 missing (r .0)) (r .1)))
+        (λ r. inr (r .0, r .1, r .3, subst (λ (x : ℕ). has S x ≡ true) (linked (r .0) (r .1)) (has-looked S owners (r .0) (r .2) .1)))
+        (o .only y e)
+
+    there : (y : ℕ) → y < length chains → ChainTouch owner chainSymbol chainLink S y → has chains y ≡ true
+    there y l t =
+        ⊎-elim
+        (λ h. let k : y < length owner = omega (arith, o .len, count) in o .old y (subst (λ (xs : List ℕ). has xs y ≡ true) (sym start) (looked-has S owner y k ∙ subst (λ (x : ℕ). has S x ≡ true) (getD-in owner y missing 0 k) h)))
+        (λ r.
+        let row = r .0 in
+        let k : row < length owners = omega (arith, r .1, links, ap length look ∙ length-looked missing owner chainLink) in
+        subst (λ (x : ℕ). has chains x ≡ true) (r .2)
+        (o .new row (r .1) (looked-has S owners row k ∙ subst (λ (x : ℕ). has S x ≡ true) (sym (linked row (r .1))) (r .3)) (subst (λ (x : ℕ). x < length chains₀) (sym (r .2)) (omega (arith, o .len)))))
+        t
+
+pub symbols-marked : (owner canonical chainSymbol chainLink S chains symbols₀ symbols : List ℕ) {changed : Bool} → length chains ≡ length owner → length canonical ≡ length owner
+    → ((y : ℕ) → y < length owner → getD canonical y 0 < length owner)
+    → Marks (ChainTouch owner chainSymbol chainLink S) chains → symbols₀ ≡ looked 0 chains canonical → Added (λ (m : ℕ). has chains m ≡ true) symbols₀ symbols changed
+    → Marks (SymbolTouch owner canonical chainSymbol chainLink S) symbols
+unfolding Within
+symbols-marked owner canonical chainSymbol chainLink S chains symbols₀ symbols count canonicals inside c start a = record {
+  only = λ y e.
+      ⊎-elim (λ h. inr (c .only (getD canonical y 0) (has-looked chains canonical y (subst (λ (xs : List ℕ). has xs y ≡ true) start h) .1)))
+      (λ h. inl (c .only y h))
+      (a .only y e);
+  all = λ y l t.
+      let k : y < length owner = omega (arith, a .len, size, l) in
+      ⊎-elim (λ h. a .all y (omega (arith, size)) (c .all y (omega (arith, count)) h))
+      (λ h. a .old y (subst (λ (xs : List ℕ). has xs y ≡ true) (sym start) (looked-has chains canonical y (omega (arith, canonicals)) ∙ c .all (getD canonical y 0) (omega (arith, count, inside y k)) h)))
+      t;
+}
+  where
+    size : length symbols₀ ≡ length owner
+    size = ap length start ∙ length-looked 0 chains canonical ∙ canonicals
+
+pub references-marked : (referenceSymbol dependedReference depended symbols references₀ references : List ℕ) → length depended ≡ length dependedReference
+    → references₀ ≡ looked 0 symbols referenceSymbol → Owners dependedReference (looked 0 symbols depended) (length dependedReference) references₀ references
+    → Marks (ReferenceTouch referenceSymbol dependedReference depended symbols) references
+unfolding Within
+references-marked referenceSymbol dependedReference depended symbols references₀ references depends start o = record {
+  only = λ r e.
+      ⊎-elim (λ h. inl (has-looked symbols referenceSymbol r (subst (λ (xs : List ℕ). has xs r ≡ true) start h) .1))
+      (λ q. inr (record { row = q .0; there = q .1; named = q .3; holds = has-looked symbols depended (q .0) (q .2) .1 }))
+      (o .only r e);
+  all = λ r l t.
+      let size : length references₀ ≡ length referenceSymbol = ap length start ∙ length-looked 0 symbols referenceSymbol in
+      ⊎-elim
+      (λ h. o .old r (subst (λ (xs : List ℕ). has xs r ≡ true) (sym start) (looked-has symbols referenceSymbol r (omega (arith, o .len, size)) ∙ h)))
+      (λ q.
+      subst (λ (x : ℕ). has references x ≡ true) (q .named)
+      (o .new (q .row) (q .there) (looked-has symbols depended (q .row) (omega (arith, depends, q .there)) ∙ q .holds) (subst (λ (x : ℕ). x < length references₀) (sym (q .named)) (omega (arith, o .len)))))
+      t;
+}
+
+pub touching-marked : (owner canonical chainSymbol chainLink referenceSymbol dependedReference depended S symbols references : List ℕ) → length symbols ≡ length owner
+    → Marks (SymbolTouch owner canonical chainSymbol chainLink S) symbols → Marks (ReferenceTouch referenceSymbol dependedReference depended symbols) references
+    → Marks (Touching owner canonical chainSymbol chainLink referenceSymbol dependedReference depended S) references
+touching-marked owner canonical chainSymbol chainLink referenceSymbol dependedReference depended S symbols references size s r = record {
+  only = λ i e.
+      ⊎-elim
+      (λ h. bySymbol (rw size at (has-in symbols (getD referenceSymbol i 0) h)) (s .only (getD referenceSymbol i 0) h))
+      (λ q. byDepended (q .row) (q .there) (q .named) (rw size at (has-in symbols (getD depended (q .row) 0) (q .holds))) (s .only (getD depended (q .row) 0) (q .holds)))
+      (r .only i e);
+  all = λ i l t. r .all i l (go i t);
+}
+  where
+    go : (i : ℕ) → Touching owner canonical chainSymbol chainLink referenceSymbol dependedReference depended S i → ReferenceTouch referenceSymbol dependedReference depended symbols i
+    go i (bySymbol l t) = inl (s .all (getD referenceSymbol i 0) (omega (arith, size)) t)
+    go i (byDepended d k q l t) = inr (record { row = d; there = k; named = q; holds = s .all (getD depended d 0) (omega (arith, size)) t })
+
+pub readers-marked : (statementModule referenceStatement references owners readers₀ readers : List ℕ) → ((m : ℕ) → has readers₀ m ≡ true → ⊥)
+    → owners ≡ looked missing statementModule referenceStatement → Owners owners references (length owners) readers₀ readers
+    → Marks (Reader statementModule referenceStatement references) readers
+readers-marked statementModule referenceStatement references owners readers₀ readers none look o = record {
+  only = λ m e.
+      ⊎-elim (λ h. absurd (none m h))
+      (λ q. let l : q .0 < length referenceStatement = omega (arith, q .1, size) in record { row = q .0; there = l; named = sym (at (q .0) l) ∙ q .3; holds = q .2 })
+      (o .only m e);
+  all = λ m l r.
+      let k : r .row < length owners = omega (arith, size, r .there) in
+      let named : getD owners (r .row) 0 ≡ m = at (r .row) (r .there) ∙ r .named in
+      subst (λ (x : ℕ). has readers x ≡ true) named (o .new (r .row) k (r .holds) (subst (λ (x : ℕ). x < length readers₀) (sym named) (omega (arith, o .len))));
+}
+  where
+    size : length owners ≡ length referenceStatement
+    size = ap length look ∙ length-looked missing statementModule referenceStatement
+
+    at : (row : ℕ) → row < length referenceStatement → getD owners row 0 ≡ getD statementModule (getD referenceStatement row 0) missing
+    at row l = ap (λ (xs : List ℕ). getD xs row 0) look ∙ looked-at missing statementModule referenceStatement row 0 l
+
+module _ (reads statementModule owner canonical chainSymbol chainLink referenceStatement referenceSymbol dependedReference depended candidates S references readers : List ℕ)
+    (size : length references ≡ length referenceStatement)
+    (t : Marks (Touching owner canonical chainSymbol chainLink referenceSymbol dependedReference depended S) references)
+    (r : Marks (Reader statementModule referenceStatement references) readers) where
+  pub marked-read : (m : ℕ) → InAll readers reads candidates m → TopLevelRead reads statementModule owner canonical chainSymbol chainLink referenceStatement referenceSymbol dependedReference depended candidates S m
+  marked-read m e =
+      let q = r .only m (e .0) in
+      record { candidate = e .2; reading = e .1; row = q .row; there = q .there; named = q .named; touches = t .only (q .row) (q .holds) }
+
+  pub read-marked : (m : ℕ) → m < length readers → TopLevelRead reads statementModule owner canonical chainSymbol chainLink referenceStatement referenceSymbol dependedReference depended candidates S m → InAll readers reads candidates m
+  read-marked m l q = (
+    r .all m l (record { row = q .row; there = q .there; named = q .named; holds = t .all (q .row) (omega (arith, size, q .there)) (q .touches) }),
+    q .reading,
+    q .candidate,
+  )

@@ -1,0 +1,179 @@
+-- The steps over one table: what holds after each turn of their loops.
+-- Assumes nothing.
+use mathlib.Core.Path.{_≡_, refl, sym, ap, subst, _∙_}
+use mathlib.Core.Logic.{_⊎_, inl, inr, ⊎-elim}
+use mathlib.Core.Bool.{Bool, true, false, cond, not, true≢false, false≢true}
+use mathlib.Core.List.{List, map}
+use Prim.Native.Nat.{ℕ, _+_, _≤_, _<_}
+use native.Mathlib.Omega.{arith}
+use native.Mathlib.Decide.{ℕ-discrete}
+use lib.ListN.{length, getD, set, length-set}
+use lib.Seq.{ext-getD, getD-set-same, getD-set-other}
+use Rattle.lists.specs.Words.{isZero, upTo, has}
+use Rattle.lists.proofs.Laws.{has-in}
+use Rattle.walk.specs.Close.{Within, Bits}
+use Rattle.walk.proofs.Visits.{fresh-zero, set-zeros, set-bits}
+use Rattle.tables.specs.Project.{missing}
+use Rattle.tables.specs.Readings.{isImport}
+use Rattle.chunk_cycles.proofs.Lists.{getD-map-upTo, length-map-upTo}
+use Rattle.wrap_rules.specs.Steps.{looked, importTargets, Owners, Adding, Added}
+use Rattle.wrap_rules.proofs.Passes.{has-set, set-has}
+
+-- writing a column from place 0
+
+pub record Writing (f : ℕ → ℕ) (n i : ℕ) (out : List ℕ) : Type 0 where
+  pub len : length out ≡ n
+  pub done : (j : ℕ) → j < i → getD out j 0 ≡ f j
+
+module _ (f : ℕ → ℕ) (n : ℕ) where
+  pub writing-start : (out : List ℕ) → length out ≡ n → Writing f n 0 out
+  writing-start out e = record { len = e; done = λ j l. absurd (omega arith) }
+
+  module _ (i : ℕ) (out : List ℕ) (g : Writing f n i out) where
+    pub writing-put : (x : ℕ) → i < n → x ≡ f i → Writing f n (i + 1) (set out i x)
+    writing-put x l e = record { len = length-set out i x ∙ g .len; done = λ j k. pick j k (ℕ-discrete j i) }
+      where
+        pick : (j : ℕ) → j < i + 1 → Dec (j ≡ i) → getD (set out i x) j 0 ≡ f j
+        pick j k (yes q) = ap (λ (y : ℕ). getD (set out i x) y 0) q ∙ getD-set-same out i x 0 (omega (arith, g .len)) ∙ e ∙ ap f (sym q)
+        pick j k (no q) = getD-set-other out i j x 0 q ∙ g .done j (omega arith)
+
+    pub writing-end : n ≤ i → out ≡ map f (upTo n)
+    writing-end l =
+        ext-getD 0 out (map f (upTo n)) (g .len ∙ sym (length-map-upTo f n))
+        (λ j k. let b : j < n = omega (arith, g .len) in g .done j (omega arith) ∙ sym (getD-map-upTo f n j 0 b))
+
+-- a mark that was just put is in
+pub set-in : (t : List ℕ) (m : ℕ) → m < length t → has (set t m 1) m ≡ true
+set-in t m l = ap (λ (x : ℕ). not (isZero x)) (getD-set-same t m 1 0 l)
+
+-- marking owners of rows
+
+module _ (owner rows s : List ℕ) where
+  pub owners-start : Owners owner rows 0 s s
+  unfolding Within
+  owners-start = record { len = refl; bits = λ b. b; old = λ i e. e; new = λ row l. absurd (omega arith); only = λ m e. inl e }
+
+  module _ (i : ℕ) (t : List ℕ) (g : Owners owner rows i s t) where
+    pub owners-pass : (has rows i ≡ true → getD owner i 0 < length s → ⊥) → Owners owner rows (i + 1) s t
+    owners-pass n = record {
+      len = g .len;
+      bits = g .bits;
+      old = g .old;
+      new = λ row l e k. go row e k (ℕ-discrete row i) l;
+      only = λ m e. ⊎-elim (λ a. inl a) (λ r. inr (r .0, omega (arith, r .1), r .2, r .3)) (g .only m e);
+    }
+      where
+        go : (row : ℕ) → has rows row ≡ true → getD owner row 0 < length s → Dec (row ≡ i) → row < i + 1 → has t (getD owner row 0) ≡ true
+        go row e k (yes q) l = absurd (n (rw q at e) (rw q at k))
+        go row e k (no q) l = g .new row (omega arith) e k
+
+    pub owners-put : has rows i ≡ true → getD owner i 0 < length t → Owners owner rows (i + 1) s (set t (getD owner i 0) 1)
+    unfolding Within
+    owners-put h l = record {
+      len = length-set t (getD owner i 0) 1 ∙ g .len;
+      bits = λ b. set-bits t (getD owner i 0) (g .bits b);
+      old = λ m e. has-set t (getD owner i 0) m (g .old m e);
+      new = λ row k e b. go row e b (ℕ-discrete row i) k;
+      only = λ m e.
+          ⊎-elim (λ q. inr (i, omega arith, h, sym q))
+          (λ k. ⊎-elim (λ a. inl a) (λ r. inr (r .0, omega (arith, r .1), r .2, r .3)) (g .only m k))
+          (set-has t (getD owner i 0) m e);
+    }
+      where
+        go : (row : ℕ) → has rows row ≡ true → getD owner row 0 < length s → Dec (row ≡ i) → row < i + 1 → has (set t (getD owner i 0) 1) (getD owner row 0) ≡ true
+        go row e k (yes q) b = subst (λ (x : ℕ). has (set t (getD owner i 0) 1) (getD owner x 0) ≡ true) (sym q) (set-in t (getD owner i 0) l)
+        go row e k (no q) b = has-set t (getD owner i 0) (getD owner row 0) (g .new row (omega arith) e k)
+
+-- adding to a set
+
+module _ (f : ℕ → Type 0) (s : List ℕ) where
+  pub adding-start : Adding f 0 s s false
+  unfolding Within
+  adding-start = record {
+    len = refl;
+    bits = λ b. b;
+    old = λ i e. e;
+    all = λ m l. absurd (omega arith);
+    only = λ m e. inl e;
+    fewer = omega arith;
+    same = λ e. refl;
+    falls = λ e. absurd (false≢true e);
+  }
+
+  module _ (i : ℕ) (t : List ℕ) (changed : Bool) (g : Adding f i s t changed) where
+    pub adding-pass : (f i → has t i ≡ true) → Adding f (i + 1) s t changed
+    adding-pass h = record {
+      len = g .len;
+      bits = g .bits;
+      old = g .old;
+      all = λ m l a. go m a (ℕ-discrete m i) l;
+      only = g .only;
+      fewer = g .fewer;
+      same = g .same;
+      falls = g .falls;
+    }
+      where
+        go : (m : ℕ) → f m → Dec (m ≡ i) → m < i + 1 → has t m ≡ true
+        go m a (yes q) l = subst (λ (x : ℕ). has t x ≡ true) (sym q) (h (subst f q a))
+        go m a (no q) l = g .all m (omega arith) a
+
+    pub adding-put : f i → i < length t → getD t i 0 ≡ 0 → Adding f (i + 1) s (set t i 1) true
+    unfolding Within
+    adding-put a l e =
+        let z = set-zeros t i (fresh-zero t i l e) in
+        record {
+          len = length-set t i 1 ∙ g .len;
+          bits = λ b. set-bits t i (g .bits b);
+          old = λ m h. has-set t i m (g .old m h);
+          all = λ m k h. go m h (ℕ-discrete m i) k;
+          only = λ m h. ⊎-elim (λ q. inr (subst f (sym q) a)) (g .only m) (set-has t i m h);
+          fewer = omega (arith, g .fewer);
+          same = λ q. absurd (true≢false q);
+          falls = λ q. omega (arith, g .fewer);
+        }
+      where
+        go : (m : ℕ) → f m → Dec (m ≡ i) → m < i + 1 → has (set t i 1) m ≡ true
+        go m h (yes q) k = subst (λ (x : ℕ). has (set t i 1) x ≡ true) (sym q) (set-in t i l)
+        go m h (no q) k = has-set t i m (g .all m (omega arith) h)
+
+-- what holds of the same places is added the same
+pub added-cong : (f g : ℕ → Type 0) {s t : List ℕ} {changed : Bool} → ((m : ℕ) → m < length s → g m → f m) → ((m : ℕ) → f m → g m) → Added f s t changed → Added g s t changed
+added-cong f g there back a = record {
+  len = a .len;
+  bits = a .bits;
+  old = a .old;
+  all = λ m l h. a .all m l (there m l h);
+  only = λ m e. ⊎-elim (λ h. inl h) (λ h. inr (back m h)) (a .only m e);
+  fewer = a .fewer;
+  same = a .same;
+  falls = a .falls;
+}
+
+-- values looked up
+
+pub length-looked : (other : ℕ) (table column : List ℕ) → length (looked other table column) ≡ length column
+unfolding looked
+length-looked other table column = length-map-upTo (λ (row : ℕ). getD table (getD column row 0) other) (length column)
+
+pub looked-at : (other : ℕ) (table column : List ℕ) (row d : ℕ) → row < length column → getD (looked other table column) row d ≡ getD table (getD column row 0) other
+unfolding looked
+looked-at other table column row d l = getD-map-upTo (λ (i : ℕ). getD table (getD column i 0) other) (length column) row d l
+
+pub looked-has : (set column : List ℕ) (row : ℕ) → row < length column → has (looked 0 set column) row ≡ has set (getD column row 0)
+looked-has set column row l = ap (λ (x : ℕ). not (isZero x)) (looked-at 0 set column row 0 l)
+
+-- a row that is marked there
+pub has-looked : (set column : List ℕ) (row : ℕ) → has (looked 0 set column) row ≡ true → (row < length column) × (has set (getD column row 0) ≡ true)
+has-looked set column row e =
+    let l : row < length column = rw (length-looked 0 set column) at (has-in (looked 0 set column) row e) in
+    (l, sym (looked-has set column row l) ∙ e)
+
+-- the targets of the kind 0 records
+
+pub length-targets : (kind target : List ℕ) → length (importTargets kind target) ≡ length target
+unfolding importTargets
+length-targets kind target = length-map-upTo (λ (row : ℕ). cond (isImport (getD kind row 0)) (getD target row 0) missing) (length target)
+
+pub target-at : (kind target : List ℕ) (row d : ℕ) → row < length target → getD (importTargets kind target) row d ≡ cond (isImport (getD kind row 0)) (getD target row 0) missing
+unfolding importTargets
+target-at kind target row d l = getD-map-upTo (λ (i : ℕ). cond (isImport (getD kind i 0)) (getD target i 0) missing) (length target) row d l

@@ -1,0 +1,108 @@
+-- `wrap_rules::reads::close_top_level_readers` meets its contract: references that touch, modules that have them, and of these the candidates that read.
+-- Assumes nothing.
+use Prim.Native.Nat.{ℕ, _≤_, _<_}
+use mathlib.Core.Path.{_≡_, refl, sym, ap, subst, _∙_}
+use mathlib.Core.List.{List}
+use native.Mathlib.Omega.{arith}
+use lib.ListN.{length}
+use Rattle.wrap_rules.specs.Steps.{Added, InAll}
+use Rattle.wrap_rules.specs.Asked.{Marks, Reader}
+use Rattle.wrap_rules.proofs.Parts.{Lent, view, part-none, part-length, made-length, view-room, view-is, view-length}
+use Rattle.wrap_rules.proofs.Steps.{added-cong}
+use Rattle.wrap_rules.proofs.Marking.{marked-read, read-marked}
+use borrow.Author.Needs.{needs}
+use Rattle.wrap_rules.proofs.reads.close_top_level_readers.Statement.{statement}
+use Rattle.wrap_rules.proofs.reads.close_top_level_readers.Tie as tie
+use Rattle.wrap_rules.proofs.reads.close_top_level_readers.Reads as reads
+use Rattle.wrap_rules.proofs.reads.close_top_level_readers.Lts as lts
+use Rattle.wrap_rules.proofs.marks.add.Reads as add-reads
+use Rattle.wrap_rules.proofs.reads.mark_readers.Reads as mark-readers-reads
+use Rattle.wrap_rules.proofs.reads.mark_touching.Reads as mark-touching-reads
+
+abbrev rows : tie.Start → ℕ
+rows e = length (e .args .reference-statement .now)
+
+abbrev size : tie.Start → ℕ
+size e = length (e .args .plan .now)
+
+abbrev references : tie.After-mark-touching → List ℕ
+references k = k .mark-touching .last .1 .1 .1 .1 .1 .1 .1 .1 .0
+
+references-lent : (k : tie.After-mark-touching) → Lent 16384 (rows (k .before .before .before .before .before .before .before .before .before .before .before .before .before .before .before)) (references k)
+references-lent k = record { fits = k .before .before .before .before .before .before .before .before .before .before .before .before .before .before .before .pre .1 .fewReferences; kept = k .mark-touching .kept .1 .1 .1 .1 .1 .1 .1 .1 .0 }
+
+abbrev readers : tie.After-mark-readers → List ℕ
+readers k = k .mark-readers .last .1 .1 .1 .0
+
+readers-lent : (k : tie.After-mark-readers) → Lent 4096 (size (k .before .before .before .before .before .before .before .before .before .before .before .before .before .before .before .before .before .before .before)) (readers k)
+readers-lent k = record { fits = k .before .before .before .before .before .before .before .before .before .before .before .before .before .before .before .before .before .before .before .pre .1 .few; kept = k .mark-readers .kept .1 .1 .1 .0 }
+
+array-borrow-prefix-references : tie.Need-array-borrow-prefix-references
+array-borrow-prefix-references c = c .before .before .before .before .before .before .before .before .before .before .before .before .before .pre .1 .fewReferences
+
+slice-aggregate-mark-touching : tie.Need-slice-aggregate-mark-touching
+slice-aggregate-mark-touching c = let e = c .before .before .before .before .before .before .before .before .before .before .before .before .before .before in sym (part-length 16384 (rows e) (e .pre .1 .fewReferences))
+
+mark-touching-requires : tie.Need-mark-touching-requires
+mark-touching-requires c κs = let e = c .before .before .before .before .before .before .before .before .before .before .before .before .before .before in (e .pre .0, (part-length 16384 (rows e) (e .pre .1 .fewReferences) ∙ sym (e .pre .1 .symbols), (e .pre .1 .depends, e .pre .1 .fewDepended)))
+
+array-share-prefix-references : tie.Need-array-share-prefix-references
+array-share-prefix-references c = view-room (references-lent (c .before))
+
+slice-aggregate-mark-readers : tie.Need-slice-aggregate-mark-readers
+slice-aggregate-mark-readers c = sym (view-length (references-lent (c .before .before)))
+
+array-borrow-prefix-readers : tie.Need-array-borrow-prefix-readers
+array-borrow-prefix-readers c = c .before .before .before .before .before .before .before .before .before .before .before .before .before .before .before .before .before .pre .1 .few
+
+slice-aggregate-mark-readers-2 : tie.Need-slice-aggregate-mark-readers-2
+slice-aggregate-mark-readers-2 c = let e = c .before .before .before .before .before .before .before .before .before .before .before .before .before .before .before .before .before .before in sym (part-length 4096 (size e) (e .pre .1 .few))
+
+mark-readers-requires : tie.Need-mark-readers-requires
+mark-readers-requires c κs = let e = c .before .before .before .before .before .before .before .before .before .before .before .before .before .before .before .before .before .before in (view-length (references-lent (c .before .before .before)), (e .pre .1 .fewReferences, part-none 4096 (size e)))
+
+array-share-prefix-readers : tie.Need-array-share-prefix-readers
+array-share-prefix-readers c = view-room (readers-lent (c .before))
+
+slice-aggregate-add : tie.Need-slice-aggregate-add
+slice-aggregate-add c = sym (view-length (readers-lent (c .before .before)))
+
+add-requires : tie.Need-add-requires
+add-requires c κs = (view-length (readers-lent (c .before .before .before)), (c .before .before .before .before .before .before .before .before .before .before .before .before .before .before .before .before .before .before .before .before .before .before .pre .1 .read, c .before .before .before .before .before .before .before .before .before .before .before .before .before .before .before .before .before .before .before .before .before .before .pre .1 .candidate))
+
+same-length : tie.Need-same-length
+same-length c = search needs
+
+returns : tie.Need-returns
+returns c =
+    let e = c .before .before .before .before .before .before .before .before .before .before .before .before .before .before .before .before .before .before .before .before .before .before .before .before .before in
+    let a = e .args in
+    let k = c .before .before .before .before .before .before .before .before .before .before in
+    let r = c .before .before .before .before .before .before in
+    let o = c .before .before .add in
+    let size′ : length (references k) ≡ rows e = made-length (references-lent k) in
+    let marks : Marks (Reader (a .statement-module .now) (a .reference-statement .now) (references k)) (readers r) =
+    subst (λ (s : List ℕ). Marks (Reader (a .statement-module .now) (a .reference-statement .now) s) (readers r)) (view-is (references-lent k)) (r .mark-readers .ensures)
+    in
+    added-cong (InAll (readers r) (a .reads .now) (a .candidates .now)) _
+    (λ m l. read-marked (a .reads .now) (a .statement-module .now) (a .owner .now) (a .canonical .now) (a .chain-symbol .now) (a .chain-link .now) (a .reference-statement .now) (a .reference-symbol .now) (a .depended-reference .now) (a .depended .now) (a .candidates .now) (a .plan .now) (references k) (readers r) size′ (k .mark-touching .ensures) marks m (omega (arith, made-length (readers-lent r))))
+    (marked-read (a .reads .now) (a .statement-module .now) (a .owner .now) (a .canonical .now) (a .chain-symbol .now) (a .chain-link .now) (a .reference-statement .now) (a .reference-symbol .now) (a .depended-reference .now) (a .depended .now) (a .candidates .now) (a .plan .now) (references k) (readers r) size′ (k .mark-touching .ensures) marks)
+    (subst (λ (s : List ℕ). Added (InAll s (a .reads .now) (a .candidates .now)) (a .plan .now) (o .last .1 .1 .1 .0) (o .result)) (view-is (readers-lent r)) (o .ensures))
+
+pub close-top-level-readers-spec : {M : Type 1} → statement M
+close-top-level-readers-spec =
+    tie.close
+    (tie.spec
+    array-borrow-prefix-references
+    slice-aggregate-mark-touching
+    mark-touching-requires
+    array-share-prefix-references
+    slice-aggregate-mark-readers
+    array-borrow-prefix-readers
+    slice-aggregate-mark-readers-2
+    mark-readers-requires
+    array-share-prefix-readers
+    slice-aggregate-add
+    add-requires
+    same-length
+    returns)

@@ -1,0 +1,32 @@
+-- `wrap_rules::reads::mark_references` meets its contract: symbols first, then depended ones.
+-- Assumes nothing.
+use mathlib.Core.List.{List}
+use Rattle.wrap_rules.proofs.Marking.{references-marked}
+use borrow.Author.Needs.{needs}
+use Rattle.wrap_rules.proofs.reads.mark_references.Statement.{statement}
+use Rattle.wrap_rules.proofs.reads.mark_references.Tie as tie
+use Rattle.wrap_rules.proofs.reads.mark_references.Reads as reads
+use Rattle.wrap_rules.proofs.reads.mark_references.Lts as lts
+use Rattle.wrap_rules.proofs.marks.look_up.Reads as look-up-reads
+use Rattle.wrap_rules.proofs.marks.mark_owners.Reads as mark-owners-reads
+
+look-up-requires : tie.Need-look-up-requires
+look-up-requires c κs = c .before .before .before .before .before .before .pre .0
+
+mark-owners-requires : tie.Need-mark-owners-requires
+mark-owners-requires c κs = (c .before .before .before .before .before .before .before .before .before .before .pre .1 .0, c .before .before .before .before .before .before .before .before .before .before .pre .1 .1)
+
+same-length : tie.Need-same-length
+same-length c = search needs
+
+returns : tie.Need-returns
+returns c =
+    let e = c .before .before .before .before .before .before .before .before .before .before .before .before .before in
+    let a = e .args in
+    let o = c .before .before .mark-owners in
+    let first = c .before .before .before .before .before .before .look-up in
+    references-marked (a .reference-symbol .now) (a .depended-reference .now) (a .depended .now) (a .symbols .now) (first .last .1 .1 .0) (o .last .1 .1 .1 .0) (e .pre .1 .0) (first .ensures) (o .ensures)
+
+pub mark-references-spec : {M : Type 1} → statement M
+mark-references-spec =
+    tie.close (tie.spec look-up-requires mark-owners-requires same-length returns)

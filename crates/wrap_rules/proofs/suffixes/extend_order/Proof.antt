@@ -1,0 +1,64 @@
+-- `wrap_rules::suffixes::extend_order` meets its contract: the suffix is planned, and where it is the whole sensitive order all is planned then.
+-- Assumes nothing.
+use Prim.Native.Nat.{ℕ, _<_}
+use mathlib.Core.Path.{_≡_, refl, sym, ap, subst, _∙_}
+use mathlib.Core.Logic.{inl, inr}
+use native.Mathlib.Omega.{arith}
+use lib.ListN.{length, getD, length-set}
+use borrow.Author.Needs.{needs}
+use Rattle.wrap_rules.proofs.Extending.{whole-planned}
+use borrow.Author.Needs.{needs}
+use Rattle.wrap_rules.proofs.suffixes.extend_order.Statement.{statement}
+use Rattle.wrap_rules.proofs.suffixes.extend_order.Tie as tie
+use Rattle.wrap_rules.proofs.suffixes.extend_order.Reads as reads
+use Rattle.wrap_rules.proofs.suffixes.extend_order.Lts as lts
+use Rattle.wrap_rules.proofs.suffixes.add_suffix.Reads as add-suffix-reads
+use Rattle.wrap_rules.proofs.suffixes.is_whole.Reads as is-whole-reads
+
+is-whole-requires : tie.Need-is-whole-requires
+is-whole-requires c κs =
+    let e = c .before .before .before .before .before .before in
+    let p = e .pre in
+    (λ i l. subst (λ (n : ℕ). getD (e .args .order .now) i 0 < n) (sym (p .1 .0)) (p .0 i l), sym (p .1 .0))
+
+add-suffix-requires : tie.Need-add-suffix-requires
+add-suffix-requires c κs = let p = c .before .before .before .before .before .before .before .before .pre in (p .0, (p .1 .0, (p .1 .1 .0, p .1 .1 .1 .0)))
+
+mul-settled : tie.Need-mul-settled
+mul-settled c = search needs
+
+slice-write-settled : tie.Need-slice-write-settled
+slice-write-settled c = search needs
+
+same-length : tie.Need-same-length
+same-length c = search needs
+
+same-length-2 : tie.Need-same-length-2
+same-length-2 c = search needs
+
+returns : tie.Need-returns
+returns c =
+    let e = c .before .before .before .before .before .before .before .before .before .before .before .before in
+    let a = e .args in
+    let s = c .before .before .before .add-suffix in
+    record { added = s .ensures; settles = inr (refl, whole-planned (a .order .now) (a .sensitive .now) (a .eligible .now) (e .pre .0) (c .before .before .before .before .before .is-whole .ensures (c .if1 .taken)) (s .ensures)) }
+
+same-length-3 : tie.Need-same-length-3
+same-length-3 c = search needs
+
+returns-2 : tie.Need-returns-2
+returns-2 c = record { added = c .before .before .before .add-suffix .ensures; settles = inl refl }
+
+pub extend-order-spec : {M : Type 1} → statement M
+extend-order-spec =
+    tie.close
+    (tie.spec
+    is-whole-requires
+    add-suffix-requires
+    mul-settled
+    slice-write-settled
+    same-length
+    same-length-2
+    returns
+    same-length-3
+    returns-2)

@@ -1,0 +1,57 @@
+-- `wrap_rules::suffixes::mark_suffix` meets its contract: the first planned member is found, and what stands from it on is marked.
+-- Assumes nothing.
+use mathlib.Core.Path.{subst}
+use mathlib.Core.List.{List}
+use Prim.Native.Nat.{ℕ}
+use lib.ListN.{length}
+use Rattle.wrap_rules.specs.Steps.{looked, Owners}
+use Rattle.wrap_rules.proofs.Extending.{take-rest, suffix-marked}
+use borrow.Author.Needs.{needs}
+use Rattle.wrap_rules.proofs.suffixes.mark_suffix.Statement.{statement}
+use Rattle.wrap_rules.proofs.suffixes.mark_suffix.Tie as tie
+use Rattle.wrap_rules.proofs.suffixes.mark_suffix.Reads as reads
+use Rattle.wrap_rules.proofs.suffixes.mark_suffix.Lts as lts
+use Rattle.wrap_rules.proofs.marks.mark_owners.Reads as mark-owners-reads
+use Rattle.wrap_rules.proofs.suffixes.first_in.Reads as first-in-reads
+
+first-in-requires : tie.Need-first-in-requires
+first-in-requires c κs = search needs
+
+mul-suffix : tie.Need-mul-suffix
+mul-suffix c = search needs
+
+sub-suffix : tie.Need-sub-suffix
+sub-suffix c = search needs
+
+part-suffix-start : tie.Need-part-suffix-start
+part-suffix-start c = search needs
+
+part-suffix-end : tie.Need-part-suffix-end
+part-suffix-end c = search needs
+
+mark-owners-requires : tie.Need-mark-owners-requires
+mark-owners-requires c κs = search needs
+
+same-length : tie.Need-same-length
+same-length c = search needs
+
+returns : tie.Need-returns
+returns c =
+    let a = c .before .before .before .before .before .before .before .before .before .before .args in
+    let f = c .before .before .before .before .before .first-in in
+    let o = c .before .before .mark-owners in
+    suffix-marked (a .order .now) (a .sensitive .now) (a .plan .now) (a .marks .now) (o .last .1 .1 .1 .0) (f .result) (c .before .before .before .before .before .before .before .before .before .before .pre .1 .1 .1) (f .ensures)
+    (subst (λ (xs : List ℕ). Owners xs (looked 0 (a .sensitive .now) xs) (length xs) (a .marks .now) (o .last .1 .1 .1 .0)) (take-rest (f .result) (a .order .now)) (o .ensures))
+
+pub mark-suffix-spec : {M : Type 1} → statement M
+mark-suffix-spec =
+    tie.close
+    (tie.spec
+    first-in-requires
+    mul-suffix
+    sub-suffix
+    part-suffix-start
+    part-suffix-end
+    mark-owners-requires
+    same-length
+    returns)

@@ -1,0 +1,9 @@
+// The four rules: one pass of each over a set of marks, and what the passes start from. For crates above, on tested tables.
+pub mod component;
+pub mod imports;
+mod marks;
+pub mod reads;
+pub mod roots;
+pub mod seeds;
+mod spread;
+pub mod suffixes;

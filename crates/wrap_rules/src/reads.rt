@@ -1,0 +1,174 @@
+// Rule (iv): a reached eligible module with `reads` 1 and a statement whose reference touches the plan.
+ghost use mathlib.Core.Path.{_≡_};
+ghost use mathlib.Core.Bool.{true};
+ghost use Prim.Native.Nat.{ℕ, _≤_};
+ghost use lib.ListN.{length};
+ghost use Rattle.lists.specs.Words.{has};
+ghost use Rattle.wrap_rules.specs.Steps.{Owners, Added};
+ghost use Rattle.wrap_rules.specs.Asked.{Marks, ChainTouch, SymbolTouch, ReferenceTouch, Touching, Reader, Symbols, Reading, TopLevelRead};
+use crate::marks::add;
+use crate::marks::join;
+use crate::marks::look_up;
+use crate::marks::mark_owners;
+use crate::marks::mark_rows;
+use tables::ModuleIdx;
+
+// Marks the symbols whose owner is planned, or a link owner in whose chain.
+fn mark_chains(
+    owner: &[u32],
+    chain_symbol: &[u32],
+    chain_link: &[u32],
+    plan: &[u32],
+    chains: &mut [u32],
+)
+    requires rows { ⌜ length (now chains) ≡ length (now owner) ⌝ }
+    requires links { ⌜ length (now «chain_link») ≡ length (now «chain_symbol») ⌝ }
+    requires few { ⌜ length (now «chain_symbol») ≤ 16384 ⌝ }
+    ensures { λ _. ⌜ Marks (ChainTouch (now (owner .entry)) (now («chain_symbol» .entry)) (now («chain_link» .entry)) (now (plan .entry))) (now (chains .exit)) ⌝ }
+{
+    look_up(owner, plan, chains, 0);
+    let n = chain_symbol.len();
+    let mut owners = [0u32; 16384];
+    look_up(chain_link, owner, &mut owners[..n], ModuleIdx::MISSING);
+    mark_owners(chain_symbol, &owners[..n], plan, chains);
+}
+
+// Marks the symbols that touch the plan, by themselves or by their canonical.
+fn mark_symbols(
+    owner: &[u32],
+    canonical: &[u32],
+    chain_symbol: &[u32],
+    chain_link: &[u32],
+    plan: &[u32],
+    symbols: &mut [u32],
+)
+    requires columns { ⌜ Symbols (now owner) (now canonical) (now «chain_symbol») (now «chain_link») ⌝ }
+    requires rows { ⌜ length (now symbols) ≡ length (now owner) ⌝ }
+    ensures { λ _. ⌜ Marks (SymbolTouch (now (owner .entry)) (now (canonical .entry)) (now («chain_symbol» .entry)) (now («chain_link» .entry)) (now (plan .entry))) (now (symbols .exit)) ⌝ }
+{
+    let n = owner.len();
+    let mut chains = [0u32; 16384];
+    mark_chains(owner, chain_symbol, chain_link, plan, &mut chains[..n]);
+    look_up(canonical, &chains[..n], symbols, 0);
+    join(&chains[..n], symbols);
+}
+
+// Marks the references to a symbol that touches the plan, or with a depended one.
+fn mark_references(
+    reference_symbol: &[u32],
+    depended_reference: &[u32],
+    depended: &[u32],
+    symbols: &[u32],
+    references: &mut [u32],
+)
+    requires rows { ⌜ length (now references) ≡ length (now «reference_symbol») ⌝ }
+    requires depends { ⌜ length (now depended) ≡ length (now «depended_reference») ⌝ }
+    requires few { ⌜ length (now «depended_reference») ≤ 16384 ⌝ }
+    ensures { λ _. ⌜ Marks (ReferenceTouch (now («reference_symbol» .entry)) (now («depended_reference» .entry)) (now (depended .entry)) (now (symbols .entry))) (now (references .exit)) ⌝ }
+{
+    look_up(reference_symbol, symbols, references, 0);
+    mark_owners(depended_reference, depended, symbols, references);
+}
+
+// Marks the modules of the statements with a marked reference, included or not.
+fn mark_readers(
+    statement_module: &[u32],
+    reference_statement: &[u32],
+    references: &[u32],
+    readers: &mut [u32],
+)
+    requires rows { ⌜ length (now references) ≡ length (now «reference_statement») ⌝ }
+    requires few { ⌜ length (now «reference_statement») ≤ 16384 ⌝ }
+    requires none { ⌜ ((m : ℕ) → has (now readers) m ≡ true → ⊥) ⌝ }
+    ensures { λ _. ⌜ Marks (Reader (now («statement_module» .entry)) (now («reference_statement» .entry)) (now (references .entry))) (now (readers .exit)) ⌝ }
+{
+    let n = reference_statement.len();
+    let mut owners = [0u32; 16384];
+    look_up(
+        reference_statement,
+        statement_module,
+        &mut owners[..n],
+        ModuleIdx::MISSING,
+    );
+    mark_rows(&owners[..n], references, readers);
+}
+
+// Marks the references that touch the plan.
+fn mark_touching(
+    owner: &[u32],
+    canonical: &[u32],
+    chain_symbol: &[u32],
+    chain_link: &[u32],
+    reference_symbol: &[u32],
+    depended_reference: &[u32],
+    depended: &[u32],
+    plan: &[u32],
+    references: &mut [u32],
+)
+    requires columns { ⌜ Symbols (now owner) (now canonical) (now «chain_symbol») (now «chain_link») ⌝ }
+    requires rows { ⌜ length (now references) ≡ length (now «reference_symbol») ⌝ }
+    requires depends { ⌜ length (now depended) ≡ length (now «depended_reference») ⌝ }
+    requires few { ⌜ length (now «depended_reference») ≤ 16384 ⌝ }
+    ensures { λ _. ⌜ Marks (Touching (now (owner .entry)) (now (canonical .entry)) (now («chain_symbol» .entry)) (now («chain_link» .entry)) (now («reference_symbol» .entry)) (now («depended_reference» .entry)) (now (depended .entry)) (now (plan .entry))) (now (references .exit)) ⌝ }
+{
+    let n = owner.len();
+    let mut symbols = [0u32; 16384];
+    mark_symbols(
+        owner,
+        canonical,
+        chain_symbol,
+        chain_link,
+        plan,
+        &mut symbols[..n],
+    );
+    mark_references(
+        reference_symbol,
+        depended_reference,
+        depended,
+        &symbols[..n],
+        references,
+    );
+}
+
+// One pass of rule (iv) over the candidates, the reached eligible modules. Whether any module was added.
+pub fn close_top_level_readers(
+    reads: &[u32],
+    statement_module: &[u32],
+    owner: &[u32],
+    canonical: &[u32],
+    chain_symbol: &[u32],
+    chain_link: &[u32],
+    reference_statement: &[u32],
+    reference_symbol: &[u32],
+    depended_reference: &[u32],
+    depended: &[u32],
+    candidates: &[u32],
+    plan: &mut [u32],
+) -> bool
+    requires symbols { ⌜ Symbols (now owner) (now canonical) (now «chain_symbol») (now «chain_link») ⌝ }
+    requires columns { ⌜ Reading (now reads) (now «reference_statement») (now «reference_symbol») (now «depended_reference») (now depended) (now candidates) (length (now plan)) ⌝ }
+    ensures { λ r. ⌜ Added (TopLevelRead (now (reads .entry)) (now («statement_module» .entry)) (now (owner .entry)) (now (canonical .entry)) (now («chain_symbol» .entry)) (now («chain_link» .entry)) (now («reference_statement» .entry)) (now («reference_symbol» .entry)) (now («depended_reference» .entry)) (now (depended .entry)) (now (candidates .entry)) (now (plan .entry))) (now (plan .entry)) (now (plan .exit)) r ⌝ }
+{
+    let rows = reference_statement.len();
+    let mut references = [0u32; 16384];
+    mark_touching(
+        owner,
+        canonical,
+        chain_symbol,
+        chain_link,
+        reference_symbol,
+        depended_reference,
+        depended,
+        plan,
+        &mut references[..rows],
+    );
+    let n = plan.len();
+    let mut readers = [0u32; 4096];
+    mark_readers(
+        statement_module,
+        reference_statement,
+        &references[..rows],
+        &mut readers[..n],
+    );
+    add(&readers[..n], reads, candidates, plan)
+}

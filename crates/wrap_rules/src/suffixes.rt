@@ -1,0 +1,178 @@
+// Rule (i): from the first planned module of an analysed entry's expected sensitive order on, every eligible one.
+ghost use mathlib.Core.Path.{_≡_};
+ghost use mathlib.Core.Bool.{true};
+ghost use Prim.Native.Nat.{ℕ, _≤_, _<_};
+ghost use lib.ListN.{length, getD};
+ghost use Rattle.lists.specs.Words.{has};
+ghost use Rattle.walk.specs.Close.{Bits};
+ghost use Rattle.tables.specs.Accepted.{Below};
+ghost use Rattle.expected_order.specs.Expected.{expected};
+ghost use Rattle.wrap_rules.specs.Passes.{Passed};
+ghost use Rattle.wrap_rules.specs.Rules.{suffixAsks};
+ghost use Rattle.wrap_rules.specs.Steps.{Added};
+ghost use Rattle.wrap_rules.specs.Asked.{Marks};
+ghost use Rattle.wrap_rules.specs.Suffix.{FirstIn, InSuffix, WholeSuffix, Extended, sensitiveOrders, Settled, Suffixes};
+use crate::marks::add;
+use crate::marks::mark_owners;
+use expected_order::core::expected_order_for_root;
+
+// The place of the first member of an order that is in two sets, or the order's length.
+fn first_in(order: &[u32], first: &[u32], second: &[u32]) -> usize
+    requires members { ⌜ Below (length (now first)) (now order) ⌝ }
+    requires rows { ⌜ length (now second) ≡ length (now first) ⌝ }
+    ensures { λ r. ⌜ FirstIn (now (first .entry)) (now (second .entry)) (now (order .entry)) r ⌝ }
+{
+    for k in 0..order.len() {
+        let at = order[k] as usize;
+        if first[at] == 0 {
+            continue;
+        }
+        if second[at] != 0 {
+            return k;
+        }
+    }
+    order.len()
+}
+
+// Whether the first sensitive member of an order is planned.
+fn is_whole(order: &[u32], sensitive: &[u32], plan: &[u32]) -> bool
+    requires members { ⌜ Below (length (now sensitive)) (now order) ⌝ }
+    requires rows { ⌜ length (now plan) ≡ length (now sensitive) ⌝ }
+    ensures { λ r. ⌜ (r ≡ true → WholeSuffix (now (order .entry)) (now (sensitive .entry)) (now (plan .entry))) ⌝ }
+{
+    let first = first_in(order, sensitive, sensitive);
+    let from = first_in(order, sensitive, plan);
+    from == first
+}
+
+// Marks the sensitive members of an order from the first planned one on.
+fn mark_suffix(order: &[u32], sensitive: &[u32], plan: &[u32], marks: &mut [u32])
+    requires members { ⌜ Below (length (now sensitive)) (now order) ⌝ }
+    requires rows { ⌜ length (now plan) ≡ length (now sensitive) ⌝ }
+    requires few { ⌜ length (now order) ≤ 4096 ⌝ }
+    requires none { ⌜ ((m : ℕ) → has (now marks) m ≡ true → ⊥) ⌝ }
+    ensures { λ _. ⌜ Marks (InSuffix (now (order .entry)) (now (sensitive .entry)) (now (plan .entry))) (now (marks .exit)) ⌝ }
+{
+    let from = first_in(order, sensitive, plan);
+    let suffix = &order[from..];
+    mark_owners(suffix, suffix, sensitive, marks);
+}
+
+// Plans the eligible ones of these. Whether any was added.
+fn add_suffix(order: &[u32], sensitive: &[u32], eligible: &[u32], plan: &mut [u32]) -> bool
+    requires members { ⌜ Below (length (now plan)) (now order) ⌝ }
+    requires sensitive { ⌜ length (now sensitive) ≡ length (now plan) ⌝ }
+    requires eligible { ⌜ length (now eligible) ≡ length (now plan) ⌝ }
+    requires few { ⌜ (length (now plan) ≤ 4096) × (length (now order) ≤ 4096) ⌝ }
+    ensures { λ r. ⌜ Added (λ m. InSuffix (now (order .entry)) (now (sensitive .entry)) (now (plan .entry)) m × (has (now (eligible .entry)) m ≡ true)) (now (plan .entry)) (now (plan .exit)) r ⌝ }
+{
+    let n = plan.len();
+    let mut marks = [0u32; 4096];
+    mark_suffix(order, sensitive, plan, &mut marks[..n]);
+    add(&marks[..n], eligible, eligible, plan)
+}
+
+// Plans the suffix of an order, and settles its entry if it is the whole sensitive order. Whether any module was added.
+fn extend_order(
+    order: &[u32],
+    sensitive: &[u32],
+    eligible: &[u32],
+    settled: &mut [u32],
+    plan: &mut [u32],
+    k: usize,
+) -> bool
+    requires members { ⌜ Below (length (now plan)) (now order) ⌝ }
+    requires sensitive { ⌜ length (now sensitive) ≡ length (now plan) ⌝ }
+    requires eligible { ⌜ length (now eligible) ≡ length (now plan) ⌝ }
+    requires few { ⌜ (length (now plan) ≤ 4096) × (length (now order) ≤ 4096) ⌝ }
+    requires entry { ⌜ k < length (now settled) ⌝ }
+    ensures { λ r. ⌜ Extended (now (order .entry)) (now (sensitive .entry)) (now (eligible .entry)) k (now (settled .entry)) (now (settled .exit)) (now (plan .entry)) (now (plan .exit)) r ⌝ }
+{
+    let whole = is_whole(order, sensitive, plan);
+    let changed = add_suffix(order, sensitive, eligible, plan);
+    if whole {
+        settled[k] = 1;
+    }
+    changed
+}
+
+// The same for the expected order of an entry's root.
+fn extend_entry<'a>(
+    normal: &'a [u32],
+    included: &'a [u32],
+    record_module: &'a [u32],
+    record_kind: &'a [u32],
+    record_target: &'a [u32],
+    sensitive: &[u32],
+    eligible: &[u32],
+    settled: &mut [u32],
+    plan: &mut [u32],
+    root: u32,
+    k: usize,
+) -> bool
+    requires columns { ⌜ Suffixes (now normal) (now included) (now «record_module») (now «record_kind») (now «record_target») (now sensitive) (now eligible) (length (now plan)) ⌝ }
+    requires root { ⌜ root < length (now plan) ⌝ }
+    requires entry { ⌜ k < length (now settled) ⌝ }
+    ensures { λ r. ⌜ Extended (expected (now (normal .entry)) (now (included .entry)) (now («record_module» .entry)) (now («record_kind» .entry)) (now («record_target» .entry)) root) (now (sensitive .entry)) (now (eligible .entry)) k (now (settled .entry)) (now (settled .exit)) (now (plan .entry)) (now (plan .exit)) r ⌝ }
+{
+    let n = plan.len();
+    let mut marks = [0u32; 4096];
+    let mut order = [0u32; 4096];
+    let count = expected_order_for_root(
+        normal,
+        included,
+        record_module,
+        record_kind,
+        record_target,
+        &mut marks[..n],
+        &mut order[..n],
+        root,
+    );
+    extend_order(&order[..count], sensitive, eligible, settled, plan, k)
+}
+
+// One pass of rule (i) over the entries' roots; a settled one isn't walked again. Whether any module was added.
+pub fn close_expected_sensitive_suffixes<'a>(
+    normal: &'a [u32],
+    included: &'a [u32],
+    record_module: &'a [u32],
+    record_kind: &'a [u32],
+    record_target: &'a [u32],
+    roots: &[u32],
+    sensitive: &[u32],
+    eligible: &[u32],
+    settled: &mut [u32],
+    plan: &mut [u32],
+) -> bool
+    requires columns { ⌜ Suffixes (now normal) (now included) (now «record_module») (now «record_kind») (now «record_target») (now sensitive) (now eligible) (length (now plan)) ⌝ }
+    requires roots { ⌜ Below (length (now plan)) (now roots) ⌝ }
+    requires marks { ⌜ length (now settled) ≡ length (now roots) ⌝ }
+    requires settled { ⌜ Settled (now normal) (now included) (now «record_module») (now «record_kind») (now «record_target») (now roots) (now sensitive) (now eligible) (now settled) (now plan) ⌝ }
+    requires bits { ⌜ Bits (now plan) ⌝ }
+    ensures settled { λ _. ⌜ Settled (now (normal .entry)) (now (included .entry)) (now («record_module» .entry)) (now («record_kind» .entry)) (now («record_target» .entry)) (now (roots .entry)) (now (sensitive .entry)) (now (eligible .entry)) (now (settled .exit)) (now (plan .exit)) ⌝ }
+    ensures plan { λ r. ⌜ Passed (suffixAsks (has (now (eligible .entry))) (sensitiveOrders (now (normal .entry)) (now (included .entry)) (now («record_module» .entry)) (now («record_kind» .entry)) (now («record_target» .entry)) (now (sensitive .entry)) (now (roots .entry)))) (now (plan .entry)) (now (plan .exit)) r ⌝ }
+{
+    let mut changed = false;
+    for k in 0..roots.len() {
+        if settled[k] != 0 {
+            continue;
+        }
+        if !extend_entry(
+            normal,
+            included,
+            record_module,
+            record_kind,
+            record_target,
+            sensitive,
+            eligible,
+            settled,
+            plan,
+            roots[k],
+            k,
+        ) {
+            continue;
+        }
+        changed = true;
+    }
+    changed
+}
