@@ -1,0 +1,2 @@
+-- The rows as columns.
+pub mod Rows
