@@ -1,0 +1,2 @@
+-- What the exported functions promise.
+pub mod Exported

@@ -1,0 +1,16 @@
+/* The plan of document 01's listing: prints "2 modules to wrap: 1 3". */
+#include "jolmuqter.h"
+#include <stdio.h>
+
+int main(void) {
+  const uint32_t counts[14] = {4, 2, 2, 0, 0, 0, 0, 0, 0, 2, 4, 1, 1, 0};
+  const uint32_t columns[] = {1, 1, 1, 1, 1, 1, 1, 1, 0, 1, 1, 1, 0, 0, 0, 0, 1, 1, 1, 1, 0, 0, 0, 0, 1, 0, 0, 1, /* modules */
+                              1, 1, 0, 0, 2, 3, /* records */ 1, 1, 2, 3, /* dependencies */ 1, 0, /* order */
+                              0, 0, 1, 1, 2, 1, 0, 3, /* members */ 0, 1, /* imports */ 1, 0 /* entries */};
+  uint32_t plan[4];
+  uint64_t answer = jolmuqter_plan(0, 0, counts, 14, columns, sizeof columns / 4, plan, 4);
+  if (answer >= JOLMUQTER_REFUSED) return printf("refused %d\n", (int)(answer - JOLMUQTER_REFUSED)), 1;
+  printf("%d modules to wrap:", (int)answer);
+  for (int module = 0; module < 4; module++) if (plan[module]) printf(" %d", module);
+  return puts("") < 0;
+}

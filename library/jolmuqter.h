@@ -1,0 +1,86 @@
+/* The order planner's operations, from target/staticlib/libjolmuqter.a (`rt staticlib jolmuqter`, x86-64 Linux).
+ *
+ * A slice is a pointer and a length in elements, in this order; a pointer is aligned and isn't null, even where the length is 0. Outputs overlap
+ * neither each other nor the inputs. A call uses less than 2 MB of stack (measured: up to 1.7 MB), keeps nothing, and may run
+ * in several threads at once.
+ *
+ * Inputs of every call:
+ *   runtime   the runtime module
+ *   dynamic   1 if `code_splitting` is disabled, else 0
+ *   counts    the row count of each of the 14 lists below, in this order
+ *   columns   all 33 columns one after the other, list by list in this order; a column has as many values as its list has rows
+ *
+ *   modules        normal (1, external 0), included, sensitive, reads (0 or 1 each), exports (0 None, 1 Esm, 2 CommonJs),
+ *                  wrap (0 None, 1 Cjs, 2 Esm), chunk or the mark                                                        1 to 4,096 rows
+ *   records        module, kind (0 Import, 1 Require, 2 dynamic import, 3 other), target module or the mark              sorted by module
+ *   dependencies   module, dependency
+ *   statements     module, included (0 or 1)                                                                             sorted by module
+ *   uses           statement, record
+ *   symbols        owner (a module), canonical (a symbol)
+ *   chains         symbol, link (a symbol)
+ *   references     statement, form (0 symbol, 1 member without resolution, 2 with), symbol or the mark
+ *   depended       reference, symbol
+ *   chunks         order                                                                                                 0 to 1,024 rows
+ *   members        chunk, member (a module)                                                                              sorted by chunk
+ *   imports        chunk, imported chunk                                                                                 sorted by chunk
+ *   entries        module, chunk or the mark
+ *   seeds          module                                                          0 to 16,384 rows, as any list with no other limit
+ *
+ * Rows count from 0. The mark, JOLMUQTER_MISSING, stands for a value that is missing.
+ *
+ * Answers: below 2^32 the count, and the outputs are written from place 0; places past what is written stay as they were. Else 2^32 plus the
+ * number of a refusal, and no output is changed; the lowest number that applies:
+ *   1  counts that don't match the columns, a list over its limit, or no module
+ *   2  a value outside its column
+ *   3  records, statements, members or imports not sorted by their first column
+ *   4  an external with a record or a statement; a use of another module's record; a depended row for form 0 or 1; form 0 or 1 without a symbol;
+ *      an entry or an import pair twice
+ *   5  a root, chunk or seed without a row, a root for risk or actual order that isn't an analysed entry (included, with a chunk), or over
+ *      16,384 seeds
+ *   6  an output that is too short: every output needs a place for each module, labels one for each chunk
+ */
+#ifndef JOLMUQTER_H
+#define JOLMUQTER_H
+#include <stddef.h>
+#include <stdint.h>
+
+#define JOLMUQTER_MISSING UINT32_C(4294967295)
+#define JOLMUQTER_REFUSED UINT64_C(4294967296)
+#define JOLMUQTER_TABLE                                                                                                \
+  uint32_t runtime, uint32_t dynamic, const uint32_t *counts, size_t counts_len, const uint32_t *columns, size_t columns_len
+
+#ifdef __cplusplus
+extern "C" {
+#endif
+
+/* The test of the tables alone, which every other call makes first. Count: 0. */
+uint64_t jolmuqter_refusal(JOLMUQTER_TABLE);
+
+/* numbers: a place a module, the mark where it is unreached. sorted: the listed modules. Count: that of listed modules. */
+uint64_t jolmuqter_sort_modules(JOLMUQTER_TABLE, uint32_t *numbers, size_t numbers_len, uint32_t *sorted, size_t sorted_len);
+
+/* order: the expected order of any module row. Count: that of listed modules. */
+uint64_t jolmuqter_expected_order(JOLMUQTER_TABLE, uint32_t root, uint32_t *order, size_t order_len);
+
+/* order: the actual order of an analysed entry. hosts: a place a module, the mark where none is noted. Count: that of listed modules. */
+uint64_t jolmuqter_actual_order(JOLMUQTER_TABLE, uint32_t root, uint32_t *order, size_t order_len, uint32_t *hosts, size_t hosts_len);
+
+/* labels: a place a chunk, the lowest chunk row of its cyclic component, else the mark. Count: that of cyclic chunks. */
+uint64_t jolmuqter_labels(JOLMUQTER_TABLE, uint32_t *labels, size_t labels_len);
+
+/* Count: 1 if the chunk reaches a cyclic one, itself counted, else 0. */
+uint64_t jolmuqter_chunk_reach(JOLMUQTER_TABLE, uint32_t chunk);
+
+/* risk: 0 or 1 for each module, of an analysed entry. Count: that of ones. */
+uint64_t jolmuqter_risk(JOLMUQTER_TABLE, uint32_t root, uint32_t *risk, size_t risk_len);
+
+/* plan: 0 or 1 for each module, from these seeds (the table's seed rows aren't used). Count: that of ones. */
+uint64_t jolmuqter_plan_from_seeds(JOLMUQTER_TABLE, const uint32_t *seeds, size_t seeds_len, uint32_t *plan, size_t plan_len);
+
+/* plan: 0 or 1 for each module, of the whole analysis: from all analysed entries' risks and the seed rows. Count: that of ones. */
+uint64_t jolmuqter_plan(JOLMUQTER_TABLE, uint32_t *plan, size_t plan_len);
+
+#ifdef __cplusplus
+}
+#endif
+#endif

@@ -1,0 +1,197 @@
+/* Each function from C on document 01's listing, with known answers, and how much stack the deepest projects take. */
+#define _GNU_SOURCE
+#include "jolmuqter.h"
+#include <pthread.h>
+#include <stdio.h>
+#include <stdlib.h>
+#include <string.h>
+
+#define NO JOLMUQTER_MISSING
+#define LENGTH(a) (sizeof(a) / sizeof *(a))
+#define REFUSED(n) (JOLMUQTER_REFUSED + (n))
+#define LIST(...) ((const uint32_t[]){__VA_ARGS__})
+
+static int failures, checks;
+
+static void expect(int line, uint64_t answer, uint64_t known) {
+  checks++;
+  if (answer == known) return;
+  failures++;
+  printf("known.c:%d: %llu, not %llu\n", line, (unsigned long long)answer, (unsigned long long)known);
+}
+
+static void hold(int line, const uint32_t *slice, const uint32_t *known, size_t n) {
+  for (size_t i = 0; i < n; i++) expect(line, slice[i], known[i]);
+}
+#define EXPECT(answer, known) expect(__LINE__, answer, known)
+#define HOLD(slice, ...) hold(__LINE__, slice, LIST(__VA_ARGS__), LENGTH(LIST(__VA_ARGS__)))
+
+/* A table that grows column by column. */
+typedef struct {
+  uint32_t counts[14], *columns;
+  size_t length;
+} Table;
+#define TABLE(t) 0, 0, (t).counts, 14, (t).columns, (t).length
+
+static void column(Table *t, int list, const uint32_t *values, size_t n) {
+  t->columns = realloc(t->columns, (t->length + n + 1) * sizeof *values);
+  if (n) memcpy(t->columns + t->length, values, n * sizeof *values);
+  t->length += n;
+  t->counts[list] = (uint32_t)n;
+}
+#define COLUMN(t, list, ...) column(t, list, LIST(__VA_ARGS__), LENGTH(LIST(__VA_ARGS__)))
+
+/* Document 01's listing, with other `normal` values and imports. */
+static Table listing(const uint32_t normal[4], const uint32_t *from, const uint32_t *to, size_t imports) {
+  Table t = {{0}, NULL, 0};
+  column(&t, 0, normal, 4);
+  COLUMN(&t, 0, 1, 1, 1, 1), COLUMN(&t, 0, 0, 1, 1, 1), COLUMN(&t, 0, 0, 0, 0, 0);
+  COLUMN(&t, 0, 1, 1, 1, 1), COLUMN(&t, 0, 0, 0, 0, 0), COLUMN(&t, 0, 1, 0, 0, 1);
+  COLUMN(&t, 1, 1, 1), COLUMN(&t, 1, 0, 0), COLUMN(&t, 1, 2, 3);
+  COLUMN(&t, 2, 1, 1), COLUMN(&t, 2, 2, 3);
+  COLUMN(&t, 9, 1, 0);
+  COLUMN(&t, 10, 0, 0, 1, 1), COLUMN(&t, 10, 2, 1, 0, 3);
+  column(&t, 11, from, imports), column(&t, 11, to, imports);
+  COLUMN(&t, 12, 1), COLUMN(&t, 12, 0);
+  return t;
+}
+
+static void answers(void) {
+  const uint32_t *normal = LIST(1, 1, 1, 1);
+  Table t = listing(normal, LIST(0), LIST(1), 1);
+  Table back = listing(normal, LIST(0, 1), LIST(1, 0), 2);
+  Table self = listing(normal, LIST(0, 0), LIST(0, 1), 2);
+  Table external = listing(LIST(1, 1, 1, 0), LIST(0), LIST(1), 1);
+  Table twice = listing(normal, LIST(0, 0), LIST(1, 1), 2);
+  Table fallen = listing(normal, LIST(1, 0), LIST(0, 1), 2);
+  uint32_t a[5] = {9, 9, 9, 9, 9}, b[5] = {9, 9, 9, 9, 9};
+
+  EXPECT(jolmuqter_refusal(TABLE(t)), 0);
+  EXPECT(jolmuqter_refusal(0, 0, t.counts, 13, t.columns, t.length), REFUSED(1));
+  EXPECT(jolmuqter_refusal(0, 0, t.counts, 14, t.columns, t.length - 1), REFUSED(1));
+  EXPECT(jolmuqter_refusal(0, 0, t.counts, 14, t.columns, t.length + 1), REFUSED(1));
+  EXPECT(jolmuqter_refusal(4, 0, t.counts, 14, t.columns, t.length), REFUSED(2));
+  EXPECT(jolmuqter_refusal(0, 2, t.counts, 14, t.columns, t.length), REFUSED(2));
+  EXPECT(jolmuqter_refusal(TABLE(fallen)), REFUSED(3));
+  EXPECT(jolmuqter_refusal(TABLE(twice)), REFUSED(4));
+
+  EXPECT(jolmuqter_sort_modules(TABLE(t), a, 3, b, 4), REFUSED(6));
+  EXPECT(jolmuqter_sort_modules(TABLE(t), a, 4, b, 3), REFUSED(6));
+  EXPECT(jolmuqter_sort_modules(0, 0, t.counts, 14, t.columns, 0, a, 4, b, 4), REFUSED(1));
+  HOLD(a, 9, 9, 9, 9, 9), HOLD(b, 9, 9, 9, 9, 9);
+  EXPECT(jolmuqter_sort_modules(TABLE(t), a, 4, b, 4), 4);
+  HOLD(a, 0, 3, 1, 2, 9), HOLD(b, 0, 2, 3, 1, 9);
+
+  memset(a, 0, sizeof a);
+  EXPECT(jolmuqter_expected_order(TABLE(t), 1, a, 5), 3);
+  HOLD(a, 2, 3, 1, 0, 0);
+  EXPECT(jolmuqter_expected_order(TABLE(external), 3, a, 5), 0);
+  EXPECT(jolmuqter_expected_order(TABLE(t), 4, a, 5), REFUSED(5));
+  EXPECT(jolmuqter_expected_order(TABLE(t), 1, a, 3), REFUSED(6));
+  HOLD(a, 2, 3, 1, 0, 0);
+
+  EXPECT(jolmuqter_actual_order(TABLE(t), 0, a, 4, b, 4), REFUSED(5));
+  EXPECT(jolmuqter_actual_order(TABLE(t), 1, a, 4, b, 3), REFUSED(6));
+  HOLD(a, 2, 3, 1, 0), HOLD(b, 0, 2, 3, 1);
+  EXPECT(jolmuqter_actual_order(TABLE(t), 1, a, 4, b, 4), 4);
+  HOLD(a, 0, 3, 2, 1), HOLD(b, NO, NO, NO, NO);
+
+  EXPECT(jolmuqter_labels(TABLE(t), a, 1), REFUSED(6));
+  EXPECT(jolmuqter_labels(TABLE(t), a, 2), 0);
+  HOLD(a, NO, NO, 2);
+  EXPECT(jolmuqter_labels(TABLE(back), a, 2), 2);
+  HOLD(a, 0, 0, 2);
+  EXPECT(jolmuqter_labels(TABLE(self), a, 2), 1);
+  HOLD(a, 0, NO, 2);
+
+  EXPECT(jolmuqter_chunk_reach(TABLE(t), 0), 0);
+  EXPECT(jolmuqter_chunk_reach(TABLE(self), 0), 1);
+  EXPECT(jolmuqter_chunk_reach(TABLE(self), 1), 0);
+  EXPECT(jolmuqter_chunk_reach(TABLE(t), 2), REFUSED(5));
+
+  EXPECT(jolmuqter_risk(TABLE(t), 1, a, 4), 1);
+  HOLD(a, 0, 0, 0, 1);
+  EXPECT(jolmuqter_risk(TABLE(t), 2, a, 4), REFUSED(5));
+  EXPECT(jolmuqter_risk(TABLE(t), 1, a, 3), REFUSED(6));
+
+  EXPECT(jolmuqter_plan_from_seeds(TABLE(t), LIST(9), 0, a, 4), 0);
+  HOLD(a, 0, 0, 0, 0);
+  EXPECT(jolmuqter_plan_from_seeds(TABLE(t), LIST(0), 1, a, 4), 0);
+  HOLD(a, 0, 0, 0, 0);
+  EXPECT(jolmuqter_plan_from_seeds(TABLE(t), LIST(1), 1, a, 4), 1);
+  HOLD(a, 0, 1, 0, 0);
+  EXPECT(jolmuqter_plan_from_seeds(TABLE(t), LIST(2), 1, a, 4), 3);
+  HOLD(a, 0, 1, 1, 1);
+  EXPECT(jolmuqter_plan_from_seeds(TABLE(back), LIST(1), 1, a, 4), 3);
+  HOLD(a, 0, 1, 1, 1);
+  EXPECT(jolmuqter_plan_from_seeds(TABLE(t), LIST(1, 4), 2, a, 4), REFUSED(5));
+  EXPECT(jolmuqter_plan_from_seeds(TABLE(t), LIST(1), 1, a, 3), REFUSED(6));
+  HOLD(a, 0, 1, 1, 1);
+
+  EXPECT(jolmuqter_plan(TABLE(t), a, 3), REFUSED(6));
+  HOLD(a, 0, 1, 1, 1);
+  EXPECT(jolmuqter_plan(TABLE(t), a, 4), 2);
+  HOLD(a, 0, 1, 0, 1);
+}
+
+enum { MODULES = 4096, CHUNKS = 1024, STACK = 16 << 20 };
+
+/* A chain of 4,096 modules and one of 1,024 chunks; the first module stands in the last chunk, and the other modules have this wrap. */
+static Table chains(uint32_t wrap) {
+  static uint32_t up[MODULES], next[MODULES], zero[MODULES], one[MODULES], wraps[MODULES], in[MODULES];
+  for (uint32_t i = 0; i < MODULES; i++) up[i] = i, next[i] = i + 1, one[i] = 1, wraps[i] = i ? wrap : 0, in[i] = CHUNKS - 1;
+  Table t = {{0}, NULL, 0};
+  column(&t, 0, one, MODULES), column(&t, 0, one, MODULES), column(&t, 0, one, MODULES), column(&t, 0, zero, MODULES);
+  column(&t, 0, one, MODULES), column(&t, 0, wraps, MODULES), column(&t, 0, in, MODULES);
+  column(&t, 1, up, MODULES - 1), column(&t, 1, zero, MODULES - 1), column(&t, 1, next, MODULES - 1);
+  column(&t, 2, up, MODULES - 1), column(&t, 2, next, MODULES - 1);
+  column(&t, 9, zero, CHUNKS);
+  column(&t, 10, in, wrap ? 1 : MODULES), column(&t, 10, up, wrap ? 1 : MODULES);
+  column(&t, 11, up, CHUNKS - 1), column(&t, 11, next, CHUNKS - 1);
+  COLUMN(&t, 12, 0), COLUMN(&t, 12, 0);
+  return t;
+}
+
+static uint32_t first[MODULES], second[MODULES];
+static Table deep;
+
+static void sort_modules(void) { EXPECT(jolmuqter_sort_modules(TABLE(deep), first, MODULES, second, MODULES), MODULES); }
+static void expected_order(void) { EXPECT(jolmuqter_expected_order(TABLE(deep), 0, first, MODULES), MODULES); }
+static void actual_order(void) { EXPECT(jolmuqter_actual_order(TABLE(deep), 0, first, MODULES, second, MODULES), MODULES); }
+static void labels(void) { EXPECT(jolmuqter_labels(TABLE(deep), first, CHUNKS), 0); }
+static void chunk_reach(void) { EXPECT(jolmuqter_chunk_reach(TABLE(deep), 0), 0); }
+static void risk(void) { EXPECT(jolmuqter_risk(TABLE(deep), 0, first, MODULES) < JOLMUQTER_REFUSED, 1); }
+static void plan_from_seeds(void) { EXPECT(jolmuqter_plan_from_seeds(TABLE(deep), LIST(MODULES - 1), 1, first, MODULES) < JOLMUQTER_REFUSED, 1); }
+static void plan(void) { EXPECT(jolmuqter_plan(TABLE(deep), first, MODULES) < JOLMUQTER_REFUSED, 1); }
+
+static void *run(void *call) { return (*(void (**)(void))call)(), NULL; }
+
+/* How many bytes of a stack a call touches. */
+static size_t stack_of(void (*call)(void)) {
+  unsigned char *stack = aligned_alloc(4096, STACK);
+  pthread_attr_t attributes;
+  pthread_t thread;
+  memset(stack, 0xa5, STACK);
+  if (pthread_attr_init(&attributes) || pthread_attr_setstack(&attributes, stack, STACK) || pthread_create(&thread, &attributes, run, &call)) abort();
+  pthread_join(thread, NULL);
+  size_t untouched = 0;
+  while (untouched < STACK && stack[untouched] == 0xa5) untouched++;
+  free(stack);
+  return STACK - untouched;
+}
+
+int main(void) {
+  answers();
+  void (*calls[])(void) = {sort_modules, expected_order, actual_order, labels, chunk_reach, risk, plan_from_seeds, plan};
+  const char *names[] = {"sort_modules", "expected_order", "actual_order", "labels", "chunk_reach", "risk", "plan_from_seeds", "plan"};
+  for (uint32_t wrap = 0; wrap < 3; wrap += 2) {
+    deep = chains(wrap);
+    for (size_t i = 0; i < LENGTH(calls); i++) {
+      size_t bytes = stack_of(calls[i]);
+      printf("stack of %s, wrap %u: %zu KB\n", names[i], wrap, bytes >> 10);
+      EXPECT(bytes < 2 << 20, 1);
+    }
+  }
+  printf("from C: %d checks, %d failed\n", checks, failures);
+  return failures != 0;
+}

@@ -1,0 +1,78 @@
+//! The order planner's operations for Rust, over `target/staticlib/libjolmuqter.a`. `../jolmuqter.h` says what each argument and answer is.
+//! A call uses less than 2 MB of stack.
+
+/// The missing mark.
+pub const MISSING: u32 = u32::MAX;
+
+/// How many lists a table has.
+pub const LISTS: usize = 14;
+
+/// A project: the two settings, the row count of each list, and all columns one after the other.
+#[derive(Clone, Copy, Debug)]
+pub struct Table<'a> {
+  pub runtime: u32,
+  pub dynamic: u32,
+  pub counts: &'a [u32],
+  pub columns: &'a [u32],
+}
+
+/// The number of a refusal, 1 to 6. No output was changed.
+#[derive(Clone, Copy, Debug, PartialEq, Eq)]
+pub struct Refused(pub u32);
+
+/// The count of an accepted call.
+pub type Answer = Result<usize, Refused>;
+
+fn answer(coded: u64) -> Answer {
+  match coded.checked_sub(1 << 32) {
+    None => Ok(coded as usize),
+    Some(number) => Err(Refused(number as u32)),
+  }
+}
+
+/// Declares exported functions, and beside each a safe one. A slice goes over as its pointer and its length.
+macro_rules! operations {
+  ($($(#[$about:meta])* $safe:ident = $name:ident [$($value:ident)*] [$($list:ident)*] [$($output:ident)*];)*) => {
+    unsafe extern "C" {
+      $(fn $name(
+        runtime: u32, dynamic: u32, counts: *const u32, _: usize, columns: *const u32, _: usize,
+        $($value: u32,)* $($list: *const u32, _: usize,)* $($output: *mut u32, _: usize,)*
+      ) -> u64;)*
+    }
+
+    impl Table<'_> {
+      $($(#[$about])*
+      pub fn $safe(&self, $($value: u32,)* $($list: &[u32],)* $($output: &mut [u32],)*) -> Answer {
+        // SAFETY: each pointer and length is a live slice's, and what is lent by `&mut` overlaps nothing else.
+        answer(unsafe {
+          $name(
+            self.runtime, self.dynamic,
+            self.counts.as_ptr(), self.counts.len(), self.columns.as_ptr(), self.columns.len(),
+            $($value,)* $($list.as_ptr(), $list.len(),)* $($output.as_mut_ptr(), $output.len(),)*
+          )
+        })
+      })*
+    }
+  };
+}
+
+operations! {
+  /// The test of the tables alone, which every other call makes first. Counts 0.
+  refusal = jolmuqter_refusal [] [] [];
+  /// The number of each module, and the sorted list. Counts the listed modules.
+  sort_modules = jolmuqter_sort_modules [] [] [numbers sorted];
+  /// The expected order of any module row. Counts the listed modules.
+  expected_order = jolmuqter_expected_order [root] [] [order];
+  /// The actual order of an analysed entry, and the hosts. Counts the listed modules.
+  actual_order = jolmuqter_actual_order [root] [] [order hosts];
+  /// The label of each chunk. Counts the cyclic chunks.
+  labels = jolmuqter_labels [] [] [labels];
+  /// Counts 1 if the chunk reaches a cyclic one, else 0.
+  chunk_reach = jolmuqter_chunk_reach [chunk] [] [];
+  /// The modules at risk of an analysed entry, 0 or 1 each. Counts the ones.
+  risk = jolmuqter_risk [root] [] [risk];
+  /// The plan from these seeds, 0 or 1 for each module. Counts the ones.
+  plan_from_seeds = jolmuqter_plan_from_seeds [] [seeds] [plan];
+  /// The plan of the whole analysis, 0 or 1 for each module. Counts the ones.
+  plan = jolmuqter_plan [] [] [plan];
+}

@@ -1,0 +1,173 @@
+//! Each function on document 01's listing, with the answers that it marks.
+use jolmuqter::{MISSING, Refused, Table};
+
+/// The rows of each list.
+type Lists = Vec<Vec<Vec<u32>>>;
+
+/// The listing.
+fn listing() -> Lists {
+  let modules = vec![
+    vec![1, 1, 0, 0, 1, 0, 1],
+    vec![1, 1, 1, 0, 1, 0, 0],
+    vec![1, 1, 1, 0, 1, 0, 0],
+    vec![1, 1, 1, 0, 1, 0, 1],
+  ];
+  let mut lists = vec![modules, vec![vec![1, 0, 2], vec![1, 0, 3]], vec![vec![1, 2], vec![1, 3]]];
+  lists.extend(vec![Vec::new(); 6]);
+  lists.push(vec![vec![1], vec![0]]);
+  lists.push(vec![vec![0, 2], vec![0, 1], vec![1, 0], vec![1, 3]]);
+  lists.push(vec![vec![0, 1]]);
+  lists.push(vec![vec![1, 0]]);
+  lists.push(Vec::new());
+  lists
+}
+
+/// Their counts and columns.
+fn flat(lists: &Lists) -> (Vec<u32>, Vec<u32>) {
+  let counts = lists.iter().map(|rows| rows.len() as u32).collect();
+  let mut columns = Vec::new();
+  for rows in lists {
+    for column in 0..rows.first().map_or(0, Vec::len) {
+      columns.extend(rows.iter().map(|row| row[column]));
+    }
+  }
+  (counts, columns)
+}
+
+fn with<T>(change: impl FnOnce(&mut Lists), ask: impl FnOnce(Table) -> T) -> T {
+  let mut lists = listing();
+  change(&mut lists);
+  let (counts, columns) = flat(&lists);
+  ask(Table { runtime: 0, dynamic: 0, counts: &counts, columns: &columns })
+}
+
+fn unchanged(_: &mut Lists) {}
+
+/// The edge from chunk 1 to 0 added.
+fn back(lists: &mut Lists) {
+  lists[IMPORTS].push(vec![1, 0]);
+}
+
+/// The edge from chunk 0 to 0 added.
+fn to_itself(lists: &mut Lists) {
+  lists[IMPORTS].insert(0, vec![0, 0]);
+}
+
+const MODULES: usize = 0;
+const IMPORTS: usize = 11;
+const ENTRIES: usize = 12;
+
+#[test]
+fn tests_the_tables() {
+  let ask = |change: fn(&mut Lists)| with(change, |table| table.refusal());
+  assert_eq!(ask(unchanged), Ok(0));
+  assert_eq!(ask(|lists| lists[MODULES].clear()), Err(Refused(1)));
+  assert_eq!(ask(|lists| lists[MODULES][2][4] = 3), Err(Refused(2)));
+  assert_eq!(ask(|lists| lists[IMPORTS] = vec![vec![1, 0], vec![0, 1]]), Err(Refused(3)));
+  assert_eq!(ask(|lists| lists[ENTRIES].push(vec![1, 1])), Err(Refused(4)));
+}
+
+#[test]
+fn sorts() {
+  let mut numbers = [9; 5];
+  let mut sorted = [9; 4];
+  assert_eq!(with(unchanged, |table| table.sort_modules(&mut numbers, &mut sorted)), Ok(4));
+  assert_eq!((numbers, sorted), ([0, 3, 1, 2, 9], [0, 2, 3, 1]));
+  let mut short = [9; 3];
+  assert_eq!(with(unchanged, |table| table.sort_modules(&mut sorted, &mut short)), Err(Refused(6)));
+  assert_eq!((sorted, short), ([0, 2, 3, 1], [9; 3]));
+}
+
+#[test]
+fn gives_the_expected_order() {
+  let mut order = [9; 4];
+  assert_eq!(with(unchanged, |table| table.expected_order(1, &mut order)), Ok(3));
+  assert_eq!(order, [2, 3, 1, 9]);
+  assert_eq!(with(unchanged, |table| table.expected_order(4, &mut order)), Err(Refused(5)));
+  assert_eq!(with(unchanged, |table| table.expected_order(1, &mut order[..3])), Err(Refused(6)));
+  assert_eq!(with(|lists| lists[MODULES][3][0] = 0, |table| table.expected_order(3, &mut order)), Ok(0));
+  assert_eq!(order, [2, 3, 1, 9]);
+}
+
+#[test]
+fn gives_the_actual_order() {
+  let mut order = [9; 4];
+  let mut hosts = [9; 4];
+  assert_eq!(with(unchanged, |table| table.actual_order(0, &mut order, &mut hosts)), Err(Refused(5)));
+  assert_eq!(with(unchanged, |table| table.actual_order(1, &mut order, &mut hosts[..3])), Err(Refused(6)));
+  assert_eq!((order, hosts), ([9; 4], [9; 4]));
+  assert_eq!(with(unchanged, |table| table.actual_order(1, &mut order, &mut hosts)), Ok(4));
+  assert_eq!((order, hosts), ([0, 3, 2, 1], [MISSING; 4]));
+  // modules 2 and 3 wrapped: both run under module 1
+  let wrapped = |lists: &mut Lists| (lists[MODULES][2][5], lists[MODULES][3][5]) = (2, 2);
+  assert_eq!(with(wrapped, |table| table.actual_order(1, &mut order, &mut hosts)), Ok(4));
+  assert_eq!((order, hosts), ([0, 2, 3, 1], [MISSING, MISSING, 1, 1]));
+}
+
+#[test]
+fn labels_chunks() {
+  let mut labels = [9; 3];
+  assert_eq!(with(unchanged, |table| table.labels(&mut labels[..1])), Err(Refused(6)));
+  assert_eq!(with(unchanged, |table| table.labels(&mut labels)), Ok(0));
+  assert_eq!(labels, [MISSING, MISSING, 9]);
+  assert_eq!(with(back, |table| table.labels(&mut labels)), Ok(2));
+  assert_eq!(labels, [0, 0, 9]);
+  assert_eq!(with(to_itself, |table| table.labels(&mut labels)), Ok(1));
+  assert_eq!(labels, [0, MISSING, 9]);
+}
+
+#[test]
+fn reaches_cyclic_chunks() {
+  assert_eq!(with(unchanged, |table| table.chunk_reach(0)), Ok(0));
+  assert_eq!(with(to_itself, |table| table.chunk_reach(0)), Ok(1));
+  assert_eq!(with(to_itself, |table| table.chunk_reach(1)), Ok(0));
+  assert_eq!(with(unchanged, |table| table.chunk_reach(2)), Err(Refused(5)));
+}
+
+#[test]
+fn gives_the_risk() {
+  let mut risk = [9; 4];
+  assert_eq!(with(unchanged, |table| table.risk(2, &mut risk)), Err(Refused(5)));
+  assert_eq!(with(unchanged, |table| table.risk(1, &mut risk[..3])), Err(Refused(6)));
+  assert_eq!(risk, [9; 4]);
+  assert_eq!(with(unchanged, |table| table.risk(1, &mut risk)), Ok(1));
+  assert_eq!(risk, [0, 0, 0, 1]);
+}
+
+#[test]
+fn plans_from_seeds() {
+  let mut plan = [9; 4];
+  let mut ask = |change: fn(&mut Lists), seeds: &[u32]| {
+    with(change, |table| table.plan_from_seeds(seeds, &mut plan)).map(|count| (count, plan))
+  };
+  assert_eq!(ask(unchanged, &[]), Ok((0, [0; 4])));
+  assert_eq!(ask(unchanged, &[0]), Ok((0, [0; 4])));
+  assert_eq!(ask(unchanged, &[1]), Ok((1, [0, 1, 0, 0])));
+  assert_eq!(ask(unchanged, &[2]), Ok((3, [0, 1, 1, 1])));
+  assert_eq!(ask(back, &[1]), Ok((3, [0, 1, 1, 1])));
+  assert_eq!(ask(unchanged, &[1; 16384]), Ok((1, [0, 1, 0, 0])));
+  assert_eq!(ask(unchanged, &[1; 16385]), Err(Refused(5)));
+  assert_eq!(ask(unchanged, &[4]), Err(Refused(5)));
+  assert_eq!(with(unchanged, |table| table.plan_from_seeds(&[1], &mut [9; 3])), Err(Refused(6)));
+}
+
+#[test]
+fn plans_the_whole() {
+  let mut plan = [9; 4];
+  assert_eq!(with(unchanged, |table| table.plan(&mut plan[..3])), Err(Refused(6)));
+  assert_eq!(plan, [9; 4]);
+  assert_eq!(with(unchanged, |table| table.plan(&mut plan)), Ok(2));
+  assert_eq!(plan, [0, 1, 0, 1]);
+}
+
+#[test]
+fn refuses_counts_that_do_not_match() {
+  let mut order = [9; 4];
+  let mut ask = |table: Table| table.expected_order(1, &mut order);
+  assert_eq!(with(unchanged, |table| ask(Table { counts: &[], ..table })), Err(Refused(1)));
+  assert_eq!(with(unchanged, |table| ask(Table { counts: &table.counts[..13], ..table })), Err(Refused(1)));
+  assert_eq!(with(unchanged, |table| ask(Table { columns: &[], ..table })), Err(Refused(1)));
+  assert_eq!(with(unchanged, |table| ask(Table { columns: &table.columns[1..], ..table })), Err(Refused(1)));
+  assert_eq!(with(unchanged, |table| ask(Table { dynamic: MISSING, ..table })), Err(Refused(2)));
+  assert_eq!(order, [9; 4]);
+}
