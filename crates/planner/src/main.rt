@@ -1,4 +1,6 @@
 // Reads a project's text from standard input and prints its module order, the orders and the risk of each analysed entry, and the plan.
+use flat::Call;
+use flat::call_on;
 use libc::STDIN_FILENO;
 use libc::STDOUT_FILENO;
 use listing::column;
@@ -16,182 +18,49 @@ fn setting(values: &[u32], bounds: &[usize], j: usize) -> u32 {
     rows[0]
 }
 
-// The module numbers and the sorted list.
-fn sort(values: &[u32], bounds: &[usize], numbers: &mut [u32], sorted: &mut [u32]) -> Answer {
-    sort_modules::sort_modules(
-        setting(values, bounds, 0),
-        setting(values, bounds, 1),
-        column(values, bounds, 2),
-        column(values, bounds, 3),
-        column(values, bounds, 4),
-        column(values, bounds, 5),
-        column(values, bounds, 6),
-        column(values, bounds, 7),
-        column(values, bounds, 8),
-        column(values, bounds, 9),
-        column(values, bounds, 10),
-        column(values, bounds, 11),
-        column(values, bounds, 12),
-        column(values, bounds, 13),
-        column(values, bounds, 14),
-        column(values, bounds, 15),
-        column(values, bounds, 16),
-        column(values, bounds, 17),
-        column(values, bounds, 18),
-        column(values, bounds, 19),
-        column(values, bounds, 20),
-        column(values, bounds, 21),
-        column(values, bounds, 22),
-        column(values, bounds, 23),
-        column(values, bounds, 24),
-        column(values, bounds, 25),
-        column(values, bounds, 26),
-        column(values, bounds, 27),
-        column(values, bounds, 28),
-        column(values, bounds, 29),
-        column(values, bounds, 30),
-        column(values, bounds, 31),
-        column(values, bounds, 32),
-        column(values, bounds, 33),
-        column(values, bounds, 34),
-        numbers,
-        sorted,
-    )
+// How many rows a column has; the reader has room for 32,768 values in all.
+fn row_count(values: &[u32], bounds: &[usize], j: usize) -> u32 {
+    let rows = column(values, bounds, j).len();
+    if 32768 < rows {
+        return 0;
+    }
+    rows as u32
 }
 
-// The expected order of an entry.
-fn expected(values: &[u32], bounds: &[usize], root: u32, order: &mut [u32]) -> Answer {
-    expected_order::expected_order(
-        setting(values, bounds, 0),
-        setting(values, bounds, 1),
-        column(values, bounds, 2),
-        column(values, bounds, 3),
-        column(values, bounds, 4),
-        column(values, bounds, 5),
-        column(values, bounds, 6),
-        column(values, bounds, 7),
-        column(values, bounds, 8),
-        column(values, bounds, 9),
-        column(values, bounds, 10),
-        column(values, bounds, 11),
-        column(values, bounds, 12),
-        column(values, bounds, 13),
-        column(values, bounds, 14),
-        column(values, bounds, 15),
-        column(values, bounds, 16),
-        column(values, bounds, 17),
-        column(values, bounds, 18),
-        column(values, bounds, 19),
-        column(values, bounds, 20),
-        column(values, bounds, 21),
-        column(values, bounds, 22),
-        column(values, bounds, 23),
-        column(values, bounds, 24),
-        column(values, bounds, 25),
-        column(values, bounds, 26),
-        column(values, bounds, 27),
-        column(values, bounds, 28),
-        column(values, bounds, 29),
-        column(values, bounds, 30),
-        column(values, bounds, 31),
-        column(values, bounds, 32),
-        column(values, bounds, 33),
-        column(values, bounds, 34),
-        root,
-        order,
-    )
-}
-
-// The actual order of an entry, and the hosts.
-fn actual(
-    values: &[u32],
-    bounds: &[usize],
-    root: u32,
-    order: &mut [u32],
-    hosts: &mut [u32],
+// An operation on the project that was read. A list's row count is that of its first column.
+fn ask(
+    values: &[u32; 32768],
+    bounds: &[usize; 36],
+    first: &mut [u32],
+    second: &mut [u32],
+    call: Call,
 ) -> Answer {
-    actual_order::actual_order(
+    let counts = [
+        row_count(values, bounds, 2),
+        row_count(values, bounds, 9),
+        row_count(values, bounds, 12),
+        row_count(values, bounds, 14),
+        row_count(values, bounds, 16),
+        row_count(values, bounds, 18),
+        row_count(values, bounds, 20),
+        row_count(values, bounds, 22),
+        row_count(values, bounds, 25),
+        row_count(values, bounds, 27),
+        row_count(values, bounds, 28),
+        row_count(values, bounds, 30),
+        row_count(values, bounds, 32),
+        row_count(values, bounds, 34),
+    ];
+    let ends = [bounds[2], bounds[35]];
+    call_on(
         setting(values, bounds, 0),
         setting(values, bounds, 1),
-        column(values, bounds, 2),
-        column(values, bounds, 3),
-        column(values, bounds, 4),
-        column(values, bounds, 5),
-        column(values, bounds, 6),
-        column(values, bounds, 7),
-        column(values, bounds, 8),
-        column(values, bounds, 9),
-        column(values, bounds, 10),
-        column(values, bounds, 11),
-        column(values, bounds, 12),
-        column(values, bounds, 13),
-        column(values, bounds, 14),
-        column(values, bounds, 15),
-        column(values, bounds, 16),
-        column(values, bounds, 17),
-        column(values, bounds, 18),
-        column(values, bounds, 19),
-        column(values, bounds, 20),
-        column(values, bounds, 21),
-        column(values, bounds, 22),
-        column(values, bounds, 23),
-        column(values, bounds, 24),
-        column(values, bounds, 25),
-        column(values, bounds, 26),
-        column(values, bounds, 27),
-        column(values, bounds, 28),
-        column(values, bounds, 29),
-        column(values, bounds, 30),
-        column(values, bounds, 31),
-        column(values, bounds, 32),
-        column(values, bounds, 33),
-        column(values, bounds, 34),
-        root,
-        order,
-        hosts,
-    )
-}
-
-// The risk of an entry, as marks.
-fn risk(values: &[u32], bounds: &[usize], root: u32, marks: &mut [u32]) -> Answer {
-    at_risk::risk(
-        setting(values, bounds, 0),
-        setting(values, bounds, 1),
-        column(values, bounds, 2),
-        column(values, bounds, 3),
-        column(values, bounds, 4),
-        column(values, bounds, 5),
-        column(values, bounds, 6),
-        column(values, bounds, 7),
-        column(values, bounds, 8),
-        column(values, bounds, 9),
-        column(values, bounds, 10),
-        column(values, bounds, 11),
-        column(values, bounds, 12),
-        column(values, bounds, 13),
-        column(values, bounds, 14),
-        column(values, bounds, 15),
-        column(values, bounds, 16),
-        column(values, bounds, 17),
-        column(values, bounds, 18),
-        column(values, bounds, 19),
-        column(values, bounds, 20),
-        column(values, bounds, 21),
-        column(values, bounds, 22),
-        column(values, bounds, 23),
-        column(values, bounds, 24),
-        column(values, bounds, 25),
-        column(values, bounds, 26),
-        column(values, bounds, 27),
-        column(values, bounds, 28),
-        column(values, bounds, 29),
-        column(values, bounds, 30),
-        column(values, bounds, 31),
-        column(values, bounds, 32),
-        column(values, bounds, 33),
-        column(values, bounds, 34),
-        root,
-        marks,
+        &counts,
+        column(values, &ends, 0),
+        &[],
+        first,
+        second,
+        call,
     )
 }
 
@@ -230,31 +99,31 @@ fn print_members(word: &[u8], entry: &[u32], marks: &[u32]) {
 }
 
 // Prints the lines of an entry. Actual order refuses an entry that isn't analysed.
-fn entry_lines(values: &[u32], bounds: &[usize], root: u32) {
-    let mut first = [0u32; 4096];
-    let mut second = [0u32; 4096];
+fn entry_lines(values: &[u32; 32768], bounds: &[usize; 36], root: u32) {
+    let mut actual = [0u32; 4096];
     let mut hosts = [0u32; 4096];
-    let ran = actual(values, bounds, root, &mut second, &mut hosts);
+    let ran = ask(values, bounds, &mut actual, &mut hosts, Call::Actual(root));
     let Answer::Counted(placed) = ran else {
         return;
     };
-    let walked = expected(values, bounds, root, &mut first);
+    let mut expected = [0u32; 4096];
+    let walked = ask(values, bounds, &mut expected, &mut [], Call::Expected(root));
     let Answer::Counted(listed) = walked else {
         return;
     };
     let mut marks = [0u32; 4096];
-    let judged = risk(values, bounds, root, &mut marks);
+    let judged = ask(values, bounds, &mut marks, &mut [], Call::Risk(root));
     let Answer::Counted(_) = judged else {
         return;
     };
     let of = [root];
-    print_first(b"expected", &of, &first, listed);
-    print_first(b"actual", &of, &second, placed);
+    print_first(b"expected", &of, &expected, listed);
+    print_first(b"actual", &of, &actual, placed);
     print_members(b"risk", &of, &marks);
 }
 
 // Prints the lines of each analysed entry, in row order.
-fn entries(values: &[u32], bounds: &[usize]) {
+fn entries(values: &[u32; 32768], bounds: &[usize; 36]) {
     let rows = column(values, bounds, 32);
     let mut row = 0;
     while row < rows.len() {
@@ -263,16 +132,27 @@ fn entries(values: &[u32], bounds: &[usize]) {
     }
 }
 
+// Prints the line of the plan.
+fn plan_line(values: &[u32; 32768], bounds: &[usize; 36]) {
+    let mut marks = [0u32; 4096];
+    let planned = ask(values, bounds, &mut marks, &mut [], Call::Whole);
+    let Answer::Counted(_) = planned else {
+        return;
+    };
+    print_members(b"plan", &[], &marks);
+}
+
 // Prints the lines of a project, or its refusal.
 fn lines(values: &[u32; 32768], bounds: &[usize; 36]) {
     let mut numbers = [0u32; 4096];
     let mut sorted = [0u32; 4096];
-    let answer = sort(values, bounds, &mut numbers, &mut sorted);
+    let answer = ask(values, bounds, &mut numbers, &mut sorted, Call::Sort);
     match answer {
         Answer::Refused(number) => print(b"refused", &[], &[number]),
         Answer::Counted(n) => {
             print_first(b"sorted", &[], &sorted, n);
             entries(values, bounds);
+            plan_line(values, bounds);
         }
     }
 }
