@@ -1,74 +1,75 @@
-//! `bench`: the original's functions on every shape. See ../README.md.
+//! `bench [--single] [--growth] [WORD..]`: times the original's functions and the library's on every shape whose name has a WORD. See ../README.md.
+mod clock;
 mod shapes;
+mod works;
 
-use std::time::{Duration, Instant};
-
-use oracle::{Original, carriers, on_a_deep_stack};
+use oracle::on_a_deep_stack;
 use project::{Project, column::*};
 use shapes::Shape;
+use works::Ready;
 
-/// How long one measurement may go on, and how often it is repeated at most.
-const WHILE: Duration = Duration::from_millis(1_500);
-const TIMES: usize = 50;
-
-/// The least time of several runs. `run` makes its input anew and hands back how long the work took.
-fn least(mut run: impl FnMut() -> Duration) -> Duration {
-  let start = Instant::now();
-  let mut least = run();
-  for _ in 1..TIMES {
-    if start.elapsed() > WHILE {
-      break;
-    }
-    least = least.min(run());
-  }
-  least
+/// The row counts that tell a shape.
+fn rows(p: &Project) -> String {
+  let lists = [
+    ("modules", NORMAL),
+    ("records", RECORD_MODULE),
+    ("dependencies", DEPENDENCY_MODULE),
+    ("statements", STATEMENT_MODULE),
+    ("references", REFERENCE_STATEMENT),
+    ("chunks", ORDER),
+    ("members", MEMBER_CHUNK),
+    ("imports", IMPORT_CHUNK),
+    ("entries", ENTRY),
+    ("seeds", SEED),
+  ];
+  lists.map(|(name, column)| format!("{name} {}", p[column].len())).join(", ")
 }
 
-fn timed<T>(work: impl FnOnce() -> T) -> Duration {
-  let start = Instant::now();
-  std::hint::black_box(work());
-  start.elapsed()
-}
-
-/// The times of the four works on a project.
-struct Times([Duration; 4]);
-
-const WORKS: [&str; 4] = ["sort", "orders and risks of the entries", "plan from the seed rows", "whole analysis"];
-
-fn of_the_original(p: &Project) -> Times {
-  let options = carriers::options(p);
-  let sort = least(|| {
-    let mut stage = carriers::link_stage(p, &options);
-    timed(|| stage.sort())
-  });
-  let original = Original::of(p);
-  let seeds = carriers::module_rows(&p[SEED]);
-  Times([
-    sort,
-    least(|| timed(|| original.bare_entries())),
-    least(|| timed(|| original.bare_plan_from(&seeds))),
-    least(|| timed(|| original.bare_plan())),
-  ])
-}
-
-fn table(shapes: &[Shape]) {
-  println!("| shape | work | Rust, us |\n|---|---|---|");
+fn whole(shapes: &[Shape]) {
+  clock::head("shape | rows");
   for shape in shapes {
-    let times = of_the_original(&shape.project);
-    for (work, time) in WORKS.iter().zip(times.0) {
-      println!("| {} | {work} | {:.1} |", shape.name, time.as_secs_f64() * 1e6);
-    }
+    let project = shape.project();
+    println!("| {} | {} | {} |", shape.name, rows(&project), Ready::of(&project).whole());
   }
+  println!();
 }
 
-fn run() {
-  table(&shapes::all());
+fn single(shapes: &[Shape]) {
+  clock::head("shape | operation");
+  for shape in shapes {
+    for (operation, pair) in Ready::of(&shape.project()).single() {
+      println!("| {} | {operation} | {pair} |", shape.name);
+    }
+  }
   println!();
-  for sizes in shapes::growing() {
-    table(&sizes);
+}
+
+fn run(words: Vec<String>) {
+  let (flags, words): (Vec<String>, Vec<String>) =
+    words.into_iter().partition(|word| word.starts_with("--"));
+  let flag = |name: &str| flags.is_empty() || flags.iter().any(|flag| flag == name);
+  let named = |shape: &Shape| words.is_empty() || words.iter().any(|word| shape.name.contains(word));
+  let shapes: Vec<Shape> = shapes::all().into_iter().filter(named).collect();
+  println!(
+    "Processor time, the least of {} to {} turns after one untimed run of each; the two sides run in turns, on warm caches.\n",
+    clock::FEWEST,
+    clock::MOST
+  );
+  if flag("--whole") {
+    println!("Whole analysis\n");
+    whole(&shapes);
+  }
+  if flag("--growth") {
+    println!("Whole analysis at a quarter, half and full size\n");
+    whole(&shapes::growing().into_iter().filter(named).collect::<Vec<_>>());
+  }
+  if flag("--single") {
+    println!("Single operations\n");
+    single(&shapes);
   }
 }
 
 fn main() {
-  on_a_deep_stack(run);
+  let words = std::env::args().skip(1).collect();
+  on_a_deep_stack(move || run(words));
 }

@@ -9,13 +9,18 @@ use project::{
   text::{LONGEST, render},
 };
 
+/// A named project that is made when it is needed.
 pub struct Shape {
   pub name: String,
-  pub project: Project,
+  make: fn(usize, usize) -> Project,
+  part: usize,
+  entries: usize,
 }
 
-fn shape(name: String, project: Project) -> Shape {
-  Shape { name, project }
+impl Shape {
+  pub fn project(&self) -> Project {
+    (self.make)(self.part, self.entries)
+  }
 }
 
 /// Full tables, divided by `part`: random rows, 4,096 modules, 1,024 chunks, 16,384 rows in every other list. The entries are
@@ -130,37 +135,45 @@ fn cascade(part: usize, entries: usize) -> Project {
 }
 
 /// As `full`, as large as a text of 61 KB allows.
-fn text_sized() -> Project {
-  let part = (1..).find(|&part| render(&full(part, 16)).len() <= LONGEST * 61 / 64).unwrap();
-  full(part, 16)
+fn text_sized(_: usize, entries: usize) -> Project {
+  let fits = |part: &usize| render(&full(*part, entries)).len() <= LONGEST * 61 / 64;
+  full((16..).find(fits).unwrap(), entries)
+}
+
+fn full_cyclic(part: usize, entries: usize) -> Project {
+  full_tables(part, entries, true)
+}
+
+type Maker = fn(usize, usize) -> Project;
+
+fn shape(name: &str, size: &str, make: Maker, part: usize, entries: usize) -> Shape {
+  let word = if entries == 1 { "entry" } else { "entries" };
+  Shape { name: format!("{name}, {entries} {word}{size}"), make, part, entries }
 }
 
 /// Every shape at full size.
 pub fn all() -> Vec<Shape> {
-  let mut shapes = Vec::new();
-  for entries in [1, 16, 256, 4_096] {
-    shapes.push(shape(format!("full tables, {entries} entries"), full(1, entries)));
-  }
-  shapes.push(shape("full tables, cyclic chunks, 16 entries".into(), full_tables(1, 16, true)));
-  for entries in [1, 64] {
-    shapes.push(shape(format!("fan, {entries} entries"), fan(1, entries)));
-  }
-  for entries in [1, 16] {
-    shapes.push(shape(format!("chain, {entries} entries"), chain(1, entries)));
-    shapes.push(shape(format!("cascade, {entries} entries"), cascade(1, entries)));
-  }
-  let text = text_sized();
-  shapes.push(shape(format!("text of {} bytes", render(&text).len()), text));
-  shapes
+  let lines: [(&str, Maker, &[usize]); 6] = [
+    ("full tables", full, &[1, 16, 256, 4_096]),
+    ("full tables, cyclic chunks", full_cyclic, &[16]),
+    ("fan", fan, &[1, 64]),
+    ("chain", chain, &[1, 16]),
+    ("cascade", cascade, &[1, 16]),
+    ("text of 61 KB", text_sized, &[16]),
+  ];
+  let each = |(name, make, entries): (&'static str, Maker, &'static [usize])| {
+    entries.iter().map(move |&entries| shape(name, "", make, 1, entries))
+  };
+  lines.into_iter().flat_map(each).collect()
 }
 
 /// Each shape at a quarter, half and full size.
-pub fn growing() -> Vec<[Shape; 3]> {
-  let makers: [(&str, usize, fn(usize, usize) -> Project); 4] =
+pub fn growing() -> Vec<Shape> {
+  let lines: [(&str, usize, Maker); 4] =
     [("full tables", 16, full), ("fan", 16, fan), ("chain", 1, chain), ("cascade", 1, cascade)];
-  let sized = |name: &str, entries, maker: fn(usize, usize) -> Project| {
-    [(4, "1/4"), (2, "1/2"), (1, "full")]
-      .map(|(part, size)| shape(format!("{name}, {entries} entries, {size}"), maker(part, entries)))
+  let sized = |(name, entries, make): (&'static str, usize, Maker)| {
+    [(4, ", 1/4"), (2, ", 1/2"), (1, "")]
+      .map(|(part, size)| shape(name, size, make, part, entries))
   };
-  makers.map(|(name, entries, maker)| sized(name, entries, maker)).into_iter().collect()
+  lines.into_iter().flat_map(sized).collect()
 }

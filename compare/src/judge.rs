@@ -1,20 +1,16 @@
-//! Compares one project: the original with the model, and what is judged with the model.
+//! Compares one project: the original with the model, and the library with the model on the same questions.
 use oracle::Original;
-use project::{MARK, Project, column::*};
+use project::{LISTS, List, MARK, Project, column::*};
 
 use crate::{
+  library::Flat,
   model::{Call, Given, Model, Set, members, set_of},
   random::Random,
   refusal,
 };
 
-/// What is judged: an operation's answer, as a count or the number of a refusal, and what it leaves in its outputs.
-pub trait Subject {
-  /// Whether a project can be handed over.
-  fn takes(&self, p: &Project) -> bool;
-  /// None for an operation that it doesn't have.
-  fn call(&self, p: &Project, call: &Call, outputs: &mut [Vec<u32>]) -> Option<Result<usize, u32>>;
-}
+/// What is judged: the answer to a call, as a count or the number of a refusal, and what it leaves in the outputs.
+pub type Subject = fn(&Flat, &Call, &mut [Vec<u32>]) -> Result<usize, u32>;
 
 /// How much was compared.
 #[derive(Default, Clone, Debug)]
@@ -24,8 +20,8 @@ pub struct Tally {
   pub tied: usize,
   /// Results of the original that were compared.
   pub results: usize,
-  /// Calls of what is judged that were compared.
-  pub calls: usize,
+  /// Calls of the library that were compared: accepted, and refused by 1 to 6.
+  pub calls: [usize; 7],
   /// Accepted projects whose risks and seed rows each rule adds to, and that take more than one round.
   pub by_rule: [usize; 4],
   pub later_rounds: usize,
@@ -42,15 +38,20 @@ impl std::fmt::Display for Tally {
     writeln!(f, "  refused by 1: {one}, by 2: {two}, by 3: {three}, by 4: {four}")?;
     writeln!(f, "  accepted ones with a cyclic chunk {}, a host {}, a risk {};", self.with_cycles, self.with_hosts, self.with_risk)?;
     writeln!(f, "  risks and seeds added to by (i) {i}, (ii) {ii}, (iii) {iii}, (iv) {iv}, in later rounds {}", self.later_rounds)?;
-    writeln!(f, "{} results of the original compared, {} calls of the library", self.results, self.calls)
+    writeln!(f, "{} results of the original compared with document 01 in plain Rust", self.results)?;
+    let all: usize = self.calls.iter().sum();
+    writeln!(f, "{all} calls of the library compared; accepted and refused by 1 to 6: {:?}", self.calls)
   }
 }
 
 /// Outputs of a call are lent longer than they must be, and filled with numbers that no call writes.
 const FILLER: u32 = 0xABCD_0000;
 
-pub struct Judge<'s> {
-  pub subject: Option<&'s dyn Subject>,
+#[derive(Default)]
+pub struct Judge {
+  pub subject: Option<Subject>,
+  /// One turn in eight the outputs are also lent just long enough, and too short, and the counts don't match.
+  pub turn: usize,
   pub tally: Tally,
 }
 
@@ -81,7 +82,7 @@ fn roots(n: usize) -> Vec<u32> {
   if n <= 16 { (0..n as u32).collect() } else { (0..16).map(|_| r.row(n)).collect() }
 }
 
-impl Judge<'_> {
+impl Judge {
   /// The first difference that a project shows.
   pub fn differs(&mut self, p: &Project) -> Difference {
     self.tally.projects += 1;
@@ -135,35 +136,91 @@ impl Judge<'_> {
     }
   }
 
-  /// Each operation of the subject, with outputs that are long enough and, where it has any, with one that isn't.
+  /// Each operation of the subject.
   fn subject_differs(&mut self, p: &Project, model: Option<&Model>) -> Difference {
-    let subject = self.subject.filter(|subject| subject.takes(p))?;
+    let subject = self.subject?;
+    let flat = Flat::of(p);
+    if model.is_none() && unequal(p) && flat.matches() {
+      // Columns that differ in length, but fill one slice as others would: not the same project.
+      return None;
+    }
+    let thorough = self.turn % 8 == 0;
     for call in calls(p, model) {
       let given = model.and_then(|model| {
         (refusal::of_call(p, &call, &[]) == 0).then(|| model.give(&call))
       });
-      let outputs = match call {
-        Call::Sort | Call::Actual(_) => 2,
-        Call::Reach(_) => 0,
-        _ => 1,
-      };
-      let places = refusal::places(p, &call);
-      let mut rooms = vec![vec![places + 3; outputs], vec![places; outputs]];
-      for short in 0..outputs {
-        let mut room = vec![places; outputs];
-        room[short] = places.saturating_sub(1);
-        rooms.push(room);
-      }
-      for room in rooms {
-        match call_differs(subject, p, &call, &room, given.as_ref()) {
-          Judged::NotThere => {}
-          Judged::Same => self.tally.calls += 1,
-          Judged::Different(words) => return Some(words),
+      for room in rooms(p, &call, thorough) {
+        let number = refusal::of_call(p, &call, &room);
+        let right = if number == 0 { given.as_ref().ok_or(0) } else { Err(number) };
+        self.tally.calls[number as usize] += 1;
+        let difference = call_differs(subject, &flat, &call, &room, right);
+        if difference.is_some() {
+          return difference;
         }
+      }
+    }
+    if thorough { self.mismatch_differs(p, subject, &flat.mismatched(self.turn / 8)) } else { None }
+  }
+
+  /// Each operation with counts that don't match the columns.
+  fn mismatch_differs(&mut self, p: &Project, subject: Subject, flat: &Flat) -> Difference {
+    for call in one_call_each() {
+      let room = vec![refusal::places(p, &call) + 3; outputs(&call)];
+      self.tally.calls[1] += 1;
+      if let Some(words) = call_differs(subject, flat, &call, &room, Err(1)) {
+        let values = flat.columns.len();
+        return Some(format!("counts {:?} with {values} values: {words}", flat.counts));
       }
     }
     None
   }
+}
+
+/// Whether a list has columns of different lengths.
+fn unequal(p: &Project) -> bool {
+  let differs = |list: &List| {
+    (list.first..list.first + list.width).any(|column| p[column].len() != p[list.first].len())
+  };
+  LISTS.iter().any(differs)
+}
+
+/// How many outputs a call has.
+pub fn outputs(call: &Call) -> usize {
+  match call {
+    Call::Sort | Call::Actual(_) => 2,
+    Call::Reach(_) | Call::Refusal => 0,
+    _ => 1,
+  }
+}
+
+/// Lengths of a call's outputs: longer than they must be; also just long enough, and each one too short.
+fn rooms(p: &Project, call: &Call, thorough: bool) -> Vec<Vec<usize>> {
+  let (places, outputs) = (refusal::places(p, call), outputs(call));
+  let mut rooms = vec![vec![places + 3; outputs]];
+  if outputs > 0 && thorough {
+    rooms.push(vec![places; outputs]);
+    for short in 0..outputs {
+      let mut room = vec![places; outputs];
+      room[short] = places.saturating_sub(1);
+      rooms.push(room);
+    }
+  }
+  rooms
+}
+
+/// A call of each operation.
+pub fn one_call_each() -> [Call; 9] {
+  [
+    Call::Sort,
+    Call::Expected(1),
+    Call::Actual(1),
+    Call::Labels,
+    Call::Reach(0),
+    Call::Risk(1),
+    Call::PlanFrom(vec![1]),
+    Call::Whole,
+    Call::Refusal,
+  ]
 }
 
 fn against_original(
@@ -227,7 +284,7 @@ fn against_original(
 /// The calls that are tried: fitting arguments and some that don't fit.
 fn calls(p: &Project, model: Option<&Model>) -> Vec<Call> {
   let (n, c) = (p.modules() as u32, p.chunks() as u32);
-  let mut calls = vec![Call::Sort, Call::Labels, Call::Whole];
+  let mut calls = vec![Call::Sort, Call::Labels, Call::Whole, Call::Refusal];
   if model.is_none() {
     for root in [0, n, MARK] {
       calls.extend([Call::Expected(root), Call::Actual(root), Call::Risk(root)]);
@@ -244,7 +301,7 @@ fn calls(p: &Project, model: Option<&Model>) -> Vec<Call> {
   for root in entries {
     calls.extend([Call::Actual(root), Call::Risk(root)]);
   }
-  for chunk in (0..c.min(16)).chain([c.saturating_sub(1), c, MARK]) {
+  for chunk in (0..c.min(64)).chain([c.saturating_sub(1), c, MARK]) {
     calls.push(Call::Reach(chunk));
   }
   calls.extend(sets(p.modules()).into_iter().map(Call::PlanFrom));
@@ -259,34 +316,29 @@ fn calls(p: &Project, model: Option<&Model>) -> Vec<Call> {
   calls
 }
 
-enum Judged {
-  NotThere,
-  Same,
-  Different(String),
-}
-
+/// What is right is given, or refused by a number.
 fn call_differs(
-  subject: &dyn Subject,
-  p: &Project,
+  subject: Subject,
+  flat: &Flat,
   call: &Call,
   room: &[usize],
-  given: Option<&Given>,
-) -> Judged {
+  right: Result<&Given, u32>,
+) -> Difference {
   let fill = |length: &usize| (0..*length as u32).map(|at| FILLER + at).collect::<Vec<u32>>();
   let mut outputs: Vec<Vec<u32>> = room.iter().map(fill).collect();
-  let number = refusal::of_call(p, call, room);
-  let mut right = outputs.clone();
-  let mut answer = Err(number);
-  if number == 0 {
-    let given = given.expect("accepted");
-    answer = Ok(given.count);
-    for (output, list) in right.iter_mut().zip(&given.outputs) {
+  let mut right_outputs = outputs.clone();
+  if let Ok(given) = right {
+    for (output, list) in right_outputs.iter_mut().zip(&given.outputs) {
       output[..list.len()].copy_from_slice(list);
     }
   }
-  let what = format!("{call:?}, outputs of {room:?}");
-  let Some(theirs) = subject.call(p, call, &mut outputs) else { return Judged::NotThere };
-  differ(&what, &answer, &theirs, "the library")
-    .or_else(|| differ(&format!("{what}, outputs"), &right, &outputs, "the library"))
-    .map_or(Judged::Same, Judged::Different)
+  let answer = subject(flat, call, &mut outputs);
+  let what = || format!("{call:?}, outputs of {room:?}");
+  if answer != right.map(|given| given.count) {
+    return differ(&what(), &right.map(|given| given.count), &answer, "the library");
+  }
+  if outputs != right_outputs {
+    return differ(&format!("{}, what they hold", what()), &right_outputs, &outputs, "the library");
+  }
+  None
 }

@@ -3,6 +3,7 @@ pub mod damage;
 pub mod exhaustive;
 pub mod generate;
 pub mod judge;
+pub mod library;
 pub mod limits;
 pub mod model;
 pub mod program;

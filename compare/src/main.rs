@@ -5,7 +5,7 @@ use compare::{
   damage, exhaustive, generate,
   generate::{PROFILES, Sizes},
   judge::Judge,
-  limits, program,
+  library, limits, program,
   random::Random,
   refusal, replay,
   shrink::shrunk,
@@ -21,7 +21,7 @@ struct Flags {
   wrong: bool,
   /// Only write the replay list.
   replay: bool,
-  /// Judge this program instead of the library.
+  /// Judge this program instead.
   program: Option<String>,
 }
 
@@ -50,8 +50,9 @@ fn usage<T>() -> T {
 
 /// Stops at a difference, with a small listing that shows it.
 fn judged(judge: &mut Judge, p: &Project, from: &str) {
+  judge.turn += 1;
   let Some(difference) = judge.differs(p) else { return };
-  let fresh = || Judge { subject: judge.subject, tally: Default::default() };
+  let fresh = || Judge { subject: judge.subject, turn: judge.turn, ..Judge::default() };
   let small = shrunk(p, &|p| fresh().differs(p).is_some());
   let words = fresh().differs(&small).unwrap_or(difference);
   println!("DIFFERENCE ({from})\n{words}\n");
@@ -84,7 +85,7 @@ fn numbered(seed: u64, number: usize) -> Project {
 }
 
 fn run_all(flags: &Flags) {
-  let mut judge = Judge { subject: None, tally: Default::default() };
+  let mut judge = Judge { subject: Some(library::call), ..Judge::default() };
   let families: [(&str, fn(&mut dyn FnMut(Project))); 5] = [
     ("graphs of three modules", exhaustive::module_graphs),
     ("graphs of chunks", exhaustive::chunk_graphs),

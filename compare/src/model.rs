@@ -15,6 +15,8 @@ pub enum Call {
   Risk(u32),
   PlanFrom(Vec<u32>),
   Whole,
+  /// The tests 1 to 4 alone.
+  Refusal,
 }
 
 /// What an accepted call gives: its count, and each output from place 0.
@@ -708,6 +710,7 @@ impl<'a> Model<'a> {
       Call::Risk(root) => marks(self.risk(*root)),
       Call::PlanFrom(seeds) => marks(self.plan_from(seeds)),
       Call::Whole => marks(self.plan()),
+      Call::Refusal => Given { count: 0, outputs: Vec::new() },
     }
   }
 }

@@ -132,7 +132,7 @@ pub fn analysed(p: &Project, root: u32) -> bool {
 fn fitting(p: &Project, call: &Call) -> bool {
   let module = |row: u32| (row as usize) < p.modules();
   match call {
-    Call::Sort | Call::Labels | Call::Whole => true,
+    Call::Sort | Call::Labels | Call::Whole | Call::Refusal => true,
     Call::Expected(root) => module(*root),
     Call::Actual(root) | Call::Risk(root) => module(*root) && analysed(p, *root),
     Call::Reach(chunk) => (*chunk as usize) < p.chunks(),

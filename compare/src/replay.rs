@@ -1,15 +1,16 @@
 //! The replay list: small cases with the original's answers, as numbers that the program crate `replay` reads.
 //!
-//! A case is its name behind `#`; `runtime dynamic`; 14 row counts; how many values the columns have, and these; how many calls. A call is its operation (its place in the
-//! list of `Call`'s kinds), its argument, how many seeds and the seeds, the lengths of its two outputs, 0 and the count or 1 and the refusal's
-//! number, and for each output how many places are written and these. `-` is the missing mark.
+//! First how many cases. A case is a line with `#` and its name; then `runtime dynamic`, 14 row counts, how many values the columns have, these,
+//! and how many calls. A call is its operation (its place in the list of `Call`'s kinds), its argument, how many seeds and these, the lengths
+//! of its two outputs, 0 and the count or 1 and the refusal's number, and for each output how many places are written and these.
+//! `-` is the missing mark; in a list, `5*0` stands for five zeros.
 use oracle::Original;
 use project::{COLUMNS, LISTS, MARK, Project, column::*};
 
 use crate::{
-  judge::Judge,
+  judge::{Judge, one_call_each, outputs},
   model::{Call, Model, members},
-  refusal::{self, Values, values},
+  refusal::{self, Values, limit, values},
   shrink::shrunk,
   wrong::Wrong,
 };
@@ -42,14 +43,8 @@ struct Case {
   name: String,
   project: Project,
   calls: Vec<(Call, Vec<usize>)>,
-}
-
-fn outputs(call: &Call) -> usize {
-  match call {
-    Call::Sort | Call::Actual(_) => 2,
-    Call::Reach(_) => 0,
-    _ => 1,
-  }
+  /// The wrong reading that the case is named after.
+  wrong: Option<Wrong>,
 }
 
 /// The call with outputs of two places more than it needs.
@@ -72,16 +67,73 @@ fn every_call(p: &Project) -> Vec<(Call, Vec<usize>)> {
   calls.into_iter().map(|call| roomy(p, call)).collect()
 }
 
-/// For each wrong reading the smallest project found that tells it.
+/// For each wrong reading the smallest project found that tells it. The first six are document 01's own wrong turns.
 fn telling(random: &dyn Fn(usize) -> Project) -> Vec<Case> {
   let fits = |p: &Project| p.modules() <= 12 && refusal::of_project(p) == 0 && !p.tied();
-  let tell = |&wrong: &Wrong| {
+  let tell = |(at, &wrong): (usize, &Wrong)| {
     let shows = |p: &Project| fits(p) && told(p, wrong);
     let found = (0..).map(random).find(shows).unwrap();
     let project = shrunk(&found, &shows);
-    Case { name: wrong.words().into(), calls: every_call(&project), project }
+    let kind = if at < 6 { "wrong turn" } else { "wrong reading" };
+    let name = format!("{kind}: {}", wrong.words());
+    Case { name, calls: every_call(&project), project, wrong: Some(wrong) }
   };
-  Wrong::ALL.iter().map(tell).collect()
+  Wrong::ALL.iter().enumerate().map(tell).collect()
+}
+
+/// Document 01's listing, as it stands and with each change that 01 marks.
+fn listing() -> Vec<Case> {
+  let base = || {
+    let mut p = Project::default();
+    for (sensitive, chunk) in [(0, 1), (1, 0), (1, 0), (1, 1)] {
+      p.push(NORMAL, [1, 1, sensitive, 0, 1, 0, chunk]);
+    }
+    for target in [2, 3] {
+      p.push(RECORD_MODULE, [1, 0, target]);
+      p.push(DEPENDENCY_MODULE, [1, target]);
+    }
+    for order in [1, 0] {
+      p.push(ORDER, [order]);
+    }
+    for row in [[0, 2], [0, 1], [1, 0], [1, 3]] {
+      p.push(MEMBER_CHUNK, row);
+    }
+    p.push(IMPORT_CHUNK, [0, 1]);
+    p.push(ENTRY, [1, 0]);
+    p
+  };
+  let changes: [(&str, fn(&mut Project)); 4] = [
+    ("as it stands", |_| {}),
+    ("edge 1 to 0 added", |p| p.push(IMPORT_CHUNK, [1, 0])),
+    ("edge 0 to 0 added", |p| {
+      p.push(IMPORT_CHUNK, [0, 0]);
+      p[IMPORTS].swap(0, 1);
+    }),
+    ("module 3 external", |p| p[NORMAL][3] = 0),
+  ];
+  let case = |(name, change): (&str, fn(&mut Project))| {
+    let mut project = base();
+    change(&mut project);
+    Case { name: format!("listing: {name}"), calls: every_call(&project), project, wrong: None }
+  };
+  changes.into_iter().map(case).collect()
+}
+
+/// Projects of some size in which all four rules add to the plan, some of them in a later round.
+fn larger(random: &dyn Fn(usize) -> Project) -> Vec<Case> {
+  let rich = |p: &Project| {
+    if !(8..=24).contains(&p.modules()) || refusal::of_project(p) != 0 || p.tied() {
+      return false;
+    }
+    let mut judge = Judge::default();
+    assert_eq!(judge.differs(p), None);
+    let rules = judge.tally.by_rule.iter().filter(|&&adds| adds > 0).count();
+    rules >= 2 && judge.tally.later_rounds > 0 && judge.tally.with_hosts > 0 && judge.tally.with_risk > 0
+  };
+  let case = |(at, project): (usize, Project)| {
+    Case { name: format!("several rules, {}", at + 1), calls: every_call(&project), project, wrong: None }
+  };
+  (0..).map(random).filter(rich).take(8).enumerate().map(case).collect()
 }
 
 /// A small project with a row in every list.
@@ -114,26 +166,16 @@ fn whole() -> Project {
   p
 }
 
-/// One call of each operation.
+/// A call of each operation.
 fn each_call(p: &Project) -> Vec<(Call, Vec<usize>)> {
-  let calls = [
-    Call::Sort,
-    Call::Expected(1),
-    Call::Actual(1),
-    Call::Labels,
-    Call::Reach(0),
-    Call::Risk(1),
-    Call::PlanFrom(vec![1]),
-    Call::Whole,
-  ];
-  calls.into_iter().map(|call| roomy(p, call)).collect()
+  one_call_each().into_iter().map(|call| roomy(p, call)).collect()
 }
 
 /// A project with one thing wrong, refused by every operation.
 fn refused(name: String, change: impl FnOnce(&mut Project)) -> Case {
   let mut project = whole();
   change(&mut project);
-  Case { name, calls: each_call(&project), project }
+  Case { name: format!("refused {name}"), calls: each_call(&project), project, wrong: None }
 }
 
 /// Each ground of 1 to 4; for 2 each column with the first value past its end, and with the mark where that isn't allowed.
@@ -178,6 +220,23 @@ fn refusals() -> Vec<Case> {
   cases
 }
 
+/// Each list at its limit and with one row more, its last row repeated. Entries and imports are refused by 4 at their limit, by 1 past it.
+fn limits() -> Vec<Case> {
+  let mut cases = Vec::new();
+  for list in &LISTS {
+    for length in [limit(list.first), limit(list.first) + 1] {
+      let mut project = whole();
+      for column in list.first..list.first + list.width {
+        let last = *project[column].last().unwrap();
+        project[column].resize(length, last);
+      }
+      let name = format!("limits: {length} rows of `{}`", list.names);
+      cases.push(Case { name, calls: each_call(&project), project, wrong: None });
+    }
+  }
+  cases
+}
+
 /// 5 and 6, and what is accepted beside them.
 fn arguments() -> Case {
   let project = whole();
@@ -193,6 +252,9 @@ fn arguments() -> Case {
     Call::Reach(MARK),
     Call::PlanFrom(vec![0, n]),
     Call::PlanFrom(vec![MARK]),
+    Call::PlanFrom(vec![1; 16_384]),
+    Call::PlanFrom(vec![1; 16_385]),
+    Call::PlanFrom(vec![n; 16_385]),
     Call::PlanFrom(vec![1, 1, 0]),
   ] {
     calls.push(roomy(&project, call));
@@ -205,7 +267,7 @@ fn arguments() -> Case {
       calls.push((call.clone(), rooms));
     }
   }
-  Case { name: "5 and 6".into(), project, calls }
+  Case { name: "refused 5 and 6, and accepted beside them".into(), project, calls, wrong: None }
 }
 
 fn put(out: &mut String, values: impl IntoIterator<Item = u32>) {
@@ -215,7 +277,24 @@ fn put(out: &mut String, values: impl IntoIterator<Item = u32>) {
   }
 }
 
-fn put_call(out: &mut String, p: &Project, call: &Call, rooms: &[usize]) {
+/// A list; four or more equal values in a row are said once.
+fn put_list(out: &mut String, list: &[u32]) {
+  for run in list.chunk_by(|a, b| a == b) {
+    if run.len() < 4 {
+      put(out, run.iter().copied());
+    } else {
+      out.push_str(&format!("{}*", run.len()));
+      put(out, [run[0]]);
+    }
+  }
+}
+
+fn end_line(out: &mut String) {
+  out.pop();
+  out.push('\n');
+}
+
+fn put_call(out: &mut String, p: &Project, model: Option<&Model>, call: &Call, rooms: &[usize]) {
   let (operation, argument) = match call {
     Call::Sort => (0, 0),
     Call::Expected(root) => (1, *root),
@@ -225,49 +304,62 @@ fn put_call(out: &mut String, p: &Project, call: &Call, rooms: &[usize]) {
     Call::Risk(root) => (5, *root),
     Call::PlanFrom(_) => (6, 0),
     Call::Whole => (7, 0),
+    Call::Refusal => (8, 0),
   };
   let seeds: &[u32] = if let Call::PlanFrom(seeds) = call { seeds } else { &[] };
   put(out, [operation, argument, seeds.len() as u32]);
-  put(out, seeds.iter().copied());
+  put_list(out, seeds);
   put(out, (0..2).map(|at| rooms.get(at).copied().unwrap_or(0) as u32));
   let number = refusal::of_call(p, call, rooms);
   if number != 0 {
     put(out, [1, number, 0, 0]);
   } else {
-    let given = Model::of(p).give(call);
+    let given = model.expect("accepted").give(call);
     put(out, [0, given.count as u32]);
     for at in 0..2 {
       let list = given.outputs.get(at).cloned().unwrap_or_default();
       put(out, [list.len() as u32]);
-      put(out, list);
+      put_list(out, &list);
     }
   }
-  out.pop();
-  out.push('\n');
+  end_line(out);
+}
+
+/// How many of a case's answers the wrong reading that it is named after would change.
+fn changed(case: &Case, wrong: Wrong) -> usize {
+  let (right, turned) = (Model::of(&case.project), Model::turned(&case.project, Some(wrong)));
+  let accepted =
+    case.calls.iter().filter(|(call, rooms)| refusal::of_call(&case.project, call, rooms) == 0);
+  accepted.filter(|(call, _)| right.give(call) != turned.give(call)).count()
 }
 
 /// The data, and how many cases and answers it has.
 pub fn data(random: &dyn Fn(usize) -> Project) -> (String, usize, usize) {
-  let mut cases = telling(random);
+  let mut cases = listing();
+  cases.extend(telling(random));
+  cases.extend(larger(random));
   cases.extend(refusals());
   cases.push(arguments());
-  let mut out = String::new();
+  cases.extend(limits());
+  let mut out = format!("{}\n", cases.len());
   let mut answers = 0;
-  for Case { name, project: p, calls } in &cases {
+  for case in &cases {
+    let Case { name, project: p, calls, wrong } = case;
     // The model's answers are the original's: where the two were to differ, nothing is written.
-    let mut judge = Judge { subject: None, tally: Default::default() };
+    let mut judge = Judge::default();
     assert_eq!(judge.differs(p), None, "{name}");
+    assert!(wrong.is_none_or(|wrong| changed(case, wrong) > 0), "{name}");
+    let model = (refusal::of_project(p) == 0).then(|| Model::of(p));
     out.push_str(&format!("# {name}\n"));
     put(&mut out, [p.runtime, p.dynamic]);
     put(&mut out, LISTS.iter().map(|list| p[list.first].len() as u32));
     let columns = p.columns.concat();
     put(&mut out, [columns.len() as u32]);
-    put(&mut out, columns);
+    put_list(&mut out, &columns);
     put(&mut out, [calls.len() as u32]);
-    out.pop();
-    out.push('\n');
+    end_line(&mut out);
     for (call, rooms) in calls {
-      put_call(&mut out, p, call, rooms);
+      put_call(&mut out, p, model.as_ref(), call, rooms);
     }
     answers += calls.len();
   }

@@ -134,9 +134,27 @@ impl Original {
     self.stage().reaches()
   }
 
-  /// The original's own calls, for timing: nothing is copied or sorted after them.
-  pub fn bare_entries(&self) -> usize {
-    self.stage().entry_results(&self.chunk_graph).len()
+  // The original's own calls, for timing: nothing is copied or sorted after them.
+
+  pub fn bare_expected(&self, root: u32) -> Vec<ModuleIdx> {
+    self.stage().expected_of(ModuleIdx::from_raw(root))
+  }
+
+  /// The root is an analysed entry, here and below.
+  pub fn bare_actual(&self, root: u32) -> impl Sized + use<> {
+    self.stage().actual_of(&self.chunk_graph, ModuleIdx::from_raw(root))
+  }
+
+  pub fn bare_cycles(&self) -> usize {
+    self.stage().cycle_count()
+  }
+
+  pub fn bare_reach(&self, chunk: u32) -> bool {
+    self.stage().reaches_from(ChunkIdx::from_raw(chunk))
+  }
+
+  pub fn bare_risk(&self, root: u32) -> impl Sized + use<> {
+    self.stage().entry_result(&self.chunk_graph, ModuleIdx::from_raw(root))
   }
 
   pub fn bare_plan(&self) -> usize {

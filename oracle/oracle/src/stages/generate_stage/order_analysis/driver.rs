@@ -65,27 +65,56 @@ impl GenerateStage<'_> {
     analysis.plan.modules().collect()
   }
 
-  /// The loop of `analyze_execution_order` over the entries, again, to show its parts.
-  pub fn entry_results(&self, chunk_graph: &ChunkGraph) -> Vec<EntryResult> {
-    let chunk_cycles = ChunkCycles::from_import_edges(self.import_edges);
-    let mut results = Vec::new();
-    for &root in self.link_output.entries.keys() {
-      if !self.link_output.metas[root].is_included {
-        continue;
-      }
-      let Some(&root_chunk) = chunk_graph.entry_module_to_entry_chunk.get(&root) else {
-        continue;
-      };
-      let expected = self.expected_order_for_root(root);
-      let (actual, hosts) =
-        self.actual_order_for_root(root, root_chunk, chunk_graph, self.import_edges);
-      let mut risk = self.at_risk_modules(&expected, &actual, &hosts);
-      if chunk_cycles.reachable_from(root_chunk, self.import_edges) {
-        risk.extend(expected.iter().copied().filter(|idx| self.is_order_wrap_eligible(*idx)));
-      }
-      results.push(EntryResult { root, expected, actual, hosts, risk });
+  /// The body of `analyze_execution_order`'s loop over the entries, again, to show its parts.
+  fn entry_in(
+    &self,
+    chunk_graph: &ChunkGraph,
+    chunk_cycles: &ChunkCycles,
+    root: ModuleIdx,
+  ) -> Option<EntryResult> {
+    if !self.link_output.metas[root].is_included {
+      return None;
     }
-    results
+    let &root_chunk = chunk_graph.entry_module_to_entry_chunk.get(&root)?;
+    let expected = self.expected_order_for_root(root);
+    let (actual, hosts) =
+      self.actual_order_for_root(root, root_chunk, chunk_graph, self.import_edges);
+    let mut risk = self.at_risk_modules(&expected, &actual, &hosts);
+    if chunk_cycles.reachable_from(root_chunk, self.import_edges) {
+      risk.extend(expected.iter().copied().filter(|idx| self.is_order_wrap_eligible(*idx)));
+    }
+    Some(EntryResult { root, expected, actual, hosts, risk })
+  }
+
+  pub fn entry_results(&self, chunk_graph: &ChunkGraph) -> Vec<EntryResult> {
+    let chunk_cycles = self.cycles();
+    let roots = self.link_output.entries.keys();
+    roots.filter_map(|&root| self.entry_in(chunk_graph, &chunk_cycles, root)).collect()
+  }
+
+  pub fn entry_result(&self, chunk_graph: &ChunkGraph, root: ModuleIdx) -> Option<EntryResult> {
+    self.entry_in(chunk_graph, &self.cycles(), root)
+  }
+
+  pub fn actual_of(
+    &self,
+    chunk_graph: &ChunkGraph,
+    root: ModuleIdx,
+  ) -> (Vec<ModuleIdx>, FxHashMap<ModuleIdx, ModuleIdx>) {
+    let root_chunk = chunk_graph.entry_module_to_entry_chunk[&root];
+    self.actual_order_for_root(root, root_chunk, chunk_graph, self.import_edges)
+  }
+
+  fn cycles(&self) -> ChunkCycles {
+    ChunkCycles::from_import_edges(self.import_edges)
+  }
+
+  pub fn cycle_count(&self) -> usize {
+    self.cycles().sccs.len()
+  }
+
+  pub fn reaches_from(&self, chunk: ChunkIdx) -> bool {
+    self.cycles().reachable_from(chunk, self.import_edges)
   }
 
   /// The analysed entries as `build_order_wrap_plan` takes them.
@@ -106,7 +135,7 @@ impl GenerateStage<'_> {
 
   /// `build_order_wrap_plan` from exactly these seeds.
   pub fn plan_from(&self, chunk_graph: &ChunkGraph, seeds: &[ModuleIdx]) -> Vec<ModuleIdx> {
-    let chunk_cycles = ChunkCycles::from_import_edges(self.import_edges);
+    let chunk_cycles = self.cycles();
     let roots = self.roots(chunk_graph);
     let source_reachable = self.source_reachable_modules(&roots);
     let reverse = reverse_static_import_index(&self.link_output.module_table.modules);
@@ -124,7 +153,7 @@ impl GenerateStage<'_> {
   /// The modules outside `set` that each of the four rules asks for with just `set` planned, be it
   /// any set of modules. Each rule is the original function, called on the set as it stands.
   pub fn asked(&self, chunk_graph: &ChunkGraph, set: &[ModuleIdx]) -> [Vec<ModuleIdx>; 4] {
-    let chunk_cycles = ChunkCycles::from_import_edges(self.import_edges);
+    let chunk_cycles = self.cycles();
     let current: FxHashSet<ModuleIdx> = set.iter().copied().collect();
     let planned = || {
       let mut plan = OrderWrapPlan::default();
@@ -179,7 +208,7 @@ impl GenerateStage<'_> {
 
   /// Lowest chunk row of the component of each cyclic chunk.
   pub fn labels(&self) -> Vec<Option<ChunkIdx>> {
-    let cycles = ChunkCycles::from_import_edges(self.import_edges);
+    let cycles = self.cycles();
     self
       .import_edges
       .indices()
@@ -190,7 +219,7 @@ impl GenerateStage<'_> {
   }
 
   pub fn reaches(&self) -> Vec<bool> {
-    let cycles = ChunkCycles::from_import_edges(self.import_edges);
+    let cycles = self.cycles();
     self
       .import_edges
       .indices()

@@ -1,0 +1,83 @@
+//! The works: what the original and the library do on the same project.
+use std::time::Duration;
+
+use compare::{library::Flat, model::Call};
+use oracle::{Original, carriers};
+use project::{Project, column::*};
+
+use crate::clock::{Pair, in_turns, timed};
+
+/// A project, ready for both sides: neither the carriers nor the slice of columns are made while the clock runs.
+pub struct Ready<'p> {
+  p: &'p Project,
+  original: Original,
+  flat: Flat,
+}
+
+fn outputs(p: &Project) -> [Vec<u32>; 2] {
+  [vec![0; p.modules()], vec![0; p.modules()]]
+}
+
+/// The members of a set of marks.
+fn members(marks: &[u32]) -> Vec<u32> {
+  (0..marks.len() as u32).filter(|&at| marks[at as usize] == 1).collect()
+}
+
+impl<'p> Ready<'p> {
+  pub fn of(p: &'p Project) -> Self {
+    assert!(!p.tied());
+    Self { p, original: Original::of(p), flat: Flat::of(p) }
+  }
+
+  /// The library's call, with its tests 1 to 4 and every output written.
+  fn ours(&self, call: &Call) -> Duration {
+    let mut lists = outputs(self.p);
+    let count = compare::judge::outputs(call);
+    timed(|| compare::library::call(&self.flat, call, &mut lists[..count]).expect("accepted"))
+  }
+
+  /// The whole analysis. The two plans are compared first.
+  pub fn whole(&self) -> Pair {
+    let mut plan = outputs(self.p);
+    let count = compare::library::call(&self.flat, &Call::Whole, &mut plan[..1]).expect("accepted");
+    let right = self.original.plan();
+    assert_eq!((right.len(), right), (count, members(&plan[0])));
+    in_turns(|| timed(|| self.original.bare_plan()), || self.ours(&Call::Whole))
+  }
+
+  /// Each operation by itself, with the first entry and its chunk.
+  pub fn single(&self) -> Vec<(&'static str, Pair)> {
+    let (root, chunk) = (self.p[ENTRY][0], self.p[ENTRY_CHUNK][0]);
+    let options = carriers::options(self.p);
+    let seeds = carriers::module_rows(&self.p[SEED]);
+    let sort = || {
+      let mut stage = carriers::link_stage(self.p, &options);
+      timed(|| stage.sort())
+    };
+    let original = &self.original;
+    vec![
+      ("sort", in_turns(sort, || self.ours(&Call::Sort))),
+      (
+        "expected order",
+        in_turns(|| timed(|| original.bare_expected(root)), || self.ours(&Call::Expected(root))),
+      ),
+      (
+        "actual order",
+        in_turns(|| timed(|| original.bare_actual(root)), || self.ours(&Call::Actual(root))),
+      ),
+      ("labels", in_turns(|| timed(|| original.bare_cycles()), || self.ours(&Call::Labels))),
+      (
+        "chunk reach",
+        in_turns(|| timed(|| original.bare_reach(chunk)), || self.ours(&Call::Reach(chunk))),
+      ),
+      ("risk", in_turns(|| timed(|| original.bare_risk(root)), || self.ours(&Call::Risk(root)))),
+      (
+        "plan from the seed rows",
+        in_turns(
+          || timed(|| original.bare_plan_from(&seeds)),
+          || self.ours(&Call::PlanFrom(self.p[SEED].clone())),
+        ),
+      ),
+    ]
+  }
+}
