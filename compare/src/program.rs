@@ -6,7 +6,7 @@ use std::{
 
 use project::{
   LISTS, Project,
-  text::{field, read, render},
+  text::{line, read, render},
 };
 
 use crate::{
@@ -14,15 +14,6 @@ use crate::{
   random::Random,
   refusal,
 };
-
-fn line(out: &mut String, words: &str, values: &[u32]) {
-  out.push_str(words);
-  for &value in values {
-    out.push(' ');
-    field(out, value);
-  }
-  out.push('\n');
-}
 
 /// What the program must print.
 pub fn right(text: &[u8]) -> String {

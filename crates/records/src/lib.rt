@@ -30,14 +30,14 @@ struct Columns {
 }
 
 // How many records there are.
-pub fn count(records: &[Record]) -> usize
+fn count(records: &[Record]) -> usize
     ensures { λ r. ⌜ r ≡ length (now (records .entry)) ⌝ }
 {
     records.len()
 }
 
 // The importing module at a row.
-pub fn importer_at(records: &[Record], row: usize) -> u32
+fn importer_at(records: &[Record], row: usize) -> u32
     requires { ⌜ row < length (now records) ⌝ }
     ensures { λ r. ⌜ r ≡ getD (now (records .entry)) row noRow .importer ⌝ }
 {
@@ -45,7 +45,7 @@ pub fn importer_at(records: &[Record], row: usize) -> u32
 }
 
 // The kind at a row.
-pub fn kind_at(records: &[Record], row: usize) -> u32
+fn kind_at(records: &[Record], row: usize) -> u32
     requires { ⌜ row < length (now records) ⌝ }
     ensures { λ r. ⌜ r ≡ getD (now (records .entry)) row noRow .kind ⌝ }
 {
@@ -53,7 +53,7 @@ pub fn kind_at(records: &[Record], row: usize) -> u32
 }
 
 // The target at a row.
-pub fn target_at(records: &[Record], row: usize) -> u32
+fn target_at(records: &[Record], row: usize) -> u32
     requires { ⌜ row < length (now records) ⌝ }
     ensures { λ r. ⌜ r ≡ getD (now (records .entry)) row noRow .target ⌝ }
 {

@@ -4,7 +4,7 @@ use std::io::{Read as _, Write as _};
 use oracle::{Original, on_a_deep_stack};
 use project::{
   Project,
-  text::{field, read_head},
+  text::{line, read_head},
 };
 
 #[derive(Default)]
@@ -46,15 +46,6 @@ fn flags() -> Flags {
     }
   }
   flags
-}
-
-fn line(out: &mut String, words: &str, values: &[u32]) {
-  out.push_str(words);
-  for &value in values {
-    out.push(' ');
-    field(out, value);
-  }
-  out.push('\n');
 }
 
 /// What is asked besides: flags, and lines after the listing (ours, not the text form's).

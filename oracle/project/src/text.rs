@@ -32,6 +32,16 @@ fn row(out: &mut String, values: impl IntoIterator<Item = u32>) {
   out.push('\n');
 }
 
+/// A result line: its words, its numbers.
+pub fn line(out: &mut String, words: &str, values: &[u32]) {
+  out.push_str(words);
+  for &value in values {
+    out.push(' ');
+    field(out, value);
+  }
+  out.push('\n');
+}
+
 /// A number, or `-` for the mark.
 pub fn field(out: &mut String, value: u32) {
   if value == MARK {
