@@ -1,7 +1,9 @@
 -- What the row look-ups ask and answer.
 -- Assumes nothing.
+use mathlib.Core.Path.{_≡_}
+use mathlib.Core.Logic.{_⊎_}
 use mathlib.Core.List.{List}
-use Prim.Native.Nat.{ℕ, _≤_, _<_}
+use Prim.Native.Nat.{ℕ, _+_, _≤_, _<_}
 use lib.ListN.{length, getD}
 
 -- no row is below an earlier one
@@ -13,3 +15,19 @@ pub record FirstRow (xs : List ℕ) (x r : ℕ) : Type 0 where
   pub within : r ≤ length xs
   pub below : (i : ℕ) → i < r → getD xs i 0 < x
   pub above : (i : ℕ) → r ≤ i → i < length xs → x ≤ getD xs i 0
+
+-- each place of starts has its value's first row
+pub record FirstRows (xs starts : List ℕ) : Type 0 where
+  pub firsts : (x : ℕ) → x < length starts → FirstRow xs x (getD starts x 0)
+
+-- r is the greater of two
+pub record Greater (a b r : ℕ) : Type 0 where
+  pub first : a ≤ r
+  pub second : b ≤ r
+  pub one : (r ≡ a) ⊎ (r ≡ b)
+
+-- of the rows before n: before a start are rows of lower values alone, and each row is before the next value's start
+pub record RowEnds (xs starts : List ℕ) (n : ℕ) : Type 0 where
+  pub within : (x : ℕ) → getD starts x 0 ≤ n
+  pub below : (x i : ℕ) → i < getD starts x 0 → getD xs i 0 < x
+  pub behind : (i : ℕ) → i < n → getD xs i 0 + 1 < length starts → i < getD starts (getD xs i 0 + 1) 0

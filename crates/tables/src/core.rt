@@ -1,11 +1,12 @@
 // Row look-ups, for crates above, on tested tables.
 ghost use mathlib.Core.Path.{_≡_};
-ghost use Prim.Native.Nat.{ℕ, _<_};
+ghost use Prim.Native.Nat.{ℕ, _<_, _≤_};
 ghost use lib.ListN.{length};
-ghost use Rattle.tables.specs.Lookups.{Rising, FirstRow};
+ghost use Rattle.tables.specs.Lookups.{Rising, FirstRow, FirstRows, Greater, RowEnds};
 ghost use Rattle.tables.specs.Readings.{isStatic, resolved, membersOf};
 use crate::ModuleIdx;
 use crate::Target;
+use lists::core::fill;
 
 // The first row of a rising column that is at least x.
 pub fn first_row(column: &[u32], x: usize) -> usize
@@ -23,6 +24,44 @@ pub fn first_row(column: &[u32], x: usize) -> usize
         }
     }
     low
+}
+
+// The greater of two.
+fn greater(a: u32, b: u32) -> u32
+    ensures { λ r. ⌜ Greater a b r ⌝ }
+{
+    if a < b {
+        return b;
+    }
+    a
+}
+
+// Writes at the place after each value the row after its last, and 0 at the other places.
+fn row_ends(column: &[u32], starts: &mut [u32])
+    requires rising { ⌜ Rising (now column) ⌝ }
+    requires few { ⌜ length (now column) ≤ 16384 ⌝ }
+    ensures { λ _. ⌜ RowEnds (now (column .entry)) (now (starts .exit)) (length (now (column .entry))) ⌝ }
+{
+    fill(starts, 0);
+    for row in 0..column.len() {
+        let next = column[row] as usize + 1;
+        if starts.len() <= next {
+            continue;
+        }
+        starts[next] = row as u32 + 1;
+    }
+}
+
+// The first row of each value that has a place in `starts`.
+pub fn first_rows(column: &[u32], starts: &mut [u32])
+    requires rising { ⌜ Rising (now column) ⌝ }
+    requires few { ⌜ length (now column) ≤ 16384 ⌝ }
+    ensures { λ _. ⌜ FirstRows (now (column .entry)) (now (starts .exit)) ⌝ }
+{
+    row_ends(column, starts);
+    for x in 1..starts.len() {
+        starts[x] = greater(starts[x - 1], starts[x]);
+    }
 }
 
 // The target of a record row.
