@@ -7,7 +7,6 @@ ghost use Rattle.lists.specs.Words.{zeros};
 ghost use Rattle.walk.specs.Walk.{Visits, place, everywhere};
 ghost use Rattle.tables.specs.Lookups.{FirstRows};
 ghost use Rattle.tables.specs.Readings.{flagged};
-ghost use Rattle.tables.specs.Refusal.{moduleLimit, rowLimit};
 ghost use Rattle.expected_order.specs.Expected.{importsOf, expected};
 ghost use Rattle.expected_order.specs.Visit.{Fit, held, Listed};
 use lists::core::fill;
@@ -89,7 +88,6 @@ pub fn expected_order_for_root<'a>(
     requires fit { ⌜ Fit (now normal) (now included) (now record_module) (now record_kind) (now record_target) (length (now marks)) ⌝ }
     requires module { ⌜ root < length (now marks) ⌝ }
     requires room { ⌜ length (now marks) ≤ length (now order) ⌝ }
-    requires few { ⌜ (length (now marks) ≤ moduleLimit) × (length (now record_module) ≤ rowLimit) ⌝ }
     ensures { λ r. ⌜ Listed (expected (now (normal .entry)) (now (included .entry)) (now (record_module .entry)) (now (record_kind .entry)) (now (record_target .entry)) root) (now (marks .entry)) (now (order .entry)) (now (marks .exit)) (now (order .exit)) r ⌝ }
 {
     fill(marks, 0);

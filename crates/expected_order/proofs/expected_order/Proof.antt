@@ -71,10 +71,7 @@ expected-order-for-root-requires c κs =
       subst (Fit (e .args .normal .now) (e .args .included .now) (e .args .record-module .now) (e .args .record-kind .now) (e .args .record-target .now)) n (accepted-fit (of e) (accepts (f .before .before))),
       (
         subst (λ (k : ℕ). e .args .root < k) n (f .before .if2 .left),
-        (
-          subst (λ (k : ℕ). k ≤ length (e .args .expected .now)) n (f .if3 .left),
-          (subst (λ (k : ℕ). k ≤ 4096) n (few f), accepted (of e) (accepts (f .before .before)) .sizes .recordModule),
-        ),
+        subst (λ (k : ℕ). k ≤ length (e .args .expected .now)) n (f .if3 .left),
       ),
     )
 

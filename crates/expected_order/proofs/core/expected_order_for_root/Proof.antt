@@ -40,7 +40,7 @@ abbrev places : tie.After-fill → ℕ
 places k = length (entry k .args .normal .now) + 1
 
 enough : (k : tie.After-fill) → places k ≤ 4097
-enough k = let p = entry k .pre in omega (arith, p .0 .normals, p .1 .1 .1 .0)
+enough k = let p = entry k .pre in omega (arith, p .0 .normals, p .0 .few)
 
 part : (k : tie.After-fill) → length (take (places k) room) ≡ places k
 part k = length-take-le (places k) room (enough k)
@@ -88,7 +88,8 @@ slice-aggregate-first-rows : tie.Need-slice-aggregate-first-rows
 slice-aggregate-first-rows c = sym (part (c .before .before .before .before .before))
 
 first-rows-requires : tie.Need-first-rows-requires
-first-rows-requires c κs = search needs
+first-rows-requires c κs =
+    let fit = entry (c .before .before .before .before .before) .pre .0 in (fit .rising, fit .rows)
 
 add-starts-2 : tie.Need-add-starts-2
 add-starts-2 c = search needs
@@ -116,7 +117,7 @@ visit-requires c κs =
         subst (FirstRows (a .record-module .now)) (sym (firsts-read r)) (r .first-rows .ensures),
         (
           omega (arith, ap length (firsts-read r), firsts-length r, n, e .pre .0 .normals),
-          (subst (λ (n : ℕ). a .root < n) n (e .pre .1 .0), omega (arith, z, e .pre .0 .normals, e .pre .1 .1 .0)),
+          (subst (λ (n : ℕ). a .root < n) n (e .pre .1 .0), omega (arith, z, e .pre .0 .normals, e .pre .1 .1)),
         ),
       ),
     )
@@ -142,7 +143,7 @@ returns-2 c =
     let count = v .visit .result in
     root-listed (a .normal .now) (a .included .now) (a .record-module .now) (a .record-kind .now) (a .record-target .now) (a .root) (a .marks .now) (a .order .now) marks (c .before .before .fill2 .last .0) order count
     (eq-eqb _ _ (r .before .before .if1 .left))
-    (omega (arith, e .pre .0 .normals, e .pre .1 .1 .0))
+    (omega (arith, e .pre .0 .normals, e .pre .1 .1))
     (c .before .before .fill2 .ensures ∙ ap (λ (n : ℕ). replicate n 0) (v .visit .kept .1 .1 .1 .1 .1 .1 .0 ∙ k .fill .kept .0))
     (subst (λ (x : List ℕ). Visits (importsOf (a .normal .now) (a .record-module .now) (a .record-kind .now) (a .record-target .now)) everywhere (place (flagged (a .included .now))) (held x (a .order .now) 0) (a .root ∷ []) (held marks order count)) (zeroed k) (v .visit .ensures))
 
