@@ -7,7 +7,7 @@ use Prim.Native.Nat.{ℕ, _+_, _-_, _*_, _≤_, _<_}
 use lib.ListN.{length, getD, take, drop, set}
 use Rattle.lists.specs.Words.{isZero, zeros, countFrom, keep}
 use Rattle.walk.specs.Walk.{St, Placed, visit}
-use Rattle.tables.specs.Lookups.{Rising}
+use Rattle.tables.specs.Lookups.{Rising, FirstRows}
 use Rattle.tables.specs.Accepted.{Below, BelowOrMissing}
 use Rattle.tables.specs.Refusal.{moduleLimit, chunkLimit}
 use Rattle.tables.specs.Project.{missing}
@@ -138,6 +138,15 @@ pub record Members (memberChunk member : List ℕ) (n : ℕ) : Type 0 where
   pub rising : Rising memberChunk
   pub lengths : length member ≡ length memberChunk
   pub inside : Below n member
+
+-- `starts` has the first row of every value up to n
+pub record Starts (column starts : List ℕ) (n : ℕ) : Type 0 where
+  pub rows : FirstRows column starts
+  pub room : n < length starts
+
+-- `starts` has the first rows of each of the chunks and of the chunk behind it
+abbrev pub Visited : List ℕ → List ℕ → List ℕ → Type 0
+Visited memberChunk starts chunks = (i : ℕ) → i < length chunks → Starts memberChunk starts (getD chunks i 0 + 1)
 
 -- the entry chunk of a root that is an included entry, or the mark
 unfoldable pub analysedChunk : List ℕ → List ℕ → List ℕ → ℕ → ℕ
