@@ -1,7 +1,8 @@
 // Sensitive and eligible modules, for crates above, on tested tables.
 ghost use mathlib.Core.Path.{_≡_};
-ghost use Prim.Native.Nat.{ℕ, _<_, _≤_};
+ghost use Prim.Native.Nat.{ℕ, _+_, _<_, _≤_};
 ghost use lib.ListN.{length, getD, replicate};
+ghost use Rattle.tables.specs.Lookups.{FirstRows};
 ghost use Rattle.tables.specs.Project.{missing};
 ghost use Prim.Native.Nat.{_-_};
 ghost use Rattle.lists.specs.Words.{any, countFrom, bit, marksOf};
@@ -10,7 +11,7 @@ ghost use Rattle.at_risk.specs.Marks.{wakes, statementWakes, usesWrapped
 use lists::core::fill;
 use tables::ModuleIdx;
 use tables::Target;
-use tables::core::first_row;
+use tables::core::first_rows;
 use tables::core::resolve;
 
 // Chains the rows of each owner, in row order.
@@ -92,13 +93,15 @@ fn search_uses(
     found
 }
 
-// Whether a module uses, in an included statement, such a record.
+// Whether a module uses, in an included statement, such a record. Its statements are the rows from its start to the next one's
+// (`statement_module` is named by the contract alone).
 fn eagerly_triggers_interop_module(
     normal: &[u32],
     wrap: &[u32],
     record_kind: &[u32],
     record_target: &[u32],
     statement_module: &[u32],
+    starts: &[u32],
     statement_included: &[u32],
     use_statement: &[u32],
     use_record: &[u32],
@@ -109,10 +112,11 @@ fn eagerly_triggers_interop_module(
     requires records { ⌜ Records (now normal) (now wrap) (now «record_kind») (now «record_target») ⌝ }
     requires uses { ⌜ Uses (now «statement_included») (now «use_statement») (now «use_record») (now heads) (now nexts) (length (now «record_kind»)) ⌝ }
     requires statements { ⌜ Statements (now «statement_module») (now «statement_included») × (m < length (now normal)) ⌝ }
+    requires starts { ⌜ FirstRows (now «statement_module») (now starts) × (length (now starts) ≡ length (now normal) + 1) ⌝ }
     ensures { λ r. ⌜ r ≡ usesWrapped (now (normal .entry)) (now (wrap .entry)) (now («record_kind» .entry)) (now («record_target» .entry)) (now («statement_module» .entry)) (now («statement_included» .entry)) (now («use_statement» .entry)) (now («use_record» .entry)) m ⌝ }
 {
-    let first = first_row(statement_module, m);
-    let end = first_row(statement_module, m + 1);
+    let first = starts[m] as usize;
+    let end = starts[m + 1] as usize;
     search_uses(
         normal,
         wrap,
@@ -137,6 +141,7 @@ fn is_order_sensitive(
     record_kind: &[u32],
     record_target: &[u32],
     statement_module: &[u32],
+    starts: &[u32],
     statement_included: &[u32],
     use_statement: &[u32],
     use_record: &[u32],
@@ -149,6 +154,7 @@ fn is_order_sensitive(
     requires records { ⌜ Records (now normal) (now wrap) (now «record_kind») (now «record_target») ⌝ }
     requires uses { ⌜ Uses (now «statement_included») (now «use_statement») (now «use_record») (now heads) (now nexts) (length (now «record_kind»)) ⌝ }
     requires statements { ⌜ Statements (now «statement_module») (now «statement_included») × (m < length (now normal)) ⌝ }
+    requires starts { ⌜ FirstRows (now «statement_module») (now starts) × (length (now starts) ≡ length (now normal) + 1) ⌝ }
     ensures { λ r. ⌜ r ≡ isSensitive runtime (now (normal .entry)) (now (included .entry)) (now (sensitive .entry)) (usesWrapped (now (normal .entry)) (now (wrap .entry)) (now («record_kind» .entry)) (now («record_target» .entry)) (now («statement_module» .entry)) (now («statement_included» .entry)) (now («use_statement» .entry)) (now («use_record» .entry))) m ⌝ }
 {
     if m == (runtime as usize) {
@@ -169,6 +175,7 @@ fn is_order_sensitive(
         record_kind,
         record_target,
         statement_module,
+        starts,
         statement_included,
         use_statement,
         use_record,
@@ -235,7 +242,7 @@ pub fn mark_eligible(
     }
 }
 
-// Marks the sensitive modules. The uses of each statement are chained.
+// Marks the sensitive modules. The uses of each statement are chained, and each module's statements start where `starts` says.
 fn mark_with_chains(
     normal: &[u32],
     included: &[u32],
@@ -244,6 +251,7 @@ fn mark_with_chains(
     record_kind: &[u32],
     record_target: &[u32],
     statement_module: &[u32],
+    starts: &[u32],
     statement_included: &[u32],
     use_statement: &[u32],
     use_record: &[u32],
@@ -256,6 +264,7 @@ fn mark_with_chains(
     requires records { ⌜ Records (now normal) (now wrap) (now «record_kind») (now «record_target») ⌝ }
     requires uses { ⌜ Uses (now «statement_included») (now «use_statement») (now «use_record») (now heads) (now nexts) (length (now «record_kind»)) ⌝ }
     requires statements { ⌜ Statements (now «statement_module») (now «statement_included») × (length (now marks) ≡ length (now normal)) ⌝ }
+    requires starts { ⌜ FirstRows (now «statement_module») (now starts) × (length (now starts) ≡ length (now normal) + 1) ⌝ }
     ensures { λ _. ⌜ now (marks .exit) ≡ marksOf (isSensitive runtime (now (normal .entry)) (now (included .entry)) (now (sensitive .entry)) (usesWrapped (now (normal .entry)) (now (wrap .entry)) (now («record_kind» .entry)) (now («record_target» .entry)) (now («statement_module» .entry)) (now («statement_included» .entry)) (now («use_statement» .entry)) (now («use_record» .entry)))) (length (now (marks .entry))) ⌝ }
 {
     let mut m = 0;
@@ -268,6 +277,7 @@ fn mark_with_chains(
             record_kind,
             record_target,
             statement_module,
+            starts,
             statement_included,
             use_statement,
             use_record,
@@ -300,13 +310,17 @@ pub fn mark_sensitive(
     requires records { ⌜ Records (now normal) (now wrap) (now «record_kind») (now «record_target») ⌝ }
     requires rows { ⌜ UseRows (now «statement_module») (now «use_statement») (now «use_record») (length (now «record_kind»)) ⌝ }
     requires statements { ⌜ Statements (now «statement_module») (now «statement_included») × (length (now marks) ≡ length (now normal)) ⌝ }
+    requires few { ⌜ length (now marks) ≤ 4096 ⌝ }
     ensures { λ _. ⌜ now (marks .exit) ≡ marksOf (isSensitive runtime (now (normal .entry)) (now (included .entry)) (now (sensitive .entry)) (usesWrapped (now (normal .entry)) (now (wrap .entry)) (now («record_kind» .entry)) (now («record_target» .entry)) (now («statement_module» .entry)) (now («statement_included» .entry)) (now («use_statement» .entry)) (now («use_record» .entry)))) (length (now (marks .entry))) ⌝ }
 {
     let statements = statement_included.len();
     let uses = use_record.len();
+    let places = marks.len() + 1;
     let mut heads = [0u32; 16384];
     let mut nexts = [0u32; 16384];
+    let mut starts = [0u32; 4097];
     chain_rows(use_statement, &mut heads[..statements], &mut nexts[..uses]);
+    first_rows(statement_module, &mut starts[..places]);
     mark_with_chains(
         normal,
         included,
@@ -315,6 +329,7 @@ pub fn mark_sensitive(
         record_kind,
         record_target,
         statement_module,
+        &starts[..places],
         statement_included,
         use_statement,
         use_record,

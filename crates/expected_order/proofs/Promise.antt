@@ -29,6 +29,8 @@ accepted-fit p e =
       kinds = a .sizes .recordKind;
       targets = a .sizes .recordTarget;
       rising = a .rises .recordModule;
+      few = a .sizes .normal;
+      rows = a .sizes .recordModule;
     }
 
 module _ (p : Project) (root : ℕ) (order : List ℕ) where

@@ -1,8 +1,11 @@
 -- `at_risk::core::eagerly_triggers_interop_module` meets its contract: a module's statements are a run of rows.
 -- Assumes nothing.
-use mathlib.Core.Path.{_≡_, sym, ap, _∙_}
+use mathlib.Core.Path.{sym, ap, _∙_}
+use Prim.Native.Nat.{ℕ, _+_}
 use native.Mathlib.Omega.{arith}
+use lib.ListN.{getD}
 use Rattle.lists.specs.Words.{any}
+use Rattle.tables.specs.Lookups.{FirstRow}
 use Rattle.tables.proofs.Rows.{run-ordered, rows-of-run}
 use Rattle.at_risk.specs.Marks.{statementWakes, usesWrapped}
 use borrow.Author.Needs.{needs}
@@ -11,49 +14,81 @@ use Rattle.at_risk.proofs.core.eagerly_triggers_interop_module.Tie as t
 use Rattle.at_risk.proofs.core.eagerly_triggers_interop_module.Reads as reads
 use Rattle.at_risk.proofs.core.eagerly_triggers_interop_module.Lts as lts
 use Rattle.at_risk.proofs.core.search_uses.Reads as search-uses-reads
-use Rattle.tables.proofs.core.first_row.Reads as first-row-reads
 
--- src/core.rt:114:9
-first-row-requires : tie.Need-first-row-requires
-first-row-requires c κs = search needs
+abbrev entry : tie.After-shared-slice-known13 → tie.Start
+entry c = c .before .before .before .before .before .before .before .before .before .before .before .before .before
 
--- src/core.rt:115:43
-add-first-row : tie.Need-add-first-row
-add-first-row c = search needs
+abbrev start : tie.Start → ℕ → ℕ
+start e m = getD (e .args .starts .now) m 0
 
--- src/core.rt:115:9
-first-row-requires-2 : tie.Need-first-row-requires-2
-first-row-requires-2 c κs = search needs
+first : (e : tie.Start) → FirstRow (e .args .statement-module .now) (e .args .m) (start e (e .args .m))
+first e = e .pre .1 .1 .1 .0 .firsts (e .args .m) (omega (arith, e .pre .1 .1 .0 .1, e .pre .1 .1 .1 .1))
 
--- src/core.rt:116:5
+next : (e : tie.Start) → FirstRow (e .args .statement-module .now) (e .args .m + 1) (start e (e .args .m + 1))
+next e = e .pre .1 .1 .1 .0 .firsts (e .args .m + 1) (omega (arith, e .pre .1 .1 .0 .1, e .pre .1 .1 .1 .1))
+
+-- src/core.rt:117:17
+mul-first : tie.Need-mul-first
+mul-first c = search needs
+
+-- src/core.rt:117:17
+shared-slice-read-first : tie.Need-shared-slice-read-first
+shared-slice-read-first c = search needs
+
+-- src/core.rt:117:17
+cast-first : tie.Need-cast-first
+cast-first c = omega (arith, c .shared-slice-known12 .given (c .before .before .before .before .before .before .before .before .before .before .before .before .args .m))
+
+-- src/core.rt:118:22
+add-end : tie.Need-add-end
+add-end c = search needs
+
+-- src/core.rt:118:15
+mul-end : tie.Need-mul-end
+mul-end c = search needs
+
+-- src/core.rt:118:15
+shared-slice-read-end : tie.Need-shared-slice-read-end
+shared-slice-read-end c = search needs
+
+-- src/core.rt:118:15
+cast-end : tie.Need-cast-end
+cast-end c = omega (arith, c .shared-slice-known13 .given (entry c .args .m + 1))
+
+-- src/core.rt:119:5
 search-uses-requires : tie.Need-search-uses-requires
 search-uses-requires c κs =
-    let e = c .before .before .before .before .before .before .before .before .before .before .before .before in
-    let p = e .pre in
-    let first = c .before .first-row in
-    let next = c .first-row2 in (
+    let e = entry c in
+    let p = e .pre in (
       p .0,
       (
         p .1 .0,
         (
-          run-ordered (e .args .statement-module .now) (e .args .m) (first .result) (next .result) (first .ensures) (next .ensures),
-          omega (arith, next .ensures .within, p .1 .1 .0 .includeds),
+          run-ordered (e .args .statement-module .now) (e .args .m) _ _ (first e) (next e),
+          omega (arith, next e .within, p .1 .1 .0 .0 .includeds),
         ),
       ),
     )
 
--- src/core.rt:96:1
+-- src/core.rt:97:1
 returns : tie.Need-returns
 unfolding usesWrapped
 returns c =
-    let f = c .before in
-    let a = f .before .before .before .before .before .before .before .before .before .before .before .before .args in
-    let first = f .before .first-row in
-    let next = f .first-row2 in
+    let e = entry (c .before) in
+    let a = e .args in
     c .search-uses .ensures
-    ∙ sym (ap (any (statementWakes (a .normal .now) (a .wrap .now) (a .record-kind .now) (a .record-target .now) (a .statement-included .now) (a .use-statement .now) (a .use-record .now))) (rows-of-run (a .statement-module .now) (a .m) (first .result) (next .result) (first .ensures) (next .ensures)))
+    ∙ sym (ap (any (statementWakes (a .normal .now) (a .wrap .now) (a .record-kind .now) (a .record-target .now) (a .statement-included .now) (a .use-statement .now) (a .use-record .now))) (rows-of-run (a .statement-module .now) (a .m) _ _ (first e) (next e)))
 
 pub eagerly-triggers-interop-module-spec : {M : Type 1} → statement M
 eagerly-triggers-interop-module-spec =
     tie.close
-    (tie.spec first-row-requires add-first-row first-row-requires-2 search-uses-requires returns)
+    (tie.spec
+    mul-first
+    shared-slice-read-first
+    cast-first
+    add-end
+    mul-end
+    shared-slice-read-end
+    cast-end
+    search-uses-requires
+    returns)

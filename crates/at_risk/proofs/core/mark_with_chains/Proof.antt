@@ -2,13 +2,13 @@
 -- Assumes nothing.
 use mathlib.Core.Path.{_≡_, ap, _∙_}
 use mathlib.Core.Bool.{Bool}
-use Prim.Native.Nat.{ℕ, _-_, _≤_, _<_}
+use Prim.Native.Nat.{ℕ, _+_, _-_, _≤_, _<_}
 use native.Mathlib.Omega.{arith}
 use lib.ListN.{length, length-set}
 use borrow.Author.Needs.{needs}
 use Rattle.lists.specs.Words.{bit}
 use Rattle.at_risk.specs.Marks.{isSensitive, usesWrapped}
-use Rattle.at_risk.proofs.Lists.{Passed, passed-start, passed-length, passed-more, passed-end}
+use Rattle.at_risk.proofs.Lists.{Passed, passed-length, passed-more, passed-end}
 use Rattle.at_risk.proofs.core.mark_with_chains.Statement.{statement}
 use Rattle.at_risk.proofs.core.mark_with_chains.Tie as tie
 use Rattle.at_risk.proofs.core.mark_with_chains.Reads as reads
@@ -17,11 +17,11 @@ use Rattle.at_risk.proofs.core.is_order_sensitive.Reads as is-order-sen
 use Rattle.at_risk.proofs.core.mark.Reads as mark-reads
 
 abbrev Inv-loop : tie.InvT-loop
-Inv-loop normal included sensitive wrap record-kind record-target statement-module statement-included use-statement use-record heads nexts marks₀ runtime m₀ marks m =
+Inv-loop normal included sensitive wrap record-kind record-target statement-module starts statement-included use-statement use-record heads nexts marks₀ runtime m₀ marks m =
     Passed (isSensitive runtime normal included sensitive (usesWrapped normal wrap record-kind record-target statement-module statement-included use-statement use-record)) marks₀ m marks
 
 abbrev μ-loop : tie.MeasureT-loop
-μ-loop normal included sensitive wrap record-kind record-target statement-module statement-included use-statement use-record heads nexts marks₀ runtime m₀ marks m =
+μ-loop normal included sensitive wrap record-kind record-target statement-module starts statement-included use-statement use-record heads nexts marks₀ runtime m₀ marks m =
     length marks - m
 
 -- src/core.rt:262:5
@@ -29,7 +29,7 @@ abbrev Loop : Type 0
 Loop = lts.At-loop (is-order-sensitive-reads.Asked, is-order-sensitive-reads.Learnt, mark-reads.Asked, mark-reads.Learnt) reads.Pre reads.Post Inv-loop μ-loop
 
 abbrev entry : Loop → lts.Start (is-order-sensitive-reads.Asked, is-order-sensitive-reads.Learnt, mark-reads.Asked, mark-reads.Learnt) reads.Pre reads.Post Inv-loop μ-loop
-entry l = l .before .before .before .before .before .before .before .before .before .before .before .before .before .before
+entry l = l .before .before .before .before .before .before .before .before .before .before .before .before .before .before .before
 
 abbrev sensitive-at : Loop → ℕ → Bool
 sensitive-at l = let a = entry l .args in
@@ -38,12 +38,16 @@ sensitive-at l = let a = entry l .args in
 len : (l : Loop) → length (l .loop .marks) ≡ length (entry l .args .marks .now)
 len l = passed-length (sensitive-at l) (entry l .args .marks .now) (l .loop .m) (l .loop .marks) (l .loop .inv)
 
+-- the next place is a number
+more : (l : Loop) → l .loop .m < length (l .loop .marks) → l .loop .m + 1 ≤ length (entry l .args .normal .now)
+more l h = omega (arith, len l, entry l .pre .1 .1 .1 .0 .1)
+
 loop-holds : tie.Need-loop-holds Inv-loop μ-loop
 loop-holds c = search needs
 
 -- src/core.rt:263:13
 is-order-sensitive-requires : tie.Need-is-order-sensitive-requires Inv-loop μ-loop
-is-order-sensitive-requires c κs = let l = c .before in let p = entry l .pre in (p .0, (p .1 .0, (p .1 .1 .0, (p .1 .1 .1 .0, omega (arith, len l, p .1 .1 .1 .1)))))
+is-order-sensitive-requires c κs = let l = c .before in let p = entry l .pre in (p .0, (p .1 .0, (p .1 .1 .0, ((p .1 .1 .1 .0 .0, omega (arith, len l, p .1 .1 .1 .0 .1)), p .1 .1 .1 .1))))
 
 -- src/core.rt:279:20
 mark-requires : tie.Need-mark-requires Inv-loop μ-loop
@@ -51,7 +55,7 @@ mark-requires c κs = search needs
 
 -- src/core.rt:279:9
 mul-marks : tie.Need-mul-marks Inv-loop μ-loop
-mul-marks c = search needs
+mul-marks c = let l = c .before .before .before in omega (arith, more l (c .before .before .loop-test .taken), entry l .good .0)
 
 -- src/core.rt:279:9
 slice-write-marks : tie.Need-slice-write-marks Inv-loop μ-loop
@@ -59,7 +63,7 @@ slice-write-marks c = search needs
 
 -- src/core.rt:280:9
 add-m : tie.Need-add-m Inv-loop μ-loop
-add-m c = search needs
+add-m c = let l = c .before .before .before in omega (arith, more l (c .before .before .loop-test .taken), entry l .good .0)
 
 -- src/core.rt:262:5
 loop-less : tie.Need-loop-less Inv-loop μ-loop

@@ -104,7 +104,7 @@ mark-sensitive-requires c κs =
       record { includeds = fit .includeds ∙ sym (fit .normals); flags = t .flags ∙ sym (fit .normals) },
       (
         record { wraps = fit .wraps ∙ sym (fit .normals); targets = fit .targets ∙ sym (fit .kinds) },
-        (t .uses, (t .statements, part c ∙ sym (fit .normals))),
+        (t .uses, ((t .statements, part c ∙ sym (fit .normals)), omega (arith, part c, t .few))),
       ),
     )
 
