@@ -95,7 +95,7 @@ actual-order-from-requires c κs =
         (
           imports-fit p a,
           (
-            (omega (arith, size, a .sizes .normal), omega (arith, a .sizes .imports, a .sizes .importChunk), a .sizes .recordModule, a .sizes .memberChunk),
+            (omega (arith, size, a .sizes .normal), omega (arith, a .sizes .imports, a .sizes .importChunk)),
             (
               (omega (arith, size, root-in p root (outs k .0) (outs k .1) (clear e) (found t)), omega (arith, n .analysed-chunk .ensures, chunk-in p root (outs k .0) (outs k .1) (clear e) (found t))),
               omega (arith, size, f .before .if3 .left),

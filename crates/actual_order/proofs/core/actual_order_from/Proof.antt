@@ -58,7 +58,7 @@ actual-order-for-root-requires : tie.Need-actual-order-for-root-requires
 actual-order-for-root-requires c κs =
     let x = c .before .before .before .before in
     let e = start x in
-    (e .pre .0, (e .pre .1 .0, (fits x, ((e .pre .1 .1 .1 .0 .0, e .pre .1 .1 .0 .limit, e .pre .1 .1 .1 .0 .2, e .pre .1 .1 .1 .0 .3, omega (arith, e .pre .1 .1 .1 .0 .1, e .pre .1 .1 .0 .lengths)), (e .pre .1 .1 .1 .1 .0, e .pre .1 .1 .1 .1 .1)))))
+    (e .pre .0, (e .pre .1 .0, (fits x, ((e .pre .1 .1 .1 .0 .0, e .pre .1 .1 .0 .limit), (e .pre .1 .1 .1 .1 .0, e .pre .1 .1 .1 .1 .1)))))
 
 same-length : tie.Need-same-length
 same-length c = search needs

@@ -20,7 +20,7 @@ entry x = x .before .before .before .before .before
 
 -- there is a first row for each chunk, and for the end
 places : (e : tie.Start) → e .args .chunks + 1 ≤ 1025
-places e = omega (arith, e .pre .1 .0 .0)
+places e = omega (arith, e .pre .1 .0)
 
 add-places : tie.Need-add-places
 add-places c = search needs
@@ -44,19 +44,19 @@ array-borrow-prefix-marks : tie.Need-array-borrow-prefix-marks
 array-borrow-prefix-marks c = search needs
 
 slice-aggregate-visit-chunk-from-2 : tie.Need-slice-aggregate-visit-chunk-from-2
-slice-aggregate-visit-chunk-from-2 c = let e = entry (c .before .before .before) in zeroed-length (e .args .chunks) 1024 (e .pre .1 .0 .0)
+slice-aggregate-visit-chunk-from-2 c = let e = entry (c .before .before .before) in zeroed-length (e .args .chunks) 1024 (e .pre .1 .0)
 
 visit-chunk-from-requires : tie.Need-visit-chunk-from-requires
 visit-chunk-from-requires c κs =
     let x = c .before .before .before .before in
     let e = entry x in
     let a = e .args in
-    let n = zeroed-length (a .chunks) 1024 (e .pre .1 .0 .0) in
-    let z : zeros (take (a .chunks) (replicate {A = ℕ} 1024 0)) ≡ a .chunks = ap zeros (zeroed (a .chunks) 1024 (e .pre .1 .0 .0)) ∙ zeros-replicate (a .chunks) in (
+    let n = zeroed-length (a .chunks) 1024 (e .pre .1 .0) in
+    let z : zeros (take (a .chunks) (replicate {A = ℕ} 1024 0)) ≡ a .chunks = ap zeros (zeroed (a .chunks) 1024 (e .pre .1 .0)) ∙ zeros-replicate (a .chunks) in (
       subst (Loads (a .import-chunk .now) (a .loads .now)) n (e .pre .0),
       subst (Starts (a .import-chunk .now) _) n (part-starts (a .chunks + 1) 1025 (places e) (x .first-rows .last .1 .0) (x .first-rows .kept .1 .0) (a .import-chunk .now) (a .chunks) (x .first-rows .ensures) (omega arith)),
       subst (λ (k : ℕ). a .c < k) n (e .pre .1 .1 .0),
-      record { equal = refl; room = omega (arith, z, e .pre .1 .1 .1); limit = omega (arith, z, e .pre .1 .0 .0) },
+      record { equal = refl; room = omega (arith, z, e .pre .1 .1 .1); limit = omega (arith, z, e .pre .1 .0) },
     )
 
 same-length : tie.Need-same-length
@@ -70,7 +70,7 @@ returns c =
     let x = v .visit-chunk-from .last .1 .1 .1 in
     chunks-written (valuesOf (a .import-chunk .now) (a .loads .now)) (a .chunks) (a .c) (a .visited .now) (x .0) (x .1 .0) (v .visit-chunk-from .result .placed) (e .pre .1 .1 .1)
     (subst (λ (m : List ℕ). Visits (valuesOf (a .import-chunk .now) (a .loads .now)) everywhere (place everywhere) (visiting m (a .visited .now) 0) (a .c ∷ []) (visiting (x .0) (x .1 .0) (v .visit-chunk-from .result .placed)))
-    (zeroed (a .chunks) 1024 (e .pre .1 .0 .0)) (v .visit-chunk-from .ensures .0))
+    (zeroed (a .chunks) 1024 (e .pre .1 .0)) (v .visit-chunk-from .ensures .0))
 
 pub chunk-order-spec : {M : Type 1} → statement M
 chunk-order-spec =
