@@ -3,7 +3,7 @@ ghost use mathlib.Core.Path.{_≡_};
 ghost use Prim.Native.Nat.{ℕ, _<_, _≤_};
 ghost use lib.ListN.{length};
 ghost use Rattle.tables.specs.Lookups.{Rising, FirstRow, FirstRows, Greater, RowEnds};
-ghost use Rattle.tables.specs.Readings.{isStatic, resolved, membersOf};
+ghost use Rattle.tables.specs.Readings.{isStatic, resolved};
 use crate::ModuleIdx;
 use crate::Target;
 use lists::core::fill;
@@ -81,18 +81,6 @@ pub fn resolve(normal: &[u32], target: &[u32], row: usize) -> Target
         return Target::Normal(t);
     }
     Target::External(t)
-}
-
-// The members of a chunk: that part of the member column.
-pub fn members<'a, 'b>(chunk: &'b [u32], member: &'a [u32], c: u32) -> &'a [u32]
-    requires rising { ⌜ Rising (now chunk) ⌝ }
-    requires lengths { ⌜ length (now member) ≡ length (now chunk) ⌝ }
-    ensures { λ r. ⌜ now r ≡ membersOf (now (chunk .entry)) (now (member .entry)) c ⌝ }
-{
-    let x = c as usize;
-    let start = first_row(chunk, x);
-    let end = first_row(chunk, x + 1);
-    &member[start..end]
 }
 
 // Whether a record of this kind is static.

@@ -51,14 +51,14 @@ loop-holds c =
     let a = e .args in
     (omega arith, turns-none (a .normal .now) (a .included .now) (a .wrap .now) (a .record-module .now) (a .record-kind .now) (a .record-target .now) (eagerMembers (a .wrap .now) (a .member-chunk .now) (a .member .now)) (executing (a .marks .now) (a .order .now) (a .hosts .now) (a .before .placed)) (a .chunks .now), e .pre .1 .1 .1 .1 .1 .equal)
 
-mul-own-members : tie.Need-mul-own-members Inv-loop μ-loop
-mul-own-members c = let l = c .before in omega (arith, c .loop-test .taken, entry l .good .1 .1 .1 .1 .1 .1 .1 .1 .1 .1 .0)
+mul-members : tie.Need-mul-members Inv-loop μ-loop
+mul-members c = let l = c .before in omega (arith, c .loop-test .taken, entry l .good .1 .1 .1 .1 .1 .1 .1 .1 .1 .1 .0)
 
-shared-slice-read-own-members : tie.Need-shared-slice-read-own-members Inv-loop μ-loop
-shared-slice-read-own-members c = c .before .loop-test .taken
+shared-slice-read-members : tie.Need-shared-slice-read-members Inv-loop μ-loop
+shared-slice-read-members c = c .before .loop-test .taken
 
-own-members-requires : tie.Need-own-members-requires Inv-loop μ-loop
-own-members-requires c κs = let l = c .before .before in let e = entry l in (e .pre .1 .1 .1 .1 .0 (l .loop .i) (c .before .loop-test .taken), e .pre .1 .1 .1 .0 .lengths)
+members-requires : tie.Need-members-requires Inv-loop μ-loop
+members-requires c κs = let l = c .before .before in let e = entry l in (e .pre .1 .1 .1 .1 .0 (l .loop .i) (c .before .loop-test .taken), e .pre .1 .1 .1 .0 .lengths)
 
 execute-members-requires : tie.Need-execute-members-requires Inv-loop μ-loop
 execute-members-requires c κs =
@@ -74,7 +74,7 @@ execute-members-requires c κs =
         (
           k .hosts ∙ e .pre .1 .1 .0 ∙ sym (k .marks),
           (
-            subst (λ (j : ℕ). Below j (m .own-members .result .now)) (sym (k .marks)) (subst (Below n) (sym (m .own-members .ensures)) (values-below n (a .member-chunk .now) (a .member .now) (getD (a .chunks .now) (l .loop .i) 0) (e .pre .1 .1 .1 .0 .lengths) (e .pre .1 .1 .1 .0 .inside))),
+            subst (λ (j : ℕ). Below j (m .members .result .now)) (sym (k .marks)) (subst (Below n) (sym (m .members .ensures)) (values-below n (a .member-chunk .now) (a .member .now) (getD (a .chunks .now) (l .loop .i) 0) (e .pre .1 .1 .1 .0 .lengths) (e .pre .1 .1 .1 .0 .inside))),
             record { equal = l .loop .inv .2; room = omega (arith, k .room, k .order, e .pre .1 .1 .1 .1 .1 .room); limit = omega (arith, k .room, e .pre .1 .1 .1 .1 .1 .limit) },
           ),
         ),
@@ -99,7 +99,7 @@ loop-again c =
     let u : St Filling = executing (x .0) (x .1 .0) (x .1 .1 .0) (v .execute-members .result .placed) in (
       omega arith,
       turns-more (a .normal .now) (a .included .now) (a .wrap .now) (a .record-module .now) (a .record-kind .now) (a .record-target .now) (own l) (begun l) (a .chunks .now) (l .loop .i) (now-at l) u h (l .loop .inv .1)
-          (ap (λ (k : List ℕ). foldl (hosted (a .normal .now) (a .included .now) (a .wrap .now) (a .record-module .now) (a .record-kind .now) (a .record-target .now)) (now-at l) (keep (unwrapped (a .wrap .now)) k)) (sym (m .own-members .ensures)) ∙ v .execute-members .ensures .0),
+          (ap (λ (k : List ℕ). foldl (hosted (a .normal .now) (a .included .now) (a .wrap .now) (a .record-module .now) (a .record-kind .now) (a .record-target .now)) (now-at l) (keep (unwrapped (a .wrap .now)) k)) (sym (m .members .ensures)) ∙ v .execute-members .ensures .0),
       v .execute-members .ensures .1,
     )
 
@@ -125,9 +125,9 @@ execute-chunks-spec =
     Inv-loop
     μ-loop
     loop-holds
-    mul-own-members
-    shared-slice-read-own-members
-    own-members-requires
+    mul-members
+    shared-slice-read-members
+    members-requires
     execute-members-requires
     add-i
     loop-less

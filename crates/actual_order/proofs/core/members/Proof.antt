@@ -1,4 +1,4 @@
--- `actual_order::core::own_members` meets its contract: the part from the chunk's first row to the next chunk's first has its members.
+-- `actual_order::core::members` meets its contract: the part from the chunk's first row to the next chunk's first has its members.
 -- Assumes nothing.
 use Prim.Native.Nat.{_+_}
 use native.Mathlib.Omega.{arith}
@@ -7,8 +7,8 @@ use borrow.Author.Needs.{needs}
 use Rattle.tables.specs.Lookups.{FirstRow}
 use Rattle.tables.proofs.Rows.{run-ordered, values-part}
 use Rattle.actual_order.proofs.Starting.{start-at}
-use Rattle.actual_order.proofs.core.own_members.Statement.{statement}
-use Rattle.actual_order.proofs.core.own_members.Tie as tie
+use Rattle.actual_order.proofs.core.members.Statement.{statement}
+use Rattle.actual_order.proofs.core.members.Tie as tie
 
 -- the chunk's first row, and the first behind its rows
 first : (e : tie.Start) → let a = e .args in FirstRow (a .member-chunk .now) (a .c) (getD (a .starts .now) (a .c) 0)
@@ -53,8 +53,8 @@ part-result-end c = let e = c .before .before in omega (arith, next e .within, e
 returns : tie.Need-returns
 returns c = let e = c .before .before .before in values-part _ _ _ _ (first e) (next e) _ (e .pre .1)
 
-pub own-members-spec : {M : Type 1} → statement M
-own-members-spec =
+pub members-spec : {M : Type 1} → statement M
+members-spec =
     tie.close
     (tie.spec
     mul-start
