@@ -9,6 +9,7 @@ use lib.ListN.{length}
 use Rattle.lists.specs.Words.{zeros}
 use Rattle.walk.specs.Walk.{Placed, place, everywhere, Visits}
 use Rattle.walk.proofs.Placing.{place-count, place-length}
+use Rattle.tables.specs.Accepted.{Below}
 use Rattle.tables.specs.Readings.{valuesOf}
 use Rattle.tables.specs.Refusal.{moduleLimit}
 use Rattle.actual_order.specs.Cores.{Loads, Starts, loaded, placing, visiting, RoomFor, pending, Next, Entered}
@@ -28,6 +29,9 @@ module _ (importChunk starts loads : List ℕ) where
 
   abbrev pub Enters : List ℕ → ℕ → List ℕ → Pending → Type 0
   Enters marks c marked p = Entered (valuesOf importChunk loads) everywhere (loaded loads) (length loads) marks c marked p
+
+  abbrev pub Proceeds : List ℕ → Pending → Type 0
+  Proceeds marks p = (p .end ≤ length loads) × Below (length marks) loads
 
   abbrev pub MayLeave : List ℕ → Bool → ActualOrderTraversal → Type 0
   MayLeave visited b h = (h .next ≡ h .placed) × (b ≡ true → (h .placed < length visited) × (h .placed < moduleLimit))
@@ -49,8 +53,8 @@ module _ (importChunk starts loads : List ℕ) where
       pub same-visited : length (t .xs) ≡ length visited
       same-visited = lent-keeps (valuesOf importChunk loads) everywhere (place everywhere) placing (λ (p : Placed). p .count) (λ x n. refl) (place-count everywhere) (loaded loads) (length loads) marks visited h c marked first e t (λ (p : Placed). length (p .order) ≡ length visited) (place-length everywhere (length visited)) refl
 
-      pub next-fits : t .p .end ≤ length loads
-      next-fits = lent-within (valuesOf importChunk loads) everywhere (place everywhere) placing (λ (p : Placed). p .count) (λ x n. refl) (place-count everywhere) (loaded loads) (length loads) marks visited h c marked first e t
+      pub next-fits : (ms : List ℕ) → length ms ≡ length marks → Proceeds ms (t .p)
+      next-fits ms l = (lent-within (valuesOf importChunk loads) everywhere (place everywhere) placing (λ (p : Placed). p .count) (λ x n. refl) (place-count everywhere) (loaded loads) (length loads) marks visited h c marked first e t, subst (λ (n : ℕ). Below n loads) (sym l) (within .0 .inside))
 
       module _ (more : t .p .more ≡ true) where
         pub falls : zeros (t .ms) < zeros marks
@@ -66,11 +70,11 @@ module _ (importChunk starts loads : List ℕ) where
               record { equal = t .equal; room = omega (arith, room, r .room, same-visited); limit = omega (arith, room, r .limit) },
             )
 
-        abbrev pub next-turn : (r : Pending) (u : ActualOrderTraversal) (ms xs : List ℕ) → Next (loaded loads) (t .p) r → Says (t .ms) (t .xs) (t .p .place) (t .t) ms xs u → Turn
+        abbrev pub next-turn : (r : Pending) (u : ActualOrderTraversal) (ms xs : List ℕ) → Next (loaded loads) ms (t .p) r → Says (t .ms) (t .xs) (t .p .place) (t .t) ms xs u → Turn
         next-turn r u ms xs n d = lent-next (valuesOf importChunk loads) everywhere (place everywhere) placing (λ (p : Placed). p .count) (λ x n. refl) (place-count everywhere) (loaded loads) (length loads) marks visited h c marked first e t more r u ms xs n (d .1) (d .0)
 
-        pub nearer : (r : Pending) → Next (loaded loads) (t .p) r → length (pending (loaded loads) r) < length (pending (loaded loads) (t .p))
-        nearer r n = lent-nearer (valuesOf importChunk loads) everywhere (place everywhere) placing (λ (p : Placed). p .count) (λ x n. refl) (place-count everywhere) (loaded loads) (length loads) marks visited h c marked first e t more r n
+        pub nearer : (r : Pending) (ms : List ℕ) → Next (loaded loads) ms (t .p) r → length (pending (loaded loads) r) < length (pending (loaded loads) (t .p))
+        nearer r ms n = lent-nearer (valuesOf importChunk loads) everywhere (place everywhere) placing (λ (p : Placed). p .count) (λ x n. refl) (place-count everywhere) (loaded loads) (length loads) marks visited h c marked first e t more r ms n
 
       pub leave-fits : MayLeave (t .xs) (t .p .entered) (t .t)
       leave-fits = (t .equal, λ q. let one = lent-one (valuesOf importChunk loads) everywhere (place everywhere) placing (λ (p : Placed). p .count) (λ x n. refl) (place-count everywhere) (loaded loads) (length loads) marks visited h c marked first e t q in let r = within .3 in (omega (arith, one, r .room, same-visited), omega (arith, one, r .limit)))

@@ -3,16 +3,16 @@
 use mathlib.Core.Path.{_≡_, refl, sym, ap, subst, _∙_}
 use mathlib.Core.Logic.{⊎-elim}
 use mathlib.Core.Bool.{Bool, true, false, cond}
-use mathlib.Core.List.{List, [], _∷_, _++_, append-assoc, append-nil, nil≢cons, List·Memᴰ, List·Memᴰ·head, Memᴰ·append-right}
+use mathlib.Core.List.{List, [], _∷_, _++_, append-assoc, append-nil, nil≢cons, List·Memᴰ, List·Memᴰ·head, List·Memᴰ·tail, Memᴰ·append-right}
 use Prim.Native.Nat.{ℕ, suc, _+_, _-_, _≤_, _<_}
 use native.Mathlib.Omega.{arith}
-use lib.ListN.{length, set, length-set}
+use lib.ListN.{length, set, length-set, length-append}
 use Rattle.lists.specs.Words.{zeros}
 use Rattle.lists.proofs.Laws.{both}
 use Rattle.walk.specs.Walk.{St, fresh, Visits}
 use Rattle.walk.proofs.Visits.{Grown, set-zeros, enters-true, visit-old}
-use Rattle.walk.proofs.Going.{none-visited, left-visited, visited-grown, visited-then, visited-keeps, visited-room}
-use Rattle.actual_order.specs.Cores.{behind, pending, Next, Entered}
+use Rattle.walk.proofs.Going.{none-visited, met-visited, left-visited, visited-grown, visited-then, visited-keeps, visited-room}
+use Rattle.actual_order.specs.Cores.{behind, pending, Passed, Next, Entered}
 use Rattle.actual_order.specs.declared.core.ActualOrderTraversal.{ActualOrderTraversal}
 use Rattle.actual_order.specs.declared.core.Pending.{Pending}
 
@@ -40,20 +40,37 @@ module _ (succ : ℕ → List ℕ) (gate : ℕ → Bool) {A : Type 0} (act : A �
     pub parts : all ≡ done ++ todo
     pub so-far : Visits succ gate act s done t
 
-  pub between-start : (s : St A) (all : List ℕ) → Between s all all s
-  between-start s all = record { done = []; parts = refl; so-far = none-visited succ gate act s }
+  -- places that are met change nothing
+  met-all : (t : St A) (xs : List ℕ) → ((x : ℕ) → List·Memᴰ x xs → fresh t x ≡ false) → Visits succ gate act t xs t
+  met-all t [] f = none-visited succ gate act t
+  met-all t (x ∷ xs) f = visited-then succ gate act (met-visited succ gate act t x (f x (List·Memᴰ·head refl))) (met-all t xs (λ y h. f y (List·Memᴰ·tail h)))
 
-  pub between-next : {s t u : St A} {all todo rest : List ℕ} {x : ℕ} → Between s all todo t → todo ≡ x ∷ rest → Visits succ gate act t (x ∷ []) u → Between s all rest u
-  between-next {s} {t} {u} {all} {todo} {rest} {x} b e v = record {
-    done = b .done ++ (x ∷ []);
-    parts = b .parts ∙ ap (λ (l : List ℕ). b .done ++ l) e ∙ sym (append-assoc (b .done) (x ∷ []) rest);
-    so-far = visited-then succ gate act (b .so-far) v;
+  between-passed : {s t : St A} {all todo rest : List ℕ} → Between s all todo t → Passed (t .marks) todo rest → Between s all rest t
+  between-passed {s} {t} {all} {todo} {rest} b p = record {
+    done = b .done ++ p .over;
+    parts = b .parts ∙ ap (λ (l : List ℕ). b .done ++ l) (p .parts) ∙ sym (append-assoc (b .done) (p .over) rest);
+    so-far = visited-then succ gate act (b .so-far) (met-all t (p .over) (p .met));
   }
+
+  pub between-start : (s : St A) {all rest : List ℕ} → Passed (s .marks) all rest → Between s all rest s
+  between-start s p = between-passed (record { done = []; parts = refl; so-far = none-visited succ gate act s }) p
+
+  -- one more is visited, and those behind it that are met are passed over
+  pub between-next : {s t u : St A} {all todo behind rest : List ℕ} {x : ℕ} → Between s all todo t → todo ≡ x ∷ behind → Visits succ gate act t (x ∷ []) u → Passed (u .marks) behind rest → Between s all rest u
+  between-next {behind = behind} {x = x} b e v p = between-passed (record {
+    done = b .done ++ (x ∷ []);
+    parts = b .parts ∙ ap (λ (l : List ℕ). b .done ++ l) e ∙ sym (append-assoc (b .done) (x ∷ []) behind);
+    so-far = visited-then succ gate act (b .so-far) v;
+  }) p
 
   -- the visit of m from s: it has begun, with `marks` and what is pending at first, and stands at t
   module _ (rows : ℕ → List ℕ) (count : ℕ) (s : St A) (m : ℕ) (marks : List ℕ) (first : Pending) (e : Entered succ gate rows count (s .marks) m marks first) where
     abbrev pub begun : St A
     begun = record { marks = marks; made = s .made }
+
+    -- all that m leads to, where it was entered
+    abbrev all-led : List ℕ
+    all-led = cond (first .entered) (succ m) []
 
     entered-is : first .entered ≡ true → (gate m ≡ true) × (fresh s m ≡ true)
     entered-is h = enters-true succ gate act s m (sym (e .entered) ∙ h)
@@ -68,7 +85,7 @@ module _ (succ : ℕ → List ℕ) (gate : ℕ → Bool) {A : Type 0} (act : A �
         (λ h. let q : marks ≡ s .marks = e .marked ∙ ap (λ (b : Bool). cond b (set (s .marks) m 1) (s .marks)) h in omega (arith, ap zeros q))
         (both (first .entered))
 
-    module _ {todo : List ℕ} {t : St A} (b : Between begun (pending rows first) todo t) where
+    module _ {todo : List ℕ} {t : St A} (b : Between begun all-led todo t) where
       grown : Grown marks (t .marks)
       grown = visited-grown succ gate act (b .so-far)
 
@@ -95,7 +112,7 @@ module _ (succ : ℕ → List ℕ) (gate : ℕ → Bool) {A : Type 0} (act : A �
         was-entered =
             ⊎-elim
             (λ h. h)
-            (λ h. absurd (nil-more (b .done) x rest (sym (e .leads ∙ ap (λ (c : Bool). cond c (succ m) []) h) ∙ b .parts ∙ ap (λ (l : List ℕ). b .done ++ l) some)))
+            (λ h. absurd (nil-more (b .done) x rest (sym (ap (λ (c : Bool). cond c (succ m) []) h) ∙ b .parts ∙ ap (λ (l : List ℕ). b .done ++ l) some)))
             (both (first .entered))
 
         pub between-falls : zeros (t .marks) < zeros (s .marks)
@@ -103,12 +120,12 @@ module _ (succ : ℕ → List ℕ) (gate : ℕ → Bool) {A : Type 0} (act : A �
 
         pub between-leads : List·Memᴰ x (succ m)
         between-leads =
-            subst (List·Memᴰ x) (sym (sym (e .leads ∙ ap (λ (c : Bool). cond c (succ m) []) was-entered) ∙ b .parts ∙ ap (λ (l : List ℕ). b .done ++ l) some))
+            subst (List·Memᴰ x) (sym (sym (ap (λ (c : Bool). cond c (succ m) []) was-entered) ∙ b .parts ∙ ap (λ (l : List ℕ). b .done ++ l) some))
             (Memᴰ·append-right (b .done) (List·Memᴰ·head refl))
 
       -- nothing is left: m is visited, once the action is done if it was entered
       module _ (none : todo ≡ []) where
-        all-done : Visits succ gate act begun (pending rows first) t
+        all-done : Visits succ gate act begun all-led t
         all-done = subst (λ (l : List ℕ). Visits succ gate act begun l t) (sym (b .parts ∙ ap (λ (l : List ℕ). b .done ++ l) none ∙ append-nil (b .done))) (b .so-far)
 
         pub between-end : Visits succ gate act s (m ∷ []) (record { marks = t .marks; made = cond (first .entered) (act (t .made) m) (t .made) })
@@ -116,13 +133,13 @@ module _ (succ : ℕ → List ℕ) (gate : ℕ → Bool) {A : Type 0} (act : A �
             ⊎-elim
             (λ h.
             let q : marks ≡ set (s .marks) m 1 = e .marked ∙ ap (λ (c : Bool). cond c (set (s .marks) m 1) (s .marks)) h in
-            let l : pending rows first ≡ succ m = e .leads ∙ ap (λ (c : Bool). cond c (succ m) []) h in
+            let l : all-led ≡ succ m = ap (λ (c : Bool). cond c (succ m) []) h in
             subst (λ (c : Bool). Visits succ gate act s (m ∷ []) (record { marks = t .marks; made = cond c (act (t .made) m) (t .made) })) (sym h)
             (left-visited succ gate act s t m (entered-is h .0) (entered-is h .1)
             (subst (λ (k : List ℕ). Visits succ gate act (record { marks = k; made = s .made }) (succ m) t) q (subst (λ (k : List ℕ). Visits succ gate act begun k t) l all-done))))
             (λ h.
             let q : marks ≡ s .marks = e .marked ∙ ap (λ (c : Bool). cond c (set (s .marks) m 1) (s .marks)) h in
-            let l : pending rows first ≡ [] = e .leads ∙ ap (λ (c : Bool). cond c (succ m) []) h in
+            let l : all-led ≡ [] = ap (λ (c : Bool). cond c (succ m) []) h in
             let same : begun ≡ t = subst (λ (k : List ℕ). Visits succ gate act begun k t) l all-done .same (zeros marks) (omega arith) in
             subst (λ (c : Bool). Visits succ gate act s (m ∷ []) (record { marks = t .marks; made = cond c (act (t .made) m) (t .made) })) (sym h)
             (subst (Visits succ gate act s (m ∷ [])) (ap (λ (k : List ℕ). record { marks = k; made = s .made }) (sym q) ∙ same)
@@ -144,10 +161,10 @@ module _ (succ : ℕ → List ℕ) (gate : ℕ → Bool) {A X : Type 0} (act : A
     pub equal : t .next ≡ t .placed
     pub entered : p .entered ≡ first .entered
     pub end : p .end ≡ first .end
-    pub between : Between succ gate act (record { marks = marked; made = mk x (h .placed) }) (pending rows first) (pending rows p) (record { marks = ms; made = mk xs (t .placed) })
+    pub between : Between succ gate act (record { marks = marked; made = mk x (h .placed) }) (cond (first .entered) (succ m) []) (pending rows p) (record { marks = ms; made = mk xs (t .placed) })
 
   abbrev pub lent-start : h .next ≡ h .placed → Lent
-  lent-start q = record { p = first; t = h; ms = marked; xs = x; equal = q; entered = refl; end = refl; between = between-start succ gate act _ _ }
+  lent-start q = record { p = first; t = h; ms = marked; xs = x; equal = q; entered = refl; end = refl; between = between-start succ gate act _ (e .leads) }
 
   module _ (s : Lent) where
     pub lent-marks : length (s .ms) ≡ length marks
@@ -173,7 +190,7 @@ module _ (succ : ℕ → List ℕ) (gate : ℕ → Bool) {A X : Type 0} (act : A
       pub lent-leads : List·Memᴰ (s .p .place) (succ m)
       lent-leads = between-leads succ gate act rows count from m marked first e (s .between) (pending-more rows (s .p) more)
 
-      abbrev pub lent-next : (r : Pending) (t : ActualOrderTraversal) (ms : List ℕ) (xs : X) → Next rows (s .p) r → t .next ≡ t .placed
+      abbrev pub lent-next : (r : Pending) (t : ActualOrderTraversal) (ms : List ℕ) (xs : X) → Next rows ms (s .p) r → t .next ≡ t .placed
           → Visits succ gate act (record { marks = s .ms; made = mk (s .xs) (s .t .placed) }) (s .p .place ∷ []) (record { marks = ms; made = mk xs (t .placed) }) → Lent
       lent-next r t ms xs n q v = record {
         p = r;
@@ -183,13 +200,11 @@ module _ (succ : ℕ → List ℕ) (gate : ℕ → Bool) {A X : Type 0} (act : A
         equal = q;
         entered = n .entered ∙ s .entered;
         end = n .end ∙ s .end;
-        between = subst (λ (l : List ℕ). Between succ gate act (record { marks = marked; made = mk x (h .placed) }) (pending rows first) l (record { marks = ms; made = mk xs (t .placed) }))
-            (sym (n .rest))
-            (between-next succ gate act (s .between) (pending-more rows (s .p) more) v);
+        between = between-next succ gate act (s .between) (pending-more rows (s .p) more) v (n .rest);
       }
 
-      pub lent-nearer : (r : Pending) → Next rows (s .p) r → length (pending rows r) < length (pending rows (s .p))
-      lent-nearer r n = omega (arith, ap length (n .rest), ap length (pending-more rows (s .p) more))
+      pub lent-nearer : (r : Pending) (ms : List ℕ) → Next rows ms (s .p) r → length (pending rows r) < length (pending rows (s .p))
+      lent-nearer r ms n = omega (arith, ap length (n .rest .parts), length-append (n .rest .over) (pending rows r), ap length (pending-more rows (s .p) more))
 
     pub lent-end : s .p .more ≡ false → Visits succ gate act from (m ∷ []) (record { marks = s .ms; made = cond (s .p .entered) (act (mk (s .xs) (s .t .placed)) m) (mk (s .xs) (s .t .placed)) })
     lent-end q =

@@ -4,7 +4,7 @@ use mathlib.Core.Path.{_≡_, ap, subst}
 use Prim.Native.Nat.{ℕ}
 use mathlib.Core.List.{[], _∷_, List}
 use lib.ListN.{length}
-use mir.Syntax.{Ty, named, erased, mut, w32, tyInt, tyRef}
+use mir.Syntax.{Ty, named, erased, imm, mut, w32, tyInt, tyRef}
 use mir.Val.{Val}
 use base.Fml.{Fml, Lft}
 use denote.Memory.{pointee}
@@ -27,6 +27,9 @@ refTo = tyRef erased mut (pointee (T.the-row .written))
 
 abbrev pub part : Ty
 part = tyRef erased mut (tyInt w32)
+
+abbrev pub shared-part : Ty
+shared-part = tyRef erased imm (tyInt w32)
 
 -- values
 abbrev pub Slice : Type 0

@@ -34,8 +34,8 @@ module _ (normal included wrap recordModule recordKind recordTarget starts : Lis
   abbrev pub Enters : List ℕ → ℕ → List ℕ → Pending → Type 0
   Enters marks m marked p = Entered (triggered normal wrap recordModule recordKind recordTarget) (executes normal included) (rowTriggers normal wrap recordKind recordTarget) (length recordModule) marks m marked p
 
-  abbrev pub Proceeds : Pending → Type 0
-  Proceeds p = (p .end ≤ length recordKind) × (p .end ≤ length recordTarget) × BelowOrMissing (length wrap) recordTarget
+  abbrev pub Proceeds : List ℕ → Pending → Type 0
+  Proceeds marks p = (p .end ≤ length recordKind) × (p .end ≤ length recordTarget) × BelowOrMissing (length wrap) recordTarget × (length marks ≡ length wrap)
 
   abbrev pub MayLeave : List ℕ → List ℕ → ℕ → Bool → ActualOrderTraversal → Type 0
   MayLeave order hosts m b h = (h .next ≡ h .placed) × (b ≡ true → (h .placed < length order) × (h .placed < moduleLimit) × (m < length hosts))
@@ -60,11 +60,11 @@ module _ (normal included wrap recordModule recordKind recordTarget starts : Lis
       pub same-hosts : length (t .xs .1) ≡ length hosts
       same-hosts = lent-keeps (triggered normal wrap recordModule recordKind recordTarget) (executes normal included) (fills host) made (λ (f : Filling). f .count) (λ x n. refl) (fills-count host) (rowTriggers normal wrap recordKind recordTarget) (length recordModule) marks (order, hosts) h m marked first e t (λ (f : Filling). length (f .hosts) ≡ length hosts) (fills-hosts host (length hosts)) refl
 
-      pub next-fits : Proceeds (t .p)
-      next-fits =
+      pub next-fits : (ms : List ℕ) → length ms ≡ length marks → Proceeds ms (t .p)
+      next-fits ms l =
           let f = within .0 in
           let w = lent-within (triggered normal wrap recordModule recordKind recordTarget) (executes normal included) (fills host) made (λ (f : Filling). f .count) (λ x n. refl) (fills-count host) (rowTriggers normal wrap recordKind recordTarget) (length recordModule) marks (order, hosts) h m marked first e t in
-          (omega (arith, w, f .kinds), omega (arith, w, f .targets), subst (λ (n : ℕ). BelowOrMissing n recordTarget) (sym (f .wraps)) (f .inside))
+          (omega (arith, w, f .kinds), omega (arith, w, f .targets), subst (λ (n : ℕ). BelowOrMissing n recordTarget) (sym (f .wraps)) (f .inside), l ∙ sym (f .wraps))
 
       module _ (more : t .p .more ≡ true) where
         pub falls : zeros (t .ms) < zeros marks
@@ -82,11 +82,11 @@ module _ (normal included wrap recordModule recordKind recordTarget starts : Lis
               record { equal = t .equal; room = omega (arith, room, r .room, same-order); limit = omega (arith, room, r .limit) },
             )
 
-        abbrev pub next-turn : (r : Pending) (u : ActualOrderTraversal) (ms os hs : List ℕ) → Next (rowTriggers normal wrap recordKind recordTarget) (t .p) r → Says (t .ms) (t .xs .0) (t .xs .1) (t .p .place) host (t .t) ms os hs u → Turn
+        abbrev pub next-turn : (r : Pending) (u : ActualOrderTraversal) (ms os hs : List ℕ) → Next (rowTriggers normal wrap recordKind recordTarget) ms (t .p) r → Says (t .ms) (t .xs .0) (t .xs .1) (t .p .place) host (t .t) ms os hs u → Turn
         next-turn r u ms os hs n d = lent-next (triggered normal wrap recordModule recordKind recordTarget) (executes normal included) (fills host) made (λ (f : Filling). f .count) (λ x n. refl) (fills-count host) (rowTriggers normal wrap recordKind recordTarget) (length recordModule) marks (order, hosts) h m marked first e t more r u ms (os, hs) n (d .1) (d .0)
 
-        pub nearer : (r : Pending) → Next (rowTriggers normal wrap recordKind recordTarget) (t .p) r → length (pending (rowTriggers normal wrap recordKind recordTarget) r) < length (pending (rowTriggers normal wrap recordKind recordTarget) (t .p))
-        nearer r n = lent-nearer (triggered normal wrap recordModule recordKind recordTarget) (executes normal included) (fills host) made (λ (f : Filling). f .count) (λ x n. refl) (fills-count host) (rowTriggers normal wrap recordKind recordTarget) (length recordModule) marks (order, hosts) h m marked first e t more r n
+        pub nearer : (r : Pending) (ms : List ℕ) → Next (rowTriggers normal wrap recordKind recordTarget) ms (t .p) r → length (pending (rowTriggers normal wrap recordKind recordTarget) r) < length (pending (rowTriggers normal wrap recordKind recordTarget) (t .p))
+        nearer r ms n = lent-nearer (triggered normal wrap recordModule recordKind recordTarget) (executes normal included) (fills host) made (λ (f : Filling). f .count) (λ x n. refl) (fills-count host) (rowTriggers normal wrap recordKind recordTarget) (length recordModule) marks (order, hosts) h m marked first e t more r ms n
 
       pub leave-fits : MayLeave (t .xs .0) (t .xs .1) m (t .p .entered) (t .t)
       leave-fits = (

@@ -52,6 +52,21 @@ module _ (normal wrap kind target : List ℕ) (row : ℕ) where
       go true q = head-eq-of-cons-eq q
       go false q = head-eq-of-cons-eq q
 
+  -- so has what a row triggers
+  pub trigger-inside : (n t : ℕ) → BelowOrMissing n target → row < length target → List·Memᴰ t (rowTriggers normal wrap kind target row) → t < n
+  trigger-inside n t b l h =
+      target-inside n t b l
+      (only (resolved normal target row) (eager (isEager (getD kind row 0)) (mem-keep (wrapped wrap) (rowTargets isEager anyTarget normal kind target row) h .0)))
+    where
+      eager : (c : Bool) {xs : List ℕ} → List·Memᴰ t (cond c xs []) → List·Memᴰ t xs
+      eager true k = k
+      eager false k = absurd (List·Memᴰ·not-nil k)
+
+      only : (found : Target) → List·Memᴰ t (anyTarget found) → anyTarget found ≡ t ∷ []
+      only Missing k = absurd (List·Memᴰ·not-nil k)
+      only (External x) k = ap (λ (y : ℕ). y ∷ []) (sym (List·Memᴰ·eq-of-singleton k))
+      only (Normal x) k = ap (λ (y : ℕ). y ∷ []) (sym (List·Memᴰ·eq-of-singleton k))
+
 pub keep-wrapped : (wrap : List ℕ) (t : ℕ) → (getD wrap t 0 ≡ 0 → ⊥) → keep (wrapped wrap) (t ∷ []) ≡ t ∷ []
 keep-wrapped wrap t n = rw (ne-eqb (getD wrap t 0) 0 n)
 
@@ -77,16 +92,5 @@ triggered-rows normal wrap owner kind target m start end first next =
 pub triggered-inside : (n : ℕ) (normal wrap owner kind target : List ℕ) (m t : ℕ) → length target ≡ length owner → BelowOrMissing n target → List·Memᴰ t (triggered normal wrap owner kind target m) → t < n
 unfolding triggered targetsOf
 triggered-inside n normal wrap owner kind target m t l b h =
-    let a = mem-flat (rowTargets isEager anyTarget normal kind target) (rowsOf owner m) (mem-keep (wrapped wrap) (flatMap (rowTargets isEager anyTarget normal kind target) (rowsOf owner m)) h .0) in
-    let row = a .0 in
-    let found : List·Memᴰ t (anyTarget (resolved normal target row)) = eager (isEager (getD kind row 0)) (a .2) in
-    target-inside normal wrap kind target row n t b (omega (arith, l, mem-rows owner m (a .1) .0)) (only (resolved normal target row) found)
-  where
-    eager : (c : Bool) {xs : List ℕ} → List·Memᴰ t (cond c xs []) → List·Memᴰ t xs
-    eager true k = k
-    eager false k = absurd (List·Memᴰ·not-nil k)
-
-    only : (found : Target) → List·Memᴰ t (anyTarget found) → anyTarget found ≡ t ∷ []
-    only Missing k = absurd (List·Memᴰ·not-nil k)
-    only (External x) k = ap (λ (y : ℕ). y ∷ []) (sym (List·Memᴰ·eq-of-singleton k))
-    only (Normal x) k = ap (λ (y : ℕ). y ∷ []) (sym (List·Memᴰ·eq-of-singleton k))
+    let a = mem-flat (rowTriggers normal wrap kind target) (rowsOf owner m) (subst (List·Memᴰ t) (keep-flat (wrapped wrap) (rowTargets isEager anyTarget normal kind target) (rowsOf owner m)) h) in
+    trigger-inside normal wrap kind target (a .0) n t b (omega (arith, l, mem-rows owner m (a .1) .0)) (a .2)

@@ -72,9 +72,15 @@ behind rows p = flatMap rows (countFrom (p .row) (p .end - p .row))
 abbrev pub pending : (ℕ → List ℕ) → Pending → List ℕ
 pending rows p = cond (p .more) (p .place ∷ behind rows p) []
 
--- one place further
-pub record Next (rows : ℕ → List ℕ) (p next : Pending) : Type 0 where
-  pub rest : pending rows next ≡ behind rows p
+-- `rest` is what is left of `all` once some that are met are passed over
+pub record Passed (marks all rest : List ℕ) : Type 0 where
+  pub over : List ℕ
+  pub parts : all ≡ over ++ rest
+  pub met : (m : ℕ) → List·Memᴰ m over → isZero (getD marks m 1) ≡ false
+
+-- one place further, past those that are met
+pub record Next (rows : ℕ → List ℕ) (marks : List ℕ) (p next : Pending) : Type 0 where
+  pub rest : Passed marks (behind rows p) (pending rows next)
   pub entered : next .entered ≡ p .entered
   pub end : next .end ≡ p .end
 
@@ -82,7 +88,7 @@ pub record Next (rows : ℕ → List ℕ) (p next : Pending) : Type 0 where
 pub record Entered (succ : ℕ → List ℕ) (gate : ℕ → Bool) (rows : ℕ → List ℕ) (count : ℕ) (marks : List ℕ) (m : ℕ) (marks′ : List ℕ) (p : Pending) : Type 0 where
   pub entered : p .entered ≡ cond (gate m) (isZero (getD marks m 1)) false
   pub marked : marks′ ≡ cond (p .entered) (set marks m 1) marks
-  pub leads : pending rows p ≡ cond (p .entered) (succ m) []
+  pub leads : Passed marks′ (cond (p .entered) (succ m) []) (pending rows p)
   pub within : p .end ≤ count
 
 -- the columns of modules and records fit each other: n modules, and records in module order

@@ -57,8 +57,8 @@ use Rattle.actual_order.proofs.core.ActualOrderTraversal as T
 use Rattle.actual_order.proofs.core.ActualOrderTraversal.Laws as T′
 use Rattle.actual_order.proofs.core.Pending as P
 use Rattle.actual_order.proofs.core.Pending.Laws as P′
-use Rattle.actual_order.proofs.Relending.{list, owned-list, Loan, lends, ends}
-use Rattle.actual_order.proofs.Machine.{refTo, part, Slice, count-of, mach, pend, pend-is, pend-told, own-col}
+use Rattle.actual_order.proofs.Relending.{list, owned-list, shared-list, Loan, lends, ends, Shared, lends-shared, ends-shared}
+use Rattle.actual_order.proofs.Machine.{refTo, part, shared-part, Slice, count-of, mach, pend, pend-is, pend-told, own-col}
 use Rattle.actual_order.proofs.core.enter_module as enter
 use Rattle.actual_order.proofs.core.enter_module.Symbol as enter-def
 use Rattle.actual_order.proofs.core.enter_module.Symbol.{name as #actual-order·core·enter-module}
@@ -140,14 +140,15 @@ module _ {M : Type 1} (𝓤 : URA M) (H : Heap 𝓤) (A : Atoms 𝓤) (W : Given
       qed W ((‵ (flft κ₀ q₀) ⊛ ‵ (flft (α ∷ []) fullShare) ⊛ ‵ ftrue) ∷ (‵ cols ⊛ ‵ (owned-list bm om (α ∷ []) δ k y)) ∷ []) ∵ says ! within $ frame ! $
       split ! $ fsplit ! $ move ! (1 ∷ []) $ fsplit ! $ move ! (1 ∷ []) $ fsplit ! $ move ! (1 ∷ []) $ fsplit ! $ move ! (1 ∷ []) $ fsplit ! $ move ! (1 ∷ []) $ fsplit ! $ nothing ! $ owned ! u32 (Is u32) (uint-makes 𝓤 H A W w32) c _ (refl, fits) $ fjoin ! $ move ! (8 ∷ 0 ∷ []) $ fjoin ! $ move ! (2 ∷ 0 ∷ []) $ fjoin ! $ move ! (1 ∷ 0 ∷ []) $ fjoin ! $ move ! (1 ∷ 0 ∷ []) $ fjoin ! $ move ! (1 ∷ 0 ∷ []) $ fjoin ! $ move ! (1 ∷ 0 ∷ []) $ fjoin ! $ move ! (1 ∷ 0 ∷ []) $ fjoin ! $ move ! (1 ∷ 0 ∷ []) $ fjoin ! $ done !
 
-  -- ---- the call of `next_trigger`
-  abbrev to-next : Pending → Next-contract 𝓤 H A at-mem run .Ghost
-  to-next p = (((κ₀, tt), (q₀, tt), tt, (x₁, (x₃, (x₅, (x₆, (p, tt))))), (count-of x₁ ∷ [], (count-of x₃ ∷ [], (count-of x₅ ∷ [], (count-of x₆ ∷ [], (pend p ∷ [], tt)))))), tt)
+  -- ---- the call of `next_trigger`, with the marks shared at α under δ
+  abbrev to-next : ℕ → GName → ℕ → List ℕ → Pending → Next-contract 𝓤 H A at-mem run .Ghost
+  to-next α δ k y p = (((κ₀, (α ∷ [], tt)), (q₀, (fullShare, tt)), tt, (x₁, (x₃, (x₅, (x₆, (list bm om δ y, (p, tt)))))), (count-of x₁ ∷ [], (count-of x₃ ∷ [], (count-of x₅ ∷ [], (count-of x₆ ∷ [], (sliceVal (bm, om) k ∷ [], (pend p ∷ [], tt))))))), tt)
 
-  goes-next : (p : Pending) → Is P.the-row p (pend p ∷ []) → Proceeds (x₁ .now) (x₂ .now) (x₃ .now) (x₄ .now) (x₅ .now) (x₆ .now) (x₇ .now) p → ent 𝓤 (sep 𝓤 (⋆ 𝓤 H A ((‵ (flft κ₀ q₀) ⊛ ‵ ftrue) ∷ [])) (sem 𝓤 H A (fsep (own-col κ₀ x₁) (fsep (own-col κ₀ x₃) (fsep (own-col κ₀ x₅) (own-col κ₀ x₆)))))) (Next-contract 𝓤 H A at-mem run .pre (to-next p))
-  goes-next p is within =
-      qed W ((‵ (flft κ₀ q₀) ⊛ ‵ ftrue) ∷ ‵ (fsep (own-col κ₀ x₁) (fsep (own-col κ₀ x₃) (fsep (own-col κ₀ x₅) (own-col κ₀ x₆)))) ∷ []) ∵ says ! within $ frame ! $
-      fsplit ! $ move ! (1 ∷ []) $ fsplit ! $ move ! (1 ∷ []) $ fsplit ! $ nothing ! $ owned ! P.the-row (Is P.the-row) ((LL.makes P.the-type P′.the-plain) 𝓤 H A) p _ is $ fjoin ! $ move ! (2 ∷ 0 ∷ []) $ fjoin ! $ move ! (1 ∷ 0 ∷ []) $ fjoin ! $ move ! (1 ∷ 0 ∷ []) $ fjoin ! $ move ! (1 ∷ 0 ∷ []) $ fjoin ! $ done !
+  goes-next : (α : ℕ) (δ : GName) (k : ℕ) (y : List ℕ) (p : Pending) → Is P.the-row p (pend p ∷ []) → Proceeds (x₁ .now) (x₂ .now) (x₃ .now) (x₄ .now) (x₅ .now) (x₆ .now) (x₇ .now) y p
+      → ent 𝓤 (sep 𝓤 (⋆ 𝓤 H A ((‵ (flft κ₀ q₀) ⊛ ‵ (flft (α ∷ []) fullShare) ⊛ ‵ ftrue) ∷ [])) (⋆ 𝓤 H A ((‵ (fsep (own-col κ₀ x₁) (fsep (own-col κ₀ x₃) (fsep (own-col κ₀ x₅) (own-col κ₀ x₆)))) ⊛ ‵ (shared-list bm om (α ∷ []) δ k y)) ∷ []))) (Next-contract 𝓤 H A at-mem run .pre (to-next α δ k y p))
+  goes-next α δ k y p is within =
+      qed W ((‵ (flft κ₀ q₀) ⊛ ‵ (flft (α ∷ []) fullShare) ⊛ ‵ ftrue) ∷ (‵ (fsep (own-col κ₀ x₁) (fsep (own-col κ₀ x₃) (fsep (own-col κ₀ x₅) (own-col κ₀ x₆)))) ⊛ ‵ (shared-list bm om (α ∷ []) δ k y)) ∷ []) ∵ says ! within $ frame ! $
+      split ! $ fsplit ! $ move ! (1 ∷ []) $ fsplit ! $ move ! (1 ∷ []) $ fsplit ! $ nothing ! $ owned ! P.the-row (Is P.the-row) ((LL.makes P.the-type P′.the-plain) 𝓤 H A) p _ is $ fjoin ! $ move ! (5 ∷ 0 ∷ []) $ fjoin ! $ move ! (2 ∷ 0 ∷ []) $ fjoin ! $ move ! (1 ∷ 0 ∷ []) $ fjoin ! $ move ! (1 ∷ 0 ∷ []) $ fjoin ! $ move ! (1 ∷ 0 ∷ []) $ fjoin ! $ done !
 
   -- ---- the call of `leave_module`, at the slices' own lifetimes, shares and names
   abbrev to-leave : ℕ → ℕ → List ℕ → List ℕ → ℕ → ℕ → Bool → ActualOrderTraversal → Leave 𝓤 H A at-mem run .Ghost
@@ -212,17 +213,19 @@ module _ {M : Type 1} (𝓤 : URA M) (H : Heap 𝓤) (A : Atoms 𝓤) (W : Given
       Nearer-wf : WellFounded Nearer
       Nearer-wf = InvImage·wf (λ (t : At-turn). length (pending (rowTriggers (x₁ .now) (x₃ .now) (x₅ .now) (x₆ .now)) (t .at .p))) (Nat·lt-wfRel .wf)
 
-      module _ (l₀ l₁ l₂ l₃ l₄ l₅ l₆ l₇ l₈ l₉ l₁₀ l₁₁ l₁₂ l₁₃ l₁₄ l₁₅ l₁₆ l₁₇ l₁₈ l₁₉ l₂₀ l₂₁ l₂₂ l₂₃ l₂₄ l₂₅ l₂₆ l₂₇ l₂₈ l₂₉ l₃₀ l₃₁ : ℕ) where
+      module _ (l₀ l₁ l₂ l₃ l₄ l₅ l₆ l₇ l₈ l₉ l₁₀ l₁₁ l₁₂ l₁₃ l₁₄ l₁₅ l₁₆ l₁₇ l₁₈ l₁₉ l₂₀ l₂₁ l₂₂ l₂₃ l₂₄ l₂₅ l₂₆ l₂₇ l₂₈ l₂₉ l₃₀ l₃₁ l₃₂ l₃₃ : ℕ) where
         abbrev En : Env 𝓤 H
-        En = (tyUnit, l₀) ∷ (sliceTy (tyRef (named 0) imm (tyInt w32)), l₁) ∷ (sliceTy (tyRef (named 0) imm (tyInt w32)), l₂) ∷ (sliceTy (tyRef (named 0) imm (tyInt w32)), l₃) ∷ (sliceTy (tyRef (named 0) imm (tyInt w32)), l₄) ∷ (sliceTy (tyRef (named 0) imm (tyInt w32)), l₅) ∷ (sliceTy (tyRef (named 0) imm (tyInt w32)), l₆) ∷ (sliceTy (tyRef (named 0) imm (tyInt w32)), l₇) ∷ (sliceTy (tyRef (named 1) mut (tyInt w32)), l₈) ∷ (sliceTy (tyRef (named 2) mut (tyInt w32)), l₉) ∷ (sliceTy (tyRef (named 3) mut (tyInt w32)), l₁₀) ∷ (tyInt w32, l₁₁) ∷ (tyInt w32, l₁₂) ∷ (tyRef (named 4) mut (pointee (T.the-row .written)), l₁₃) ∷ (P′.mir, l₁₄) ∷ (T′.mir, l₁₅) ∷ (T′.mir, l₁₆) ∷ (part, l₁₇) ∷ (sliceTy part, l₁₈) ∷ (tyBool, l₁₉) ∷ (tyUnit, l₂₀) ∷ (part, l₂₁) ∷ (sliceTy part, l₂₂) ∷ (part, l₂₃) ∷ (sliceTy part, l₂₄) ∷ (part, l₂₅) ∷ (sliceTy part, l₂₆) ∷ (refTo, l₂₇) ∷ (part, l₂₈) ∷ (sliceTy part, l₂₉) ∷ (part, l₃₀) ∷ (sliceTy part, l₃₁) ∷ []
+        En = (tyUnit, l₀) ∷ (sliceTy (tyRef (named 0) imm (tyInt w32)), l₁) ∷ (sliceTy (tyRef (named 0) imm (tyInt w32)), l₂) ∷ (sliceTy (tyRef (named 0) imm (tyInt w32)), l₃) ∷ (sliceTy (tyRef (named 0) imm (tyInt w32)), l₄) ∷ (sliceTy (tyRef (named 0) imm (tyInt w32)), l₅) ∷ (sliceTy (tyRef (named 0) imm (tyInt w32)), l₆) ∷ (sliceTy (tyRef (named 0) imm (tyInt w32)), l₇) ∷ (sliceTy (tyRef (named 1) mut (tyInt w32)), l₈) ∷ (sliceTy (tyRef (named 2) mut (tyInt w32)), l₉) ∷ (sliceTy (tyRef (named 3) mut (tyInt w32)), l₁₀) ∷ (tyInt w32, l₁₁) ∷ (tyInt w32, l₁₂) ∷ (tyRef (named 4) mut (pointee (T.the-row .written)), l₁₃) ∷ (P′.mir, l₁₄) ∷ (T′.mir, l₁₅) ∷ (T′.mir, l₁₆) ∷ (part, l₁₇) ∷ (sliceTy part, l₁₈) ∷ (tyBool, l₁₉) ∷ (tyUnit, l₂₀) ∷ (part, l₂₁) ∷ (sliceTy part, l₂₂) ∷ (part, l₂₃) ∷ (sliceTy part, l₂₄) ∷ (part, l₂₅) ∷ (sliceTy part, l₂₆) ∷ (refTo, l₂₇) ∷ (shared-part, l₂₈) ∷ (sliceTy shared-part, l₂₉) ∷ (part, l₃₀) ∷ (sliceTy part, l₃₁) ∷ (part, l₃₂) ∷ (sliceTy part, l₃₃) ∷ []
 
         -- the columns, the counters and the slices, each with its token, and the locals
         abbrev At : At-turn → List (Item 𝓤)
         At t = ‵ cols ∷ ‵ (flft κ₀ q₀) ∷ ‵ (own-cs κt γt (t .at .t)) ∷ ‵ (flft κt qt) ∷ ‵ (owned-list bm om κm γm (length marks) (t .at .ms)) ∷ ‵ (flft κm qm) ∷ ‵ (owned-list bo oo κo γo (length order) (t .at .xs .0)) ∷ ‵ (flft κo qo) ∷ ‵ (owned-list bh oh κh γh (length hosts) (t .at .xs .1)) ∷ ‵ (flft κh qh)
+            ∷ ‵ (froom (sliceTy part) l₃₃ 0) ∷ ‵ (fdies (sliceTy part) l₃₃)
+            ∷ ‵ (froom part l₃₂ 0) ∷ ‵ (fdies part l₃₂)
             ∷ ‵ (froom (sliceTy part) l₃₁ 0) ∷ ‵ (fdies (sliceTy part) l₃₁)
             ∷ ‵ (froom part l₃₀ 0) ∷ ‵ (fdies part l₃₀)
-            ∷ ‵ (froom (sliceTy part) l₂₉ 0) ∷ ‵ (fdies (sliceTy part) l₂₉)
-            ∷ ‵ (froom part l₂₈ 0) ∷ ‵ (fdies part l₂₈)
+            ∷ ‵ (froom (sliceTy shared-part) l₂₉ 0) ∷ ‵ (fdies (sliceTy shared-part) l₂₉)
+            ∷ ‵ (froom shared-part l₂₈ 0) ∷ ‵ (fdies shared-part l₂₈)
             ∷ ‵ (froom refTo l₂₇ 0) ∷ ‵ (fdies refTo l₂₇)
             ∷ ‵ (froom (sliceTy part) l₂₆ 0) ∷ ‵ (fdies (sliceTy part) l₂₆)
             ∷ ‵ (froom part l₂₅ 0) ∷ ‵ (fdies part l₂₅)
@@ -262,48 +265,56 @@ module _ {M : Type 1} (𝓤 : URA M) (H : Heap 𝓤) (A : Atoms 𝓤) (W : Given
             let same-m : length (t .at .ms) ≡ length marks = same-marks (x₁ .now) (x₂ .now) (x₃ .now) (x₄ .now) (x₅ .now) (x₆ .now) (x₇ .now) marks order hosts m host h within marked first ent (t .at) in
             let same-o : length (t .at .xs .0) ≡ length order = same-order (x₁ .now) (x₂ .now) (x₃ .now) (x₄ .now) (x₅ .now) (x₆ .now) (x₇ .now) marks order hosts m host h within marked first ent (t .at) in
             let same-h : length (t .at .xs .1) ≡ length hosts = same-hosts (x₁ .now) (x₂ .now) (x₃ .now) (x₄ .now) (x₅ .now) (x₆ .now) (x₇ .now) marks order hosts m host h within marked first ent (t .at) in
-            assigns ! (of-opd ! (load ! (from ! (fld ! refl (stop !))) (look-in ! 44 (sub ! 1 refl (whole !))))) (from ! (stop !)) (init ! 34 refl (tt, tt)) $
-            rewrite ! 34 (λ (z : Bool). ‵ (fat fullShare tyBool l₁₉ 0 (vbool z))) e refl $ stays ! (load ! (from ! (stop !)) (look ! 34 refl)) $
-            assigns ! (addr ! (from ! (fld ! refl (hop ! (look-in ! 56 (sub ! 0 refl (whole !))) (stop !))))) (from ! (stop !)) (init ! 30 refl (tt, tt)) $
-            assigns ! (agg ! (and-then ! (load ! (from ! (stop !)) (look ! 30 refl)) (and-then ! (load ! (from ! (fld ! refl (stop !))) (look-in ! 56 (sub ! 1 refl (whole !)))) (no-more !)))) (from ! (stop !)) (init ! 28 refl (tt, (tt, (record { fits = room-m .0 }, tt)))) $
-            assigns ! (addr ! (from ! (fld ! refl (hop ! (look-in ! 54 (sub ! 0 refl (whole !))) (stop !))))) (from ! (stop !)) (init ! 26 refl (tt, tt)) $
-            assigns ! (agg ! (and-then ! (load ! (from ! (stop !)) (look ! 26 refl)) (and-then ! (load ! (from ! (fld ! refl (stop !))) (look-in ! 54 (sub ! 1 refl (whole !)))) (no-more !)))) (from ! (stop !)) (init ! 24 refl (tt, (tt, (record { fits = room-o .0 }, tt)))) $
-            assigns ! (addr ! (from ! (fld ! refl (hop ! (look-in ! 52 (sub ! 0 refl (whole !))) (stop !))))) (from ! (stop !)) (init ! 22 refl (tt, tt)) $
-            assigns ! (agg ! (and-then ! (load ! (from ! (stop !)) (look ! 22 refl)) (and-then ! (load ! (from ! (fld ! refl (stop !))) (look-in ! 52 (sub ! 1 refl (whole !)))) (no-more !)))) (from ! (stop !)) (init ! 20 refl (tt, (tt, (record { fits = room-h .0 }, tt)))) $
-            assigns ! (addr ! (from ! (hop ! (look ! 46 refl) (stop !)))) (from ! (stop !)) (init ! 18 refl (tt, tt)) $
+            assigns ! (of-opd ! (load ! (from ! (fld ! refl (stop !))) (look-in ! 48 (sub ! 1 refl (whole !))))) (from ! (stop !)) (init ! 38 refl (tt, tt)) $
+            rewrite ! 38 (λ (z : Bool). ‵ (fat fullShare tyBool l₁₉ 0 (vbool z))) e refl $ stays ! (load ! (from ! (stop !)) (look ! 38 refl)) $
+            assigns ! (addr ! (from ! (fld ! refl (hop ! (look-in ! 60 (sub ! 0 refl (whole !))) (stop !))))) (from ! (stop !)) (init ! 34 refl (tt, tt)) $
+            assigns ! (agg ! (and-then ! (load ! (from ! (stop !)) (look ! 34 refl)) (and-then ! (load ! (from ! (fld ! refl (stop !))) (look-in ! 60 (sub ! 1 refl (whole !)))) (no-more !)))) (from ! (stop !)) (init ! 32 refl (tt, (tt, (record { fits = room-m .0 }, tt)))) $
+            assigns ! (addr ! (from ! (fld ! refl (hop ! (look-in ! 58 (sub ! 0 refl (whole !))) (stop !))))) (from ! (stop !)) (init ! 30 refl (tt, tt)) $
+            assigns ! (agg ! (and-then ! (load ! (from ! (stop !)) (look ! 30 refl)) (and-then ! (load ! (from ! (fld ! refl (stop !))) (look-in ! 58 (sub ! 1 refl (whole !)))) (no-more !)))) (from ! (stop !)) (init ! 28 refl (tt, (tt, (record { fits = room-o .0 }, tt)))) $
+            assigns ! (addr ! (from ! (fld ! refl (hop ! (look-in ! 56 (sub ! 0 refl (whole !))) (stop !))))) (from ! (stop !)) (init ! 26 refl (tt, tt)) $
+            assigns ! (agg ! (and-then ! (load ! (from ! (stop !)) (look ! 26 refl)) (and-then ! (load ! (from ! (fld ! refl (stop !))) (look-in ! 56 (sub ! 1 refl (whole !)))) (no-more !)))) (from ! (stop !)) (init ! 24 refl (tt, (tt, (record { fits = room-h .0 }, tt)))) $
+            assigns ! (addr ! (from ! (hop ! (look ! 50 refl) (stop !)))) (from ! (stop !)) (init ! 22 refl (tt, tt)) $
             -- everything is lent: the slices, the counters, and the columns are copied
             move ! (4 ∷ 5 ∷ []) $ use2 W (later (some (λ (α : ℕ). some (λ (δ : GName). ‵ (owned-list bm om (α ∷ []) δ (length marks) (t .at .ms)) ⊛ ‵ (flft (α ∷ []) fullShare) ⊛ ‵ (Loan bm om κm qm γm α δ (t .at .ms)))))) (lends bm om κm qm γm 𝓤 H A W (t .at .ms) (length marks) same-m) $ await ! tt $ pick ! (λ αm. pick ! (λ δm. split ! $ move ! (1 ∷ []) $ split ! $
             move ! (7 ∷ 8 ∷ []) $ use2 W (later (some (λ (α : ℕ). some (λ (δ : GName). ‵ (owned-list bo oo (α ∷ []) δ (length order) (t .at .xs .0)) ⊛ ‵ (flft (α ∷ []) fullShare) ⊛ ‵ (Loan bo oo κo qo γo α δ (t .at .xs .0)))))) (lends bo oo κo qo γo 𝓤 H A W (t .at .xs .0) (length order) same-o) $ await ! tt $ pick ! (λ αo. pick ! (λ δo. split ! $ move ! (1 ∷ []) $ split ! $
             move ! (10 ∷ 11 ∷ []) $ use2 W (later (some (λ (α : ℕ). some (λ (δ : GName). ‵ (owned-list bh oh (α ∷ []) δ (length hosts) (t .at .xs .1)) ⊛ ‵ (flft (α ∷ []) fullShare) ⊛ ‵ (Loan bh oh κh qh γh α δ (t .at .xs .1)))))) (lends bh oh κh qh γh 𝓤 H A W (t .at .xs .1) (length hosts) same-h) $ await ! tt $ pick ! (λ αh. pick ! (λ δh. split ! $ move ! (1 ∷ []) $ split ! $
             lft-new ! tt (λ αt. move ! (12 ∷ 13 ∷ []) $ use2 W (later (some (λ (δ : GName). ‵ (own-cs (αt ∷ []) δ (t .at .t)) ⊛ ‵ (ref.LentAgain T.the-row κt (αt ∷ []) qt γt bt ot δ (t .at .t))))) (ref.lends-again 𝓤 H A W T.the-row (named 0) κt (αt ∷ []) qt γt bt ot (named 0) (t .at .t)) $ await ! tt $ pick ! (λ δt. split ! $
             move ! (12 ∷ []) $ use1 W (‵ cols ⊛ ‵ cols) (cols-twice 𝓤 H A W κ₀ x₁ x₂ x₃ x₄ x₅ x₆ x₇) $ split ! $
-            -- [the columns; their copy; the counters, lent; the loan of the counters; αt's token; αh's token; the loan of the hosts; the hosts, lent; αo's token; the loan of the order; the order, lent; αm's token; the loan of the marks; the marks, lent; κ₀'s token; _31; …]
+            -- [the columns; their copy; the counters, lent; the loan of the counters; αt's token; αh's token; the loan of the hosts; the hosts, lent; αo's token; the loan of the order; the order, lent; αm's token; the loan of the marks; the marks, lent; κ₀'s token; _33; …]
             nothing ! $ move ! (5 ∷ 0 ∷ []) $ join ! $ move ! (5 ∷ 0 ∷ []) $ join ! $ move ! (7 ∷ 0 ∷ []) $ join ! $ move ! (9 ∷ 0 ∷ []) $ join ! $ move ! (11 ∷ 0 ∷ []) $ join ! $ move ! (6 ∷ 3 ∷ []) $ join ! $ move ! (7 ∷ 0 ∷ []) $ join ! $ move ! (8 ∷ 0 ∷ []) $ join ! $ move ! (3 ∷ 0 ∷ []) $ join ! $
             move ! (1 ∷ 0 ∷ []) $ use2 W (raw (Self-contract 𝓤 H A at-mem run .pre (to-self αm αo αh αt δm δo δh δt (length marks) (length order) (length hosts) (t .at .ms) (t .at .xs .0) (t .at .xs .1) (t .at .p .place) host (t .at .t)))) (goes-self αm αo αh αt δm δo δh δt (length marks) (length order) (length hosts) (t .at .ms) (t .at .xs .0) (t .at .xs .1) (t .at .p .place) host (t .at .t) place-fits host-fits (call-fits (x₁ .now) (x₂ .now) (x₃ .now) (x₄ .now) (x₅ .now) (x₆ .now) (x₇ .now) marks order hosts m host h within marked first ent (t .at) e)) $
             calls-from ! (fmOf 𝓤 H (W .laws) 𝓣) (raw (Self-contract 𝓤 H A at-mem run .pre (to-self αm αo αh αt δm δo δh δt (length marks) (length order) (length hosts) (t .at .ms) (t .at .xs .0) (t .at .xs .1) (t .at .p .place) host (t .at .t)))) (Self-contract 𝓤 H A at-mem run .args (to-self αm αo αh αt δm δo δh δt (length marks) (length order) (length hosts) (t .at .ms) (t .at .xs .0) (t .at .xs .1) (t .at .p .place) host (t .at .t))) (Self-contract 𝓤 H A at-mem run .post (to-self αm αo αh αt δm δo δh δt (length marks) (length order) (length hosts) (t .at .ms) (t .at .xs .0) (t .at .xs .1) (t .at .p .place) host (t .at .t))) (self (to-self αm αo αh αt δm δo δh δt (length marks) (length order) (length hosts) (t .at .ms) (t .at .xs .0) (t .at .xs .1) (t .at .p .place) host (t .at .t)) (falls (x₁ .now) (x₂ .now) (x₃ .now) (x₄ .now) (x₅ .now) (x₆ .now) (x₇ .now) marks order hosts m host h within marked first ent (t .at) e))
-            (and-then ! (load ! (from ! (stop !)) (look ! 66 refl)) (and-then ! (load ! (from ! (stop !)) (look ! 64 refl)) (and-then ! (load ! (from ! (stop !)) (look ! 62 refl)) (and-then ! (load ! (from ! (stop !)) (look ! 60 refl)) (and-then ! (load ! (from ! (stop !)) (look ! 58 refl)) (and-then ! (load ! (from ! (stop !)) (look ! 56 refl)) (and-then ! (load ! (from ! (stop !)) (look ! 54 refl)) (and-then ! (load ! (from ! (stop !)) (look ! 24 refl)) (and-then ! (load ! (from ! (stop !)) (look ! 20 refl)) (and-then ! (load ! (from ! (stop !)) (look ! 16 refl)) (and-then ! (load ! (from ! (fld ! refl (stop !))) (look-in ! 40 (sub ! 2 refl (whole !)))) (and-then ! (load ! (from ! (stop !)) (look ! 44 refl)) (and-then ! (load ! (from ! (stop !)) (look ! 14 refl)) (no-more !)))))))))))))) (λ v.
+            (and-then ! (load ! (from ! (stop !)) (look ! 70 refl)) (and-then ! (load ! (from ! (stop !)) (look ! 68 refl)) (and-then ! (load ! (from ! (stop !)) (look ! 66 refl)) (and-then ! (load ! (from ! (stop !)) (look ! 64 refl)) (and-then ! (load ! (from ! (stop !)) (look ! 62 refl)) (and-then ! (load ! (from ! (stop !)) (look ! 60 refl)) (and-then ! (load ! (from ! (stop !)) (look ! 58 refl)) (and-then ! (load ! (from ! (stop !)) (look ! 28 refl)) (and-then ! (load ! (from ! (stop !)) (look ! 24 refl)) (and-then ! (load ! (from ! (stop !)) (look ! 20 refl)) (and-then ! (load ! (from ! (fld ! refl (stop !))) (look-in ! 44 (sub ! 2 refl (whole !)))) (and-then ! (load ! (from ! (stop !)) (look ! 48 refl)) (and-then ! (load ! (from ! (stop !)) (look ! 18 refl)) (no-more !)))))))))))))) (λ v.
             use1 W (later (some (λ (r : Unit {0}). ((‵ (flft κ₀ q₀) ⊛ ‵ (flft (αm ∷ []) fullShare) ⊛ ‵ (flft (αo ∷ []) fullShare) ⊛ ‵ (flft (αh ∷ []) fullShare) ⊛ ‵ (flft (αt ∷ []) fullShare) ⊛ ‵ ftrue) ⊛ ‵ (Nothing .own r (v ∷ []))) ⊛ raw (ensured 𝓤 H A f.ended (f.clauses 𝓤 H A at-mem run) (κ₀, (αm ∷ [], (αo ∷ [], (αh ∷ [], (αt ∷ [], tt))))) (args δm δo δh δt (t .at .ms) (t .at .xs .0) (t .at .xs .1) (t .at .p .place) host (t .at .t)) tt r)))) (id⊢ 𝓤 _) $ await ! tt $ pick ! (λ _. split ! $
             move ! (1 ∷ []) $ use1 W (some (λ (ws : Unit {0} × (Unit {0} × (Unit {0} × (Unit {0} × (Unit {0} × (Unit {0} × (Unit {0} × (List ℕ × (List ℕ × (List ℕ × (Unit {0} × (Unit {0} × (ActualOrderTraversal × Unit {0}))))))))))))). ‵ (lasts f.ended (κ₀, (αm ∷ [], (αo ∷ [], (αh ∷ [], (αt ∷ [], tt))))) (args δm δo δh δt (t .at .ms) (t .at .xs .0) (t .at .xs .1) (t .at .p .place) host (t .at .t)) ws) ⊛ raw (fact 𝓤 (Says (x₁ .now) (x₂ .now) (x₃ .now) (x₄ .now) (x₅ .now) (x₆ .now) (x₇ .now) (t .at .ms) (t .at .xs .0) (t .at .xs .1) (t .at .p .place) host (t .at .t) (ws .1 .1 .1 .1 .1 .1 .1 .0) (ws .1 .1 .1 .1 .1 .1 .1 .1 .0) (ws .1 .1 .1 .1 .1 .1 .1 .1 .1 .0) (ws .1 .1 .1 .1 .1 .1 .1 .1 .1 .1 .1 .1 .0))))) (id⊢ 𝓤 _) $ pick ! (λ ws. split ! $ move ! (1 ∷ []) $ heard ! (Says (x₁ .now) (x₂ .now) (x₃ .now) (x₄ .now) (x₅ .now) (x₆ .now) (x₇ .now) (t .at .ms) (t .at .xs .0) (t .at .xs .1) (t .at .p .place) host (t .at .t) (ws .1 .1 .1 .1 .1 .1 .1 .0) (ws .1 .1 .1 .1 .1 .1 .1 .1 .0) (ws .1 .1 .1 .1 .1 .1 .1 .1 .1 .0) (ws .1 .1 .1 .1 .1 .1 .1 .1 .1 .1 .1 .1 .0)) (λ d.
             fsplit ! $ drop ! $ fsplit ! $ drop ! $ fsplit ! $ drop ! $ fsplit ! $ drop ! $ fsplit ! $ drop ! $ fsplit ! $ drop ! $ fsplit ! $ drop ! $ fsplit ! $ fsplit ! $ move ! (1 ∷ []) $ feqL ! (λ len-m. move ! (1 ∷ []) $ fsplit ! $ fsplit ! $ move ! (1 ∷ []) $ feqL ! (λ len-o. move ! (1 ∷ []) $ fsplit ! $ fsplit ! $ move ! (1 ∷ []) $ feqL ! (λ len-h. move ! (1 ∷ []) $ fsplit ! $ drop ! $ fsplit ! $ drop ! $ fsplit ! $
             move ! (5 ∷ []) $ split ! $ move ! (1 ∷ []) $ feqL ! (λ ev.
-            land ! (from ! (stop !)) (init ! 33 refl (subst (λ (y : Val). T (hasTy tyUnit y) × WT y) (sym (ap only ev)) (tt, tt))) $
+            land ! (from ! (stop !)) (init ! 37 refl (subst (λ (y : Val). T (hasTy tyUnit y) × WT y) (sym (ap only ev)) (tt, tt))) $
             split ! $ move ! (1 ∷ []) $ split ! $ move ! (1 ∷ []) $ split ! $ move ! (1 ∷ []) $ split ! $ move ! (1 ∷ []) $ split ! $
             move ! (4 ∷ 15 ∷ 10 ∷ []) $ use3 W (later (‵ (owned-list bm om κm γm (length marks) (ws .1 .1 .1 .1 .1 .1 .1 .0)) ⊛ ‵ (flft κm qm))) (ends bm om κm qm γm 𝓤 H A W (t .at .ms) (length marks) same-m αm δm (ws .1 .1 .1 .1 .1 .1 .1 .0) room-m len-m) $ await ! tt $ split ! $
             move ! (5 ∷ 14 ∷ 10 ∷ []) $ use3 W (later (‵ (owned-list bo oo κo γo (length order) (ws .1 .1 .1 .1 .1 .1 .1 .1 .0)) ⊛ ‵ (flft κo qo))) (ends bo oo κo qo γo 𝓤 H A W (t .at .xs .0) (length order) same-o αo δo (ws .1 .1 .1 .1 .1 .1 .1 .1 .0) room-o len-o) $ await ! tt $ split ! $
             move ! (6 ∷ 13 ∷ 10 ∷ []) $ use3 W (later (‵ (owned-list bh oh κh γh (length hosts) (ws .1 .1 .1 .1 .1 .1 .1 .1 .1 .0)) ⊛ ‵ (flft κh qh))) (ends bh oh κh qh γh 𝓤 H A W (t .at .xs .1) (length hosts) same-h αh δh (ws .1 .1 .1 .1 .1 .1 .1 .1 .1 .0) room-h len-h) $ await ! tt $ split ! $
             move ! (6 ∷ []) $ lft-end ! tt $ move ! (0 ∷ 12 ∷ 9 ∷ []) $ use3 W (later (‵ (own-cs κt γt (ws .1 .1 .1 .1 .1 .1 .1 .1 .1 .1 .1 .1 .0)) ⊛ ‵ (flft κt qt))) (ref.comes-back 𝓤 H A W T.the-row (named 0) κt (αt ∷ []) qt γt bt ot δt (t .at .t) (ws .1 .1 .1 .1 .1 .1 .1 .1 .1 .1 .1 .1 .0)) $ await ! tt $ split ! $
-            -- [the counters; κt's token; the hosts; κh's token; the order; κo's token; the marks; κm's token; …; κ₀'s token; …; the columns; _31; …]
-            -- what is behind: `next_trigger`
-            move ! (11 ∷ []) $ use1 W (‵ cols ⊛ ‵ (fsep (own-col κ₀ x₁) (fsep (own-col κ₀ x₃) (fsep (own-col κ₀ x₅) (own-col κ₀ x₆))))) (cols-next 𝓤 H A W κ₀ x₁ x₂ x₃ x₄ x₅ x₆ x₇) $ split ! $ nothing ! $ move ! (12 ∷ 0 ∷ []) $ join ! $ move ! (0 ∷ 2 ∷ []) $ use2 W (raw (Next-contract 𝓤 H A at-mem run .pre (to-next (t .at .p)))) (goes-next (t .at .p) (t .is) (next-fits (x₁ .now) (x₂ .now) (x₃ .now) (x₄ .now) (x₅ .now) (x₆ .now) (x₇ .now) marks order hosts m host h within marked first ent (t .at))) $
-            calls-at-last ! (fmOf 𝓤 H (W .laws) 𝓣) (Next-contract 𝓤 H A at-mem run) known-next (to-next (t .at .p)) (and-then ! (load ! (from ! (stop !)) (look ! 72 refl)) (and-then ! (load ! (from ! (stop !)) (look ! 68 refl)) (and-then ! (load ! (from ! (stop !)) (look ! 64 refl)) (and-then ! (load ! (from ! (stop !)) (look ! 62 refl)) (and-then ! (load ! (from ! (stop !)) (look ! 46 refl)) (no-more !)))))) (λ w.
-            use1 W (later (some (λ (r : Pending). ((‵ (flft κ₀ q₀) ⊛ ‵ ftrue) ⊛ ‵ (P.the-row .own r (w ∷ []))) ⊛ raw (ensured 𝓤 H A next.ended (next.clauses 𝓤 H A at-mem run) (κ₀, tt) (x₁, (x₃, (x₅, (x₆, (t .at .p, tt))))) tt r)))) (id⊢ 𝓤 _) $ await ! tt $ pick ! (λ r. split ! $
-            move ! (1 ∷ []) $ use1 W (some (λ (us : Unit {0} × (Unit {0} × (Unit {0} × (Unit {0} × (Unit {0} × Unit {0}))))). ‵ (lasts next.ended (κ₀, tt) (x₁, (x₃, (x₅, (x₆, (t .at .p, tt))))) us) ⊛ raw (fact 𝓤 (Next (rowTriggers (x₁ .now) (x₃ .now) (x₅ .now) (x₆ .now)) (t .at .p) r)))) (id⊢ 𝓤 _) $ pick ! (λ us. split ! $ move ! (1 ∷ []) $ heard ! (Next (rowTriggers (x₁ .now) (x₃ .now) (x₅ .now) (x₆ .now)) (t .at .p) r) (λ n.
-            move ! (1 ∷ []) $ split ! $ move ! (1 ∷ []) $ peeks ! P.the-row (Is P.the-row) (shows 𝓤 H A P.the-row) r (w ∷ []) (λ is.
-            land-last ! (from ! (stop !)) (store ! 48 refl (LL.lawful P.the-type P′.the-laws 𝓤 H A W .typed r _ is .0)) $
-            rewrite ! 48 (λ (u : Val). ‵ (fat fullShare P′.mir l₁₄ 0 u)) (pend-is r w is) refl $ move ! (1 ∷ []) $ split ! $
-            forget ! 39 refl $ forget ! 37 refl $ forget ! 35 refl $ forget ! 33 refl $ forget ! 31 refl $ forget ! 29 refl $ forget ! 27 refl $ forget ! 25 refl $ forget ! 23 refl $
-            keep ! (4 ∷ 0 ∷ 5 ∷ 6 ∷ 11 ∷ 12 ∷ 9 ∷ 10 ∷ 7 ∷ 8 ∷ 15 ∷ 16 ∷ 17 ∷ 18 ∷ 19 ∷ 20 ∷ 21 ∷ 22 ∷ 23 ∷ 24 ∷ 25 ∷ 26 ∷ 27 ∷ 28 ∷ 29 ∷ 30 ∷ 31 ∷ 32 ∷ 33 ∷ 34 ∷ 35 ∷ 36 ∷ 37 ∷ 38 ∷ 39 ∷ 40 ∷ 41 ∷ 42 ∷ 43 ∷ 44 ∷ 45 ∷ 46 ∷ 47 ∷ 48 ∷ 49 ∷ 50 ∷ 51 ∷ 52 ∷ 53 ∷ 54 ∷ 55 ∷ 56 ∷ 57 ∷ 58 ∷ 59 ∷ 60 ∷ 61 ∷ 62 ∷ 63 ∷ 64 ∷ 65 ∷ 66 ∷ 67 ∷ 68 ∷ 69 ∷ 70 ∷ 71 ∷ 72 ∷ 73 ∷ 74 ∷ 75 ∷ 76 ∷ 77 ∷ 78 ∷ []) $
-            again ! Nearer At t (record { at = next-turn (x₁ .now) (x₂ .now) (x₃ .now) (x₄ .now) (x₅ .now) (x₆ .now) (x₇ .now) marks order hosts m host h within marked first ent (t .at) e r (ws .1 .1 .1 .1 .1 .1 .1 .1 .1 .1 .1 .1 .0) (ws .1 .1 .1 .1 .1 .1 .1 .0) (ws .1 .1 .1 .1 .1 .1 .1 .1 .0) (ws .1 .1 .1 .1 .1 .1 .1 .1 .1 .0) n d; is = pend-told r w is }) (nearer (x₁ .now) (x₂ .now) (x₃ .now) (x₄ .now) (x₅ .now) (x₆ .now) (x₇ .now) marks order hosts m host h within marked first ent (t .at) e r n))))))))))))))))))))))
+            -- [the counters; κt's token; the hosts; κh's token; the order; κo's token; the marks; κm's token; …; κ₀'s token; …; the columns; _33; …]
+            -- what is behind: `next_trigger`, with the marks shared
+            assigns ! (addr ! (from ! (fld ! refl (hop ! (look-in ! 62 (sub ! 0 refl (whole !))) (stop !))))) (from ! (stop !)) (init ! 22 refl (tt, tt)) $
+            assigns ! (agg ! (and-then ! (load ! (from ! (stop !)) (look ! 22 refl)) (and-then ! (load ! (from ! (fld ! refl (stop !))) (look-in ! 62 (sub ! 1 refl (whole !)))) (no-more !)))) (from ! (stop !)) (init ! 20 refl (tt, (tt, (record { fits = room-m .0 }, tt)))) $
+            move ! (6 ∷ 7 ∷ []) $ use2 W (later (some (λ (α : ℕ). some (λ (δ : GName). ‵ (shared-list bm om (α ∷ []) δ (length marks) (ws .1 .1 .1 .1 .1 .1 .1 .0)) ⊛ ‵ (flft (α ∷ []) fullShare) ⊛ ‵ (Shared bm om κm qm γm α (ws .1 .1 .1 .1 .1 .1 .1 .0)))))) (lends-shared bm om κm qm γm 𝓤 H A W (ws .1 .1 .1 .1 .1 .1 .1 .0) (length marks) (len-m ∙ same-m)) $ await ! tt $ pick ! (λ αn. pick ! (λ δn. split ! $ move ! (1 ∷ []) $ split ! $
+            move ! (12 ∷ []) $ use1 W (‵ cols ⊛ ‵ (fsep (own-col κ₀ x₁) (fsep (own-col κ₀ x₃) (fsep (own-col κ₀ x₅) (own-col κ₀ x₆))))) (cols-next 𝓤 H A W κ₀ x₁ x₂ x₃ x₄ x₅ x₆ x₇) $ split ! $
+            -- [the columns; the four; αn's token; the loan of the marks; the marks, shared; the counters; κt's token; the hosts; κh's token; the order; κo's token; …; κ₀'s token; …; _33; …]
+            nothing ! $ move ! (3 ∷ 0 ∷ []) $ join ! $ move ! (12 ∷ 0 ∷ []) $ join ! $ move ! (2 ∷ 4 ∷ []) $ join ! $ move ! (1 ∷ 0 ∷ []) $ use2 W (raw (Next-contract 𝓤 H A at-mem run .pre (to-next αn δn (length marks) (ws .1 .1 .1 .1 .1 .1 .1 .0) (t .at .p)))) (goes-next αn δn (length marks) (ws .1 .1 .1 .1 .1 .1 .1 .0) (t .at .p) (t .is) (next-fits (x₁ .now) (x₂ .now) (x₃ .now) (x₄ .now) (x₅ .now) (x₆ .now) (x₇ .now) marks order hosts m host h within marked first ent (t .at) (ws .1 .1 .1 .1 .1 .1 .1 .0) (len-m ∙ same-m))) $
+            calls-at-last ! (fmOf 𝓤 H (W .laws) 𝓣) (Next-contract 𝓤 H A at-mem run) known-next (to-next αn δn (length marks) (ws .1 .1 .1 .1 .1 .1 .1 .0) (t .at .p)) (and-then ! (load ! (from ! (stop !)) (look ! 75 refl)) (and-then ! (load ! (from ! (stop !)) (look ! 71 refl)) (and-then ! (load ! (from ! (stop !)) (look ! 67 refl)) (and-then ! (load ! (from ! (stop !)) (look ! 65 refl)) (and-then ! (load ! (from ! (stop !)) (look ! 19 refl)) (and-then ! (load ! (from ! (stop !)) (look ! 49 refl)) (no-more !))))))) (λ w.
+            use1 W (later (some (λ (r : Pending). ((‵ (flft κ₀ q₀) ⊛ ‵ (flft (αn ∷ []) fullShare) ⊛ ‵ ftrue) ⊛ ‵ (P.the-row .own r (w ∷ []))) ⊛ raw (ensured 𝓤 H A next.ended (next.clauses 𝓤 H A at-mem run) (κ₀, (αn ∷ [], tt)) (x₁, (x₃, (x₅, (x₆, (list bm om δn (ws .1 .1 .1 .1 .1 .1 .1 .0), (t .at .p, tt)))))) tt r)))) (id⊢ 𝓤 _) $ await ! tt $ pick ! (λ r. split ! $
+            move ! (1 ∷ []) $ use1 W (some (λ (us : Unit {0} × (Unit {0} × (Unit {0} × (Unit {0} × (Unit {0} × (Unit {0} × Unit {0})))))). ‵ (lasts next.ended (κ₀, (αn ∷ [], tt)) (x₁, (x₃, (x₅, (x₆, (list bm om δn (ws .1 .1 .1 .1 .1 .1 .1 .0), (t .at .p, tt)))))) us) ⊛ raw (fact 𝓤 (Next (rowTriggers (x₁ .now) (x₃ .now) (x₅ .now) (x₆ .now)) (ws .1 .1 .1 .1 .1 .1 .1 .0) (t .at .p) r)))) (id⊢ 𝓤 _) $ pick ! (λ us. split ! $ move ! (1 ∷ []) $ heard ! (Next (rowTriggers (x₁ .now) (x₃ .now) (x₅ .now) (x₆ .now)) (ws .1 .1 .1 .1 .1 .1 .1 .0) (t .at .p) r) (λ n.
+            move ! (1 ∷ []) $ split ! $ split ! $ move ! (1 ∷ []) $ split ! $
+            -- [αn's token; …; κ₀'s token; what r owns; …; the columns; the loan of the marks; the counters; κt's token; the hosts; κh's token; the order; κo's token; …; …; _33; …]
+            move ! (0 ∷ 6 ∷ []) $ use2 W (later (‵ (owned-list bm om κm γm (length marks) (ws .1 .1 .1 .1 .1 .1 .1 .0)) ⊛ ‵ (flft κm qm))) (ends-shared bm om κm qm γm 𝓤 H A W (ws .1 .1 .1 .1 .1 .1 .1 .0) (length marks) (len-m ∙ same-m) αn room-m) $ await ! tt $ split ! $
+            move ! (4 ∷ []) $ peeks ! P.the-row (Is P.the-row) (shows 𝓤 H A P.the-row) r (w ∷ []) (λ is.
+            land-last ! (from ! (stop !)) (store ! 53 refl (LL.lawful P.the-type P′.the-laws 𝓤 H A W .typed r _ is .0)) $
+            rewrite ! 53 (λ (u : Val). ‵ (fat fullShare P′.mir l₁₄ 0 u)) (pend-is r w is) refl $
+            forget ! 43 refl $ forget ! 41 refl $ forget ! 39 refl $ forget ! 37 refl $ forget ! 35 refl $ forget ! 33 refl $ forget ! 31 refl $ forget ! 29 refl $ forget ! 27 refl $ forget ! 25 refl $ forget ! 23 refl $
+            keep ! (6 ∷ 4 ∷ 7 ∷ 8 ∷ 1 ∷ 2 ∷ 11 ∷ 12 ∷ 9 ∷ 10 ∷ 15 ∷ 16 ∷ 17 ∷ 18 ∷ 19 ∷ 20 ∷ 21 ∷ 22 ∷ 23 ∷ 24 ∷ 25 ∷ 26 ∷ 27 ∷ 28 ∷ 29 ∷ 30 ∷ 31 ∷ 32 ∷ 33 ∷ 34 ∷ 35 ∷ 36 ∷ 37 ∷ 38 ∷ 39 ∷ 40 ∷ 41 ∷ 42 ∷ 43 ∷ 44 ∷ 45 ∷ 46 ∷ 47 ∷ 48 ∷ 49 ∷ 50 ∷ 51 ∷ 52 ∷ 53 ∷ 54 ∷ 55 ∷ 56 ∷ 57 ∷ 58 ∷ 59 ∷ 60 ∷ 61 ∷ 62 ∷ 63 ∷ 64 ∷ 65 ∷ 66 ∷ 67 ∷ 68 ∷ 69 ∷ 70 ∷ 71 ∷ 72 ∷ 73 ∷ 74 ∷ 75 ∷ 76 ∷ 77 ∷ 78 ∷ 79 ∷ 80 ∷ 81 ∷ 82 ∷ []) $
+            again ! Nearer At t (record { at = next-turn (x₁ .now) (x₂ .now) (x₃ .now) (x₄ .now) (x₅ .now) (x₆ .now) (x₇ .now) marks order hosts m host h within marked first ent (t .at) e r (ws .1 .1 .1 .1 .1 .1 .1 .1 .1 .1 .1 .1 .0) (ws .1 .1 .1 .1 .1 .1 .1 .0) (ws .1 .1 .1 .1 .1 .1 .1 .1 .0) (ws .1 .1 .1 .1 .1 .1 .1 .1 .1 .0) n d; is = pend-told r w is }) (nearer (x₁ .now) (x₂ .now) (x₃ .now) (x₄ .now) (x₅ .now) (x₆ .now) (x₇ .now) marks order hosts m host h within marked first ent (t .at) e r (ws .1 .1 .1 .1 .1 .1 .1 .0) n))))))))))))))))))))))))
 
         ends-turn : (t : At-turn) → t .at .p .more ≡ false → Sq W (At t) (runs C Λ En steps.turn-1 (anyQ (Turned t)))
         unfolding afterTurn
@@ -311,31 +322,31 @@ module _ {M : Type 1} (𝓤 : URA M) (H : Heap 𝓤) (A : Atoms 𝓤) (W : Given
             let same-m : length (t .at .ms) ≡ length marks = same-marks (x₁ .now) (x₂ .now) (x₃ .now) (x₄ .now) (x₅ .now) (x₆ .now) (x₇ .now) marks order hosts m host h within marked first ent (t .at) in
             let same-o : length (t .at .xs .0) ≡ length order = same-order (x₁ .now) (x₂ .now) (x₃ .now) (x₄ .now) (x₅ .now) (x₆ .now) (x₇ .now) marks order hosts m host h within marked first ent (t .at) in
             let same-h : length (t .at .xs .1) ≡ length hosts = same-hosts (x₁ .now) (x₂ .now) (x₃ .now) (x₄ .now) (x₅ .now) (x₆ .now) (x₇ .now) marks order hosts m host h within marked first ent (t .at) in
-            assigns ! (of-opd ! (load ! (from ! (fld ! refl (stop !))) (look-in ! 44 (sub ! 1 refl (whole !))))) (from ! (stop !)) (init ! 34 refl (tt, tt)) $
-            rewrite ! 34 (λ (z : Bool). ‵ (fat fullShare tyBool l₁₉ 0 (vbool z))) e refl $ leaves-loop ! (load ! (from ! (stop !)) (look ! 34 refl)) $ exec ! C Λ En steps.t-5 (atRet En Post) $
+            assigns ! (of-opd ! (load ! (from ! (fld ! refl (stop !))) (look-in ! 48 (sub ! 1 refl (whole !))))) (from ! (stop !)) (init ! 38 refl (tt, tt)) $
+            rewrite ! 38 (λ (z : Bool). ‵ (fat fullShare tyBool l₁₉ 0 (vbool z))) e refl $ leaves-loop ! (load ! (from ! (stop !)) (look ! 38 refl)) $ exec ! C Λ En steps.t-5 (atRet En Post) $
             move ! (2 ∷ []) $ fsplit3 ! $ drop ! $ move ! (0 ∷ 1 ∷ 4 ∷ []) $
             opens ! tt T.the-row {h = t .at .t} bt ot (λ vs. spelt ! T.the-row (Is T.the-row) (shows 𝓤 H A T.the-row) (LL.vals T.the-type T′.the-laws) (LL.tells T.the-type T′.the-laws) fullShare (t .at .t) vs bt ot $ move ! (1 ∷ []) $ peeks ! T.the-row (Is T.the-row) (shows 𝓤 H A T.the-row) (t .at .t) (mach (t .at .t) ∷ []) (λ ok. move ! (1 ∷ 0 ∷ []) $
-            -- [the cell; what the counters own; the open borrow; obs; auth; the columns; κ₀'s token; the marks; κm's token; the order; κo's token; the hosts; κh's token; _31; …]
-            assigns ! (of-opd ! (load ! (from ! (hop ! (look ! 49 refl) (stop !))) (look-raw ! 0 refl))) (from ! (stop !)) (init ! 45 refl (LL.lawful T.the-type T′.the-laws 𝓤 H A W .typed (t .at .t) _ ok .0)) $
-            assigns ! (addr ! (from ! (fld ! refl (hop ! (look-in ! 57 (sub ! 0 refl (whole !))) (stop !))))) (from ! (stop !)) (init ! 19 refl (tt, tt)) $
-            assigns ! (agg ! (and-then ! (load ! (from ! (stop !)) (look ! 19 refl)) (and-then ! (load ! (from ! (fld ! refl (stop !))) (look-in ! 57 (sub ! 1 refl (whole !)))) (no-more !)))) (from ! (stop !)) (init ! 17 refl (tt, (tt, (record { fits = room-o .0 }, tt)))) $
-            assigns ! (addr ! (from ! (fld ! refl (hop ! (look-in ! 55 (sub ! 0 refl (whole !))) (stop !))))) (from ! (stop !)) (init ! 15 refl (tt, tt)) $
-            assigns ! (agg ! (and-then ! (load ! (from ! (stop !)) (look ! 15 refl)) (and-then ! (load ! (from ! (fld ! refl (stop !))) (look-in ! 55 (sub ! 1 refl (whole !)))) (no-more !)))) (from ! (stop !)) (init ! 13 refl (tt, (tt, (record { fits = room-h .0 }, tt)))) $
+            -- [the cell; what the counters own; the open borrow; obs; auth; the columns; κ₀'s token; the marks; κm's token; the order; κo's token; the hosts; κh's token; _33; …]
+            assigns ! (of-opd ! (load ! (from ! (hop ! (look ! 53 refl) (stop !))) (look-raw ! 0 refl))) (from ! (stop !)) (init ! 49 refl (LL.lawful T.the-type T′.the-laws 𝓤 H A W .typed (t .at .t) _ ok .0)) $
+            assigns ! (addr ! (from ! (fld ! refl (hop ! (look-in ! 61 (sub ! 0 refl (whole !))) (stop !))))) (from ! (stop !)) (init ! 19 refl (tt, tt)) $
+            assigns ! (agg ! (and-then ! (load ! (from ! (stop !)) (look ! 19 refl)) (and-then ! (load ! (from ! (fld ! refl (stop !))) (look-in ! 61 (sub ! 1 refl (whole !)))) (no-more !)))) (from ! (stop !)) (init ! 17 refl (tt, (tt, (record { fits = room-o .0 }, tt)))) $
+            assigns ! (addr ! (from ! (fld ! refl (hop ! (look-in ! 59 (sub ! 0 refl (whole !))) (stop !))))) (from ! (stop !)) (init ! 15 refl (tt, tt)) $
+            assigns ! (agg ! (and-then ! (load ! (from ! (stop !)) (look ! 15 refl)) (and-then ! (load ! (from ! (fld ! refl (stop !))) (look-in ! 59 (sub ! 1 refl (whole !)))) (no-more !)))) (from ! (stop !)) (init ! 13 refl (tt, (tt, (record { fits = room-h .0 }, tt)))) $
             nothing ! $ move ! (13 ∷ 0 ∷ []) $ join ! $ move ! (11 ∷ 0 ∷ []) $ join ! $ move ! (10 ∷ 11 ∷ []) $ join ! $ move ! (1 ∷ 0 ∷ []) $ use2 W (raw (Leave 𝓤 H A at-mem run .pre (to-leave (length order) (length hosts) (t .at .xs .0) (t .at .xs .1) m host (t .at .p .entered) (t .at .t)))) (goes-leave (length order) (length hosts) (t .at .xs .0) (t .at .xs .1) m host (t .at .p .entered) (t .at .t) m-fits host-fits ok (leave-fits (x₁ .now) (x₂ .now) (x₃ .now) (x₄ .now) (x₅ .now) (x₆ .now) (x₇ .now) marks order hosts m host h within marked first ent (t .at))) $
-            calls-at ! (fmOf 𝓤 H (W .laws) 𝓣) (Leave 𝓤 H A at-mem run) known-leave (to-leave (length order) (length hosts) (t .at .xs .0) (t .at .xs .1) m host (t .at .p .entered) (t .at .t)) (and-then ! (load ! (from ! (stop !)) (look ! 14 refl)) (and-then ! (load ! (from ! (stop !)) (look ! 10 refl)) (and-then ! (load ! (from ! (stop !)) (look ! 50 refl)) (and-then ! (load ! (from ! (stop !)) (look ! 48 refl)) (and-then ! (load ! (from ! (fld ! refl (stop !))) (look-in ! 44 (sub ! 0 refl (whole !)))) (and-then ! (load ! (from ! (stop !)) (look ! 42 refl)) (no-more !))))))) (λ w.
+            calls-at ! (fmOf 𝓤 H (W .laws) 𝓣) (Leave 𝓤 H A at-mem run) known-leave (to-leave (length order) (length hosts) (t .at .xs .0) (t .at .xs .1) m host (t .at .p .entered) (t .at .t)) (and-then ! (load ! (from ! (stop !)) (look ! 14 refl)) (and-then ! (load ! (from ! (stop !)) (look ! 10 refl)) (and-then ! (load ! (from ! (stop !)) (look ! 54 refl)) (and-then ! (load ! (from ! (stop !)) (look ! 52 refl)) (and-then ! (load ! (from ! (fld ! refl (stop !))) (look-in ! 48 (sub ! 0 refl (whole !)))) (and-then ! (load ! (from ! (stop !)) (look ! 46 refl)) (no-more !))))))) (λ w.
             use1 W (later (some (λ (r : ActualOrderTraversal). ((‵ (flft κo qo) ⊛ ‵ (flft κh qh) ⊛ ‵ ftrue) ⊛ ‵ (T.the-row .own r (w ∷ []))) ⊛ raw (ensured 𝓤 H A leave.ended (leave.clauses 𝓤 H A at-mem run) (κo, (κh, tt)) (list bo oo γo (t .at .xs .0), (list bh oh γh (t .at .xs .1), (m, (host, (t .at .p .entered, (t .at .t, tt)))))) tt r)))) (id⊢ 𝓤 _) $ await ! tt $ pick ! (λ r. split ! $
             move ! (1 ∷ []) $ use1 W (some (λ (ws : List ℕ × (List ℕ × (Unit {0} × (Unit {0} × (Unit {0} × (Unit {0} × Unit {0})))))). ‵ (lasts leave.ended (κo, (κh, tt)) (list bo oo γo (t .at .xs .0), (list bh oh γh (t .at .xs .1), (m, (host, (t .at .p .entered, (t .at .t, tt)))))) ws) ⊛ raw (fact 𝓤 (Leaves (x₁ .now) (x₂ .now) (x₃ .now) (x₄ .now) (x₅ .now) (x₆ .now) (x₇ .now) (t .at .xs .0) (t .at .xs .1) m host (t .at .p .entered) (t .at .t) (ws .0) (ws .1 .0) r)))) (id⊢ 𝓤 _) $ pick ! (λ ws. split ! $ move ! (1 ∷ []) $ heard ! (Leaves (x₁ .now) (x₂ .now) (x₃ .now) (x₄ .now) (x₅ .now) (x₆ .now) (x₇ .now) (t .at .xs .0) (t .at .xs .1) m host (t .at .p .entered) (t .at .t) (ws .0) (ws .1 .0) r) (λ d.
             fsplit ! $ fsplit ! $ move ! (1 ∷ []) $ feqL ! (λ len-o. move ! (1 ∷ []) $ fsplit ! $ fsplit ! $ move ! (1 ∷ []) $ feqL ! (λ len-h.
             move ! (3 ∷ []) $ split ! $ move ! (1 ∷ []) $ peeks ! T.the-row (Is T.the-row) (shows 𝓤 H A T.the-row) r (w ∷ []) (λ is.
-            -- [what r owns; the tokens of what was given; the last of the hosts; …; the last of the order; the cell; what the counters own; the open borrow; obs; auth; the columns; κ₀'s token; the marks; κm's token; _31; …]
-            land ! (from ! (stop !)) (init ! 44 refl (LL.lawful T.the-type T′.the-laws 𝓤 H A W .typed r _ is .0)) $
-            assigns ! (of-opd ! (load ! (from ! (stop !)) (look ! 44 refl))) (from ! (hop ! (look ! 50 refl) (stop !))) (store-raw ! 5 refl (LL.lawful T.the-type T′.the-laws 𝓤 H A W .typed r _ is .0)) $
-            assigns ! (of-opd ! (unit-lit !)) (from ! (stop !)) (init ! 76 refl (tt, tt)) $
+            -- [what r owns; the tokens of what was given; the last of the hosts; …; the last of the order; the cell; what the counters own; the open borrow; obs; auth; the columns; κ₀'s token; the marks; κm's token; _33; …]
+            land ! (from ! (stop !)) (init ! 48 refl (LL.lawful T.the-type T′.the-laws 𝓤 H A W .typed r _ is .0)) $
+            assigns ! (of-opd ! (load ! (from ! (stop !)) (look ! 48 refl))) (from ! (hop ! (look ! 54 refl) (stop !))) (store-raw ! 5 refl (LL.lawful T.the-type T′.the-laws 𝓤 H A W .typed r _ is .0)) $
+            assigns ! (of-opd ! (unit-lit !)) (from ! (stop !)) (init ! 80 refl (tt, tt)) $
             move ! (5 ∷ 0 ∷ 7 ∷ 8 ∷ 9 ∷ []) $ closes ! tt T.the-row r (w ∷ []) bt ot $
-            -- [obs; the borrow; κt's token; the tokens of what was given; the last of the hosts; …; the last of the order; what the counters own; the columns; κ₀'s token; the marks; κm's token; _31; …]
-            returns ! (look ! 74 refl) $
-            forget ! 74 refl $ forget ! 72 refl $ forget ! 70 refl $ forget ! 68 refl $ forget ! 66 refl $ forget ! 64 refl $ forget ! 62 refl $ forget ! 60 refl $ forget ! 58 refl $ forget ! 56 refl $ forget ! 54 refl $ forget ! 52 refl $ forget ! 50 refl $ forget ! 48 refl $ forget ! 46 refl $ forget ! 44 refl $ forget ! 42 refl $ forget ! 36 refl $ forget ! 18 refl $ forget ! 16 refl $ forget ! 14 refl $ forget ! 12 refl $
-            move ! (74 ∷ 75 ∷ []) $ free1 ! $ move ! (72 ∷ 73 ∷ []) $ free1 ! $ move ! (70 ∷ 71 ∷ []) $ free1 ! $ move ! (68 ∷ 69 ∷ []) $ free1 ! $ move ! (66 ∷ 67 ∷ []) $ free1 ! $ move ! (64 ∷ 65 ∷ []) $ free1 ! $ move ! (62 ∷ 63 ∷ []) $ free1 ! $ move ! (60 ∷ 61 ∷ []) $ free1 ! $ move ! (58 ∷ 59 ∷ []) $ free1 ! $ move ! (56 ∷ 57 ∷ []) $ free1 ! $ move ! (54 ∷ 55 ∷ []) $ free1 ! $ move ! (52 ∷ 53 ∷ []) $ free1 ! $ move ! (50 ∷ 51 ∷ []) $ free1 ! $ move ! (48 ∷ 49 ∷ []) $ free1 ! $ move ! (46 ∷ 47 ∷ []) $ free1 ! $ move ! (44 ∷ 45 ∷ []) $ free1 ! $ move ! (42 ∷ 43 ∷ []) $ free1 ! $ move ! (40 ∷ 41 ∷ []) $ free1 ! $ move ! (38 ∷ 39 ∷ []) $ free1 ! $ move ! (36 ∷ 37 ∷ []) $ free1 ! $ move ! (34 ∷ 35 ∷ []) $ free1 ! $ move ! (32 ∷ 33 ∷ []) $ free1 ! $ move ! (30 ∷ 31 ∷ []) $ free1 ! $ move ! (28 ∷ 29 ∷ []) $ free1 ! $ move ! (26 ∷ 27 ∷ []) $ free1 ! $ move ! (24 ∷ 25 ∷ []) $ free1 ! $ move ! (22 ∷ 23 ∷ []) $ free1 ! $ move ! (20 ∷ 21 ∷ []) $ free1 ! $ move ! (18 ∷ 19 ∷ []) $ free1 ! $ move ! (16 ∷ 17 ∷ []) $ free1 ! $ move ! (14 ∷ 15 ∷ []) $ free1 ! $ move ! (12 ∷ 13 ∷ []) $ free1 ! $ free0 ! $
+            -- [obs; the borrow; κt's token; the tokens of what was given; the last of the hosts; …; the last of the order; what the counters own; the columns; κ₀'s token; the marks; κm's token; _33; …]
+            returns ! (look ! 78 refl) $
+            forget ! 78 refl $ forget ! 76 refl $ forget ! 74 refl $ forget ! 72 refl $ forget ! 70 refl $ forget ! 68 refl $ forget ! 66 refl $ forget ! 64 refl $ forget ! 62 refl $ forget ! 60 refl $ forget ! 58 refl $ forget ! 56 refl $ forget ! 54 refl $ forget ! 52 refl $ forget ! 50 refl $ forget ! 48 refl $ forget ! 46 refl $ forget ! 40 refl $ forget ! 18 refl $ forget ! 16 refl $ forget ! 14 refl $ forget ! 12 refl $
+            move ! (78 ∷ 79 ∷ []) $ free1 ! $ move ! (76 ∷ 77 ∷ []) $ free1 ! $ move ! (74 ∷ 75 ∷ []) $ free1 ! $ move ! (72 ∷ 73 ∷ []) $ free1 ! $ move ! (70 ∷ 71 ∷ []) $ free1 ! $ move ! (68 ∷ 69 ∷ []) $ free1 ! $ move ! (66 ∷ 67 ∷ []) $ free1 ! $ move ! (64 ∷ 65 ∷ []) $ free1 ! $ move ! (62 ∷ 63 ∷ []) $ free1 ! $ move ! (60 ∷ 61 ∷ []) $ free1 ! $ move ! (58 ∷ 59 ∷ []) $ free1 ! $ move ! (56 ∷ 57 ∷ []) $ free1 ! $ move ! (54 ∷ 55 ∷ []) $ free1 ! $ move ! (52 ∷ 53 ∷ []) $ free1 ! $ move ! (50 ∷ 51 ∷ []) $ free1 ! $ move ! (48 ∷ 49 ∷ []) $ free1 ! $ move ! (46 ∷ 47 ∷ []) $ free1 ! $ move ! (44 ∷ 45 ∷ []) $ free1 ! $ move ! (42 ∷ 43 ∷ []) $ free1 ! $ move ! (40 ∷ 41 ∷ []) $ free1 ! $ move ! (38 ∷ 39 ∷ []) $ free1 ! $ move ! (36 ∷ 37 ∷ []) $ free1 ! $ move ! (34 ∷ 35 ∷ []) $ free1 ! $ move ! (32 ∷ 33 ∷ []) $ free1 ! $ move ! (30 ∷ 31 ∷ []) $ free1 ! $ move ! (28 ∷ 29 ∷ []) $ free1 ! $ move ! (26 ∷ 27 ∷ []) $ free1 ! $ move ! (24 ∷ 25 ∷ []) $ free1 ! $ move ! (22 ∷ 23 ∷ []) $ free1 ! $ move ! (20 ∷ 21 ∷ []) $ free1 ! $ move ! (18 ∷ 19 ∷ []) $ free1 ! $ move ! (16 ∷ 17 ∷ []) $ free1 ! $ move ! (14 ∷ 15 ∷ []) $ free1 ! $ move ! (12 ∷ 13 ∷ []) $ free1 ! $ free0 ! $
             keep ! (0 ∷ 1 ∷ 2 ∷ 3 ∷ 6 ∷ 4 ∷ 8 ∷ 9 ∷ 10 ∷ 11 ∷ []) $ by ! (exits (t .at .ms) (ws .0) (ws .1 .0) r (ended (x₁ .now) (x₂ .now) (x₃ .now) (x₄ .now) (x₅ .now) (x₆ .now) (x₇ .now) marks order hosts m host h within marked first ent (t .at) r (ws .0) (ws .1 .0) e d) same-m (len-o ∙ same-o) (len-h ∙ same-h)))))))))))
 
         turns : (t : At-turn) (z : Bool) → t .at .p .more ≡ z → Sq W (At t) (runs C Λ En steps.turn-1 (anyQ (Turned t)))
@@ -352,25 +363,25 @@ module _ {M : Type 1} (𝓤 : URA M) (H : Heap 𝓤) (A : Atoms 𝓤) (W : Given
     walk : ent 𝓤 (onEntry 𝓤 H A f.signature (κ₀, (κm, (κo, (κh, (κt, tt))))) (q₀, (qm, (qo, (qh, (qt, tt))))) (args γm γo γh γt marks order hosts m host h) (vals (length marks) (length order) (length hosts) m host)) (WpFn 𝓤 H C Λ code.execute-actual-module-function (count-of x₁ ∷ count-of x₂ ∷ count-of x₃ ∷ count-of x₄ ∷ count-of x₅ ∷ count-of x₆ ∷ count-of x₇ ∷ sliceVal (bm, om) (length marks) ∷ sliceVal (bo, oo) (length order) ∷ sliceVal (bh, oh) (length hosts) ∷ vint w32 m ∷ vint w32 host ∷ vptr bt ot ∷ []) Post)
     walk =
         qed W ((‵ (flft κ₀ q₀) ⊛ ‵ (flft κm qm) ⊛ ‵ (flft κo qo) ⊛ ‵ (flft κh qh) ⊛ ‵ (flft κt qt) ⊛ ‵ ftrue) ∷ ‵ (owns (ShrSlice (named 0) κ₀ u32 ∷ ShrSlice (named 0) κ₀ u32 ∷ ShrSlice (named 0) κ₀ u32 ∷ ShrSlice (named 0) κ₀ u32 ∷ ShrSlice (named 0) κ₀ u32 ∷ ShrSlice (named 0) κ₀ u32 ∷ ShrSlice (named 0) κ₀ u32 ∷ MutSlice (named 1) κm u32 ∷ MutSlice (named 2) κo u32 ∷ MutSlice (named 3) κh u32 ∷ u32 ∷ u32 ∷ MutRef (named 4) κt T.the-row ∷ []) (args γm γo γh γt marks order hosts m host h) (vals (length marks) (length order) (length hosts) m host)) ∷ []) ∵ enters ! C Λ code.execute-actual-module-function (count-of x₁ ∷ count-of x₂ ∷ count-of x₃ ∷ count-of x₄ ∷ count-of x₅ ∷ count-of x₆ ∷ count-of x₇ ∷ sliceVal (bm, om) (length marks) ∷ sliceVal (bo, oo) (length order) ∷ sliceVal (bh, oh) (length hosts) ∷ vint w32 m ∷ vint w32 host ∷ vptr bt ot ∷ []) _ $
-        alloc1 ! (λ l₀. alloc1 ! (λ l₁. alloc1 ! (λ l₂. alloc1 ! (λ l₃. alloc1 ! (λ l₄. alloc1 ! (λ l₅. alloc1 ! (λ l₆. alloc1 ! (λ l₇. alloc1 ! (λ l₈. alloc1 ! (λ l₉. alloc1 ! (λ l₁₀. alloc1 ! (λ l₁₁. alloc1 ! (λ l₁₂. alloc1 ! (λ l₁₃. alloc1 ! (λ l₁₄. alloc1 ! (λ l₁₅. alloc1 ! (λ l₁₆. alloc1 ! (λ l₁₇. alloc1 ! (λ l₁₈. alloc1 ! (λ l₁₉. alloc1 ! (λ l₂₀. alloc1 ! (λ l₂₁. alloc1 ! (λ l₂₂. alloc1 ! (λ l₂₃. alloc1 ! (λ l₂₄. alloc1 ! (λ l₂₅. alloc1 ! (λ l₂₆. alloc1 ! (λ l₂₇. alloc1 ! (λ l₂₈. alloc1 ! (λ l₂₉. alloc1 ! (λ l₃₀. alloc1 ! (λ l₃₁. alloc0 ! $ params1 ! $
-        pass1 ! (init ! 60 refl (tt, (tt, (record { fits = room1 .0 }, tt)))) $ pass1 ! (init ! 58 refl (tt, (tt, (record { fits = room2 .0 }, tt)))) $ pass1 ! (init ! 56 refl (tt, (tt, (record { fits = room3 .0 }, tt)))) $ pass1 ! (init ! 54 refl (tt, (tt, (record { fits = room4 .0 }, tt)))) $ pass1 ! (init ! 52 refl (tt, (tt, (record { fits = room5 .0 }, tt)))) $ pass1 ! (init ! 50 refl (tt, (tt, (record { fits = room6 .0 }, tt)))) $ pass1 ! (init ! 48 refl (tt, (tt, (record { fits = room7 .0 }, tt)))) $ pass1 ! (init ! 46 refl (tt, (tt, (record { fits = room-m .0 }, tt)))) $ pass1 ! (init ! 44 refl (tt, (tt, (record { fits = room-o .0 }, tt)))) $ pass1 ! (init ! 42 refl (tt, (tt, (record { fits = room-h .0 }, tt)))) $ pass1 ! (init ! 40 refl (tt, record { fits = m-fits })) $ pass1 ! (init ! 38 refl (tt, record { fits = host-fits })) $ pass1 ! (init ! 36 refl (tt, tt)) $ pass0 ! $
-        move ! (65 ∷ []) $ fsplit ! $ move ! (1 ∷ []) $ fsplit ! $ move ! (1 ∷ []) $ fsplit ! $ move ! (1 ∷ []) $ fsplit ! $ move ! (1 ∷ []) $ fsplit ! $ move ! (1 ∷ []) $ fsplit ! $ move ! (1 ∷ []) $ fsplit ! $ move ! (1 ∷ []) $ fsplit ! $ move ! (1 ∷ []) $ fsplit ! $ move ! (1 ∷ []) $ fsplit ! $ move ! (1 ∷ []) $ fsplit ! $ move ! (1 ∷ []) $ fsplit ! $ move ! (1 ∷ []) $ fsplit ! $ move ! (8 ∷ 7 ∷ []) $ fjoin ! $ move ! (8 ∷ 0 ∷ []) $ fjoin ! $ move ! (8 ∷ 0 ∷ []) $ fjoin ! $ move ! (8 ∷ 0 ∷ []) $ fjoin ! $ move ! (8 ∷ 0 ∷ []) $ fjoin ! $ move ! (8 ∷ 0 ∷ []) $ fjoin ! $ move ! (72 ∷ []) $ split ! $ move ! (1 ∷ []) $ split ! $ move ! (1 ∷ []) $ split ! $ move ! (1 ∷ []) $ split ! $ move ! (1 ∷ []) $ split ! $
-        -- [κt's token; …; κh's token; κo's token; κm's token; κ₀'s token; the columns; the counters; …; …; …; the hosts; the order; the marks; _31; …]
-        assigns ! (addr ! (from ! (fld ! refl (hop ! (look-in ! 60 (sub ! 0 refl (whole !))) (stop !))))) (from ! (stop !)) (init ! 42 refl (tt, tt)) $
-        assigns ! (agg ! (and-then ! (load ! (from ! (stop !)) (look ! 42 refl)) (and-then ! (load ! (from ! (fld ! refl (stop !))) (look-in ! 60 (sub ! 1 refl (whole !)))) (no-more !)))) (from ! (stop !)) (init ! 40 refl (tt, (tt, (record { fits = room-m .0 }, tt)))) $
+        alloc1 ! (λ l₀. alloc1 ! (λ l₁. alloc1 ! (λ l₂. alloc1 ! (λ l₃. alloc1 ! (λ l₄. alloc1 ! (λ l₅. alloc1 ! (λ l₆. alloc1 ! (λ l₇. alloc1 ! (λ l₈. alloc1 ! (λ l₉. alloc1 ! (λ l₁₀. alloc1 ! (λ l₁₁. alloc1 ! (λ l₁₂. alloc1 ! (λ l₁₃. alloc1 ! (λ l₁₄. alloc1 ! (λ l₁₅. alloc1 ! (λ l₁₆. alloc1 ! (λ l₁₇. alloc1 ! (λ l₁₈. alloc1 ! (λ l₁₉. alloc1 ! (λ l₂₀. alloc1 ! (λ l₂₁. alloc1 ! (λ l₂₂. alloc1 ! (λ l₂₃. alloc1 ! (λ l₂₄. alloc1 ! (λ l₂₅. alloc1 ! (λ l₂₆. alloc1 ! (λ l₂₇. alloc1 ! (λ l₂₈. alloc1 ! (λ l₂₉. alloc1 ! (λ l₃₀. alloc1 ! (λ l₃₁. alloc1 ! (λ l₃₂. alloc1 ! (λ l₃₃. alloc0 ! $ params1 ! $
+        pass1 ! (init ! 64 refl (tt, (tt, (record { fits = room1 .0 }, tt)))) $ pass1 ! (init ! 62 refl (tt, (tt, (record { fits = room2 .0 }, tt)))) $ pass1 ! (init ! 60 refl (tt, (tt, (record { fits = room3 .0 }, tt)))) $ pass1 ! (init ! 58 refl (tt, (tt, (record { fits = room4 .0 }, tt)))) $ pass1 ! (init ! 56 refl (tt, (tt, (record { fits = room5 .0 }, tt)))) $ pass1 ! (init ! 54 refl (tt, (tt, (record { fits = room6 .0 }, tt)))) $ pass1 ! (init ! 52 refl (tt, (tt, (record { fits = room7 .0 }, tt)))) $ pass1 ! (init ! 50 refl (tt, (tt, (record { fits = room-m .0 }, tt)))) $ pass1 ! (init ! 48 refl (tt, (tt, (record { fits = room-o .0 }, tt)))) $ pass1 ! (init ! 46 refl (tt, (tt, (record { fits = room-h .0 }, tt)))) $ pass1 ! (init ! 44 refl (tt, record { fits = m-fits })) $ pass1 ! (init ! 42 refl (tt, record { fits = host-fits })) $ pass1 ! (init ! 40 refl (tt, tt)) $ pass0 ! $
+        move ! (69 ∷ []) $ fsplit ! $ move ! (1 ∷ []) $ fsplit ! $ move ! (1 ∷ []) $ fsplit ! $ move ! (1 ∷ []) $ fsplit ! $ move ! (1 ∷ []) $ fsplit ! $ move ! (1 ∷ []) $ fsplit ! $ move ! (1 ∷ []) $ fsplit ! $ move ! (1 ∷ []) $ fsplit ! $ move ! (1 ∷ []) $ fsplit ! $ move ! (1 ∷ []) $ fsplit ! $ move ! (1 ∷ []) $ fsplit ! $ move ! (1 ∷ []) $ fsplit ! $ move ! (1 ∷ []) $ fsplit ! $ move ! (8 ∷ 7 ∷ []) $ fjoin ! $ move ! (8 ∷ 0 ∷ []) $ fjoin ! $ move ! (8 ∷ 0 ∷ []) $ fjoin ! $ move ! (8 ∷ 0 ∷ []) $ fjoin ! $ move ! (8 ∷ 0 ∷ []) $ fjoin ! $ move ! (8 ∷ 0 ∷ []) $ fjoin ! $ move ! (76 ∷ []) $ split ! $ move ! (1 ∷ []) $ split ! $ move ! (1 ∷ []) $ split ! $ move ! (1 ∷ []) $ split ! $ move ! (1 ∷ []) $ split ! $
+        -- [κt's token; …; κh's token; κo's token; κm's token; κ₀'s token; the columns; the counters; …; …; …; the hosts; the order; the marks; _33; …]
+        assigns ! (addr ! (from ! (fld ! refl (hop ! (look-in ! 64 (sub ! 0 refl (whole !))) (stop !))))) (from ! (stop !)) (init ! 46 refl (tt, tt)) $
+        assigns ! (agg ! (and-then ! (load ! (from ! (stop !)) (look ! 46 refl)) (and-then ! (load ! (from ! (fld ! refl (stop !))) (look-in ! 64 (sub ! 1 refl (whole !)))) (no-more !)))) (from ! (stop !)) (init ! 44 refl (tt, (tt, (record { fits = room-m .0 }, tt)))) $
         move ! (13 ∷ 4 ∷ []) $ use2 W (later (some (λ (α : ℕ). some (λ (δ : GName). ‵ (owned-list bm om (α ∷ []) δ (length marks) marks) ⊛ ‵ (flft (α ∷ []) fullShare) ⊛ ‵ (Loan bm om κm qm γm α δ marks))))) (lends bm om κm qm γm 𝓤 H A W marks (length marks) refl) $ await ! tt $ pick ! (λ αm. pick ! (λ δm. split ! $ move ! (1 ∷ []) $ split ! $
         move ! (8 ∷ []) $ use1 W (‵ cols ⊛ ‵ cols) (cols-twice 𝓤 H A W κ₀ x₁ x₂ x₃ x₄ x₅ x₆ x₇) $ split ! $ move ! (2 ∷ 6 ∷ []) $ join ! $ move ! (8 ∷ 0 ∷ []) $ join ! $ move ! (2 ∷ 4 ∷ []) $ join ! $ move ! (1 ∷ 0 ∷ []) $ use2 W (raw (Enter 𝓤 H A at-mem run .pre (to-enter αm δm (length marks) marks m))) (goes-enter αm δm (length marks) marks m m-fits (within .0, within .1, within .3)) $
-        calls-at ! (fmOf 𝓤 H (W .laws) 𝓣) (Enter 𝓤 H A at-mem run) known-enter (to-enter αm δm (length marks) marks m) (and-then ! (load ! (from ! (stop !)) (look ! 72 refl)) (and-then ! (load ! (from ! (stop !)) (look ! 70 refl)) (and-then ! (load ! (from ! (stop !)) (look ! 68 refl)) (and-then ! (load ! (from ! (stop !)) (look ! 66 refl)) (and-then ! (load ! (from ! (stop !)) (look ! 64 refl)) (and-then ! (load ! (from ! (stop !)) (look ! 62 refl)) (and-then ! (load ! (from ! (stop !)) (look ! 60 refl)) (and-then ! (load ! (from ! (stop !)) (look ! 38 refl)) (and-then ! (load ! (from ! (stop !)) (look ! 52 refl)) (no-more !)))))))))) (λ w.
+        calls-at ! (fmOf 𝓤 H (W .laws) 𝓣) (Enter 𝓤 H A at-mem run) known-enter (to-enter αm δm (length marks) marks m) (and-then ! (load ! (from ! (stop !)) (look ! 76 refl)) (and-then ! (load ! (from ! (stop !)) (look ! 74 refl)) (and-then ! (load ! (from ! (stop !)) (look ! 72 refl)) (and-then ! (load ! (from ! (stop !)) (look ! 70 refl)) (and-then ! (load ! (from ! (stop !)) (look ! 68 refl)) (and-then ! (load ! (from ! (stop !)) (look ! 66 refl)) (and-then ! (load ! (from ! (stop !)) (look ! 64 refl)) (and-then ! (load ! (from ! (stop !)) (look ! 42 refl)) (and-then ! (load ! (from ! (stop !)) (look ! 56 refl)) (no-more !)))))))))) (λ w.
         use1 W (later (some (λ (r : Pending). ((‵ (flft κ₀ q₀) ⊛ ‵ (flft (αm ∷ []) fullShare) ⊛ ‵ ftrue) ⊛ ‵ (P.the-row .own r (w ∷ []))) ⊛ raw (ensured 𝓤 H A enter.ended (enter.clauses 𝓤 H A at-mem run) (κ₀, (αm ∷ [], tt)) (x₁, (x₂, (x₃, (x₄, (x₅, (x₆, (x₇, (list bm om δm marks, (m, tt))))))))) tt r)))) (id⊢ 𝓤 _) $ await ! tt $ pick ! (λ r. split ! $
         move ! (1 ∷ []) $ use1 W (some (λ (ws : Unit {0} × (Unit {0} × (Unit {0} × (Unit {0} × (Unit {0} × (Unit {0} × (Unit {0} × (List ℕ × (Unit {0} × Unit {0}))))))))). ‵ (lasts enter.ended (κ₀, (αm ∷ [], tt)) (x₁, (x₂, (x₃, (x₄, (x₅, (x₆, (x₇, (list bm om δm marks, (m, tt))))))))) ws) ⊛ raw (fact 𝓤 (Enters (x₁ .now) (x₂ .now) (x₃ .now) (x₄ .now) (x₅ .now) (x₆ .now) (x₇ .now) marks m (ws .1 .1 .1 .1 .1 .1 .1 .0) r)))) (id⊢ 𝓤 _) $ pick ! (λ ws. split ! $ move ! (1 ∷ []) $ heard ! (Enters (x₁ .now) (x₂ .now) (x₃ .now) (x₄ .now) (x₅ .now) (x₆ .now) (x₇ .now) marks m (ws .1 .1 .1 .1 .1 .1 .1 .0) r) (λ d.
         fsplit ! $ drop ! $ fsplit ! $ drop ! $ fsplit ! $ drop ! $ fsplit ! $ drop ! $ fsplit ! $ drop ! $ fsplit ! $ drop ! $ fsplit ! $ drop ! $ fsplit ! $ fsplit ! $ move ! (1 ∷ []) $ feqL ! (λ len-m.
         move ! (2 ∷ []) $ split ! $ move ! (1 ∷ []) $ peeks ! P.the-row (Is P.the-row) (shows 𝓤 H A P.the-row) r (w ∷ []) (λ is.
-        land ! (from ! (stop !)) (init ! 49 refl (LL.lawful P.the-type P′.the-laws 𝓤 H A W .typed r _ is .0)) $
-        rewrite ! 49 (λ (u : Val). ‵ (fat fullShare P′.mir l₁₄ 0 u)) (pend-is r w is) refl $ move ! (1 ∷ []) $ split ! $ move ! (1 ∷ []) $ split ! $
+        land ! (from ! (stop !)) (init ! 53 refl (LL.lawful P.the-type P′.the-laws 𝓤 H A W .typed r _ is .0)) $
+        rewrite ! 53 (λ (u : Val). ‵ (fat fullShare P′.mir l₁₄ 0 u)) (pend-is r w is) refl $ move ! (1 ∷ []) $ split ! $ move ! (1 ∷ []) $ split ! $
         move ! (0 ∷ 7 ∷ 4 ∷ []) $ use3 W (later (‵ (owned-list bm om κm γm (length marks) (ws .1 .1 .1 .1 .1 .1 .1 .0)) ⊛ ‵ (flft κm qm))) (ends bm om κm qm γm 𝓤 H A W marks (length marks) refl αm δm (ws .1 .1 .1 .1 .1 .1 .1 .0) room-m len-m) $ await ! tt $ split ! $
-        -- [the marks; κm's token; …; κ₀'s token; what r owns; …; the columns; κt's token; κh's token; κo's token; the counters; …; …; …; the hosts; the order; _31; …]
-        forget ! 44 refl $ forget ! 42 refl $ keep ! (6 ∷ 3 ∷ 10 ∷ 7 ∷ 0 ∷ 1 ∷ 15 ∷ 9 ∷ 14 ∷ 8 ∷ 16 ∷ 17 ∷ 18 ∷ 19 ∷ 20 ∷ 21 ∷ 22 ∷ 23 ∷ 24 ∷ 25 ∷ 26 ∷ 27 ∷ 28 ∷ 29 ∷ 30 ∷ 31 ∷ 32 ∷ 33 ∷ 34 ∷ 35 ∷ 36 ∷ 37 ∷ 38 ∷ 39 ∷ 40 ∷ 41 ∷ 42 ∷ 43 ∷ 44 ∷ 45 ∷ 46 ∷ 47 ∷ 48 ∷ 49 ∷ 50 ∷ 51 ∷ 52 ∷ 53 ∷ 54 ∷ 55 ∷ 56 ∷ 57 ∷ 58 ∷ 59 ∷ 60 ∷ 61 ∷ 62 ∷ 63 ∷ 64 ∷ 65 ∷ 66 ∷ 67 ∷ 68 ∷ 69 ∷ 70 ∷ 71 ∷ 72 ∷ 73 ∷ 74 ∷ 75 ∷ 76 ∷ 77 ∷ 78 ∷ 79 ∷ []) $
-        goes-on (ws .1 .1 .1 .1 .1 .1 .1 .0) r d l₀ l₁ l₂ l₃ l₄ l₅ l₆ l₇ l₈ l₉ l₁₀ l₁₁ l₁₂ l₁₃ l₁₄ l₁₅ l₁₆ l₁₇ l₁₈ l₁₉ l₂₀ l₂₁ l₂₂ l₂₃ l₂₄ l₂₅ l₂₆ l₂₇ l₂₈ l₂₉ l₃₀ l₃₁ (pend-told r w is)))))))))))))))))))))))))))))))))))))))))
+        -- [the marks; κm's token; …; κ₀'s token; what r owns; …; the columns; κt's token; κh's token; κo's token; the counters; …; …; …; the hosts; the order; _33; …]
+        forget ! 48 refl $ forget ! 46 refl $ keep ! (6 ∷ 3 ∷ 10 ∷ 7 ∷ 0 ∷ 1 ∷ 15 ∷ 9 ∷ 14 ∷ 8 ∷ 16 ∷ 17 ∷ 18 ∷ 19 ∷ 20 ∷ 21 ∷ 22 ∷ 23 ∷ 24 ∷ 25 ∷ 26 ∷ 27 ∷ 28 ∷ 29 ∷ 30 ∷ 31 ∷ 32 ∷ 33 ∷ 34 ∷ 35 ∷ 36 ∷ 37 ∷ 38 ∷ 39 ∷ 40 ∷ 41 ∷ 42 ∷ 43 ∷ 44 ∷ 45 ∷ 46 ∷ 47 ∷ 48 ∷ 49 ∷ 50 ∷ 51 ∷ 52 ∷ 53 ∷ 54 ∷ 55 ∷ 56 ∷ 57 ∷ 58 ∷ 59 ∷ 60 ∷ 61 ∷ 62 ∷ 63 ∷ 64 ∷ 65 ∷ 66 ∷ 67 ∷ 68 ∷ 69 ∷ 70 ∷ 71 ∷ 72 ∷ 73 ∷ 74 ∷ 75 ∷ 76 ∷ 77 ∷ 78 ∷ 79 ∷ 80 ∷ 81 ∷ 82 ∷ 83 ∷ []) $
+        goes-on (ws .1 .1 .1 .1 .1 .1 .1 .0) r d l₀ l₁ l₂ l₃ l₄ l₅ l₆ l₇ l₈ l₉ l₁₀ l₁₁ l₁₂ l₁₃ l₁₄ l₁₅ l₁₆ l₁₇ l₁₈ l₁₉ l₂₀ l₂₁ l₂₂ l₂₃ l₂₄ l₂₅ l₂₆ l₂₇ l₂₈ l₂₉ l₃₀ l₃₁ l₃₂ l₃₃ (pend-told r w is)))))))))))))))))))))))))))))))))))))))))))
 
 module _ {M : Type 1} (𝓤 : URA M) (H : Heap 𝓤) (A : Atoms 𝓤) (W : Given 𝓤 H A) (at-mem : Memory → SProp 𝓤) (run : Routine → Fun 𝓤) (𝓣 : Tables 𝓤 H) (known-enter : Triple 𝓤 (𝓣 .C #actual-order·core·enter-module) (Enter 𝓤 H A at-mem run)) (known-next : Triple 𝓤 (𝓣 .C #actual-order·core·next-trigger) (Next-contract 𝓤 H A at-mem run)) (known-leave : Triple 𝓤 (𝓣 .C #actual-order·core·leave-module) (Leave 𝓤 H A at-mem run)) where
   abbrev left : Self-contract 𝓤 H A at-mem run .Ghost → ℕ

@@ -1,17 +1,20 @@
 -- `actual_order::core::enter_chunk` meets its contract: a chunk that was met is passed; any other is marked, and its rows are its loads.
 -- Assumes nothing.
-use mathlib.Core.Path.{refl, sym, ap, _∙_}
+use mathlib.Core.Path.{refl, sym, ap, subst, _∙_}
 use mathlib.Core.Bool.{Bool, cond}
-use mathlib.Core.List.{[]}
-use Prim.Native.Nat.{_+_}
+use mathlib.Core.List.{List, []}
+use Prim.Native.Nat.{ℕ, _+_}
 use native.Mathlib.Omega.{arith}
-use lib.ListN.{getD, set}
+use lib.ListN.{getD, set, length-set}
 use borrow.Author.Needs.{needs}
 use Rattle.walk.proofs.Visits.{fresh-zero, fresh-not}
 use Rattle.tables.specs.Lookups.{FirstRow}
+use Rattle.tables.specs.Accepted.{Below}
 use Rattle.tables.specs.Readings.{valuesOf}
+use Rattle.actual_order.specs.Cores.{loaded, pending, Passed}
 use Rattle.actual_order.proofs.Arranging.{values-rows}
 use Rattle.actual_order.proofs.Starting.{start-at}
+use Rattle.actual_order.proofs.Passing.{passed-none}
 use Rattle.actual_order.proofs.core.enter_chunk.Statement.{statement}
 use Rattle.actual_order.proofs.core.enter_chunk.Tie as tie
 
@@ -34,7 +37,7 @@ slice-read-if1 c = search needs
 returns : tie.Need-returns
 returns c =
     let a = c .before .before .before .before .before .before .args in
-    record { entered = sym (fresh-not (a .marks .now) (a .c) (c .if1 .taken)); marked = refl; leads = refl; within = omega arith }
+    record { entered = sym (fresh-not (a .marks .now) (a .c) (c .if1 .taken)); marked = refl; leads = passed-none (a .marks .now) []; within = omega arith }
 
 mul-marks : tie.Need-mul-marks
 mul-marks c = search needs
@@ -64,23 +67,27 @@ cast-end : tie.Need-cast-end
 cast-end c = omega (arith, c .shared-slice-known5 .given (entry (c .before .before) .args .c + 1))
 
 next-load-requires : tie.Need-next-load-requires
-next-load-requires c κs = let e = entry (c .before .before) in omega (arith, next e .within, e .pre .0 .lengths)
+next-load-requires c κs =
+    let e = entry (c .before .before .before) in
+    let a = e .args in
+    (omega (arith, next e .within, e .pre .0 .lengths), subst (λ (n : ℕ). Below n (a .loads .now)) (sym (length-set (a .marks .now) (a .c) 1)) (e .pre .0 .inside))
 
 same-length : tie.Need-same-length
 same-length c = search needs
 
 returns-2 : tie.Need-returns-2
 returns-2 c =
-    let test = c .before .before .before in
+    let test = c .before .before .before .before in
     let e = entry test in
     let a = e .args in
     let r = c .next-load .ensures in
     record {
       entered = r .entered ∙ sym (fresh-zero (a .marks .now) (a .c) (e .pre .2) (test .if1 .left));
       marked = ap (λ (b : Bool). cond b (set (a .marks .now) (a .c) 1) (a .marks .now)) (sym (r .entered));
-      leads = r .rest
-          ∙ sym (values-rows (a .import-chunk .now) (a .loads .now) (a .c) (getD (a .starts .now) (a .c) 0) (getD (a .starts .now) (a .c + 1) 0) (first e) (next e))
-          ∙ ap (λ (b : Bool). cond b (valuesOf (a .import-chunk .now) (a .loads .now) (a .c)) []) (sym (r .entered));
+      leads = subst (λ (l : List ℕ). Passed (set (a .marks .now) (a .c) 1) l (pending (loaded (a .loads .now)) (c .next-load .result)))
+          (sym (values-rows (a .import-chunk .now) (a .loads .now) (a .c) (getD (a .starts .now) (a .c) 0) (getD (a .starts .now) (a .c + 1) 0) (first e) (next e))
+          ∙ ap (λ (b : Bool). cond b (valuesOf (a .import-chunk .now) (a .loads .now) (a .c)) []) (sym (r .entered)))
+          (r .rest);
       within = omega (arith, r .end, next e .within, e .pre .0 .lengths);
     }
 

@@ -3,17 +3,19 @@
 -- Assumes nothing.
 use mathlib.Core.Path.{refl, sym, ap, subst, _∙_}
 use mathlib.Core.Bool.{Bool, false, cond}
-use mathlib.Core.List.{[]}
+use mathlib.Core.List.{List, []}
 use Prim.Native.Nat.{ℕ, _+_, zero-le}
 use native.Mathlib.Omega.{arith}
-use lib.ListN.{getD, set}
+use lib.ListN.{getD, set, length-set}
 use borrow.Author.Needs.{needs}
 use Rattle.lists.specs.Words.{isZero}
 use Rattle.walk.proofs.Visits.{fresh-zero, fresh-not}
 use Rattle.tables.specs.Lookups.{FirstRow}
 use Rattle.tables.specs.Accepted.{BelowOrMissing}
 use Rattle.actual_order.specs.Actual.{triggered}
+use Rattle.actual_order.specs.Cores.{rowTriggers, pending, Passed}
 use Rattle.actual_order.proofs.Starting.{start-at}
+use Rattle.actual_order.proofs.Passing.{passed-none}
 use Rattle.actual_order.proofs.Triggers.{triggered-rows}
 use Rattle.actual_order.proofs.Filling.{runs-yes, runs-external, runs-excluded}
 use Rattle.actual_order.proofs.core.enter_module.Statement.{statement}
@@ -47,7 +49,7 @@ returns : tie.Need-returns
 returns c =
     let e = entry (c .before .before) in
     let a = e .args in
-    record { entered = ap (enters e) (sym (runs-external (a .normal .now) (a .included .now) (a .m) (c .if1 .taken))); marked = refl; leads = refl; within = zero-le }
+    record { entered = ap (enters e) (sym (runs-external (a .normal .now) (a .included .now) (a .m) (c .if1 .taken))); marked = refl; leads = passed-none (a .marks .now) []; within = zero-le }
 
 mul-if2 : tie.Need-mul-if2
 mul-if2 c = search needs
@@ -59,7 +61,7 @@ returns-2 : tie.Need-returns-2
 returns-2 c =
     let e = entry (c .before .before .before .before) in
     let a = e .args in
-    record { entered = ap (enters e) (sym (runs-excluded (a .normal .now) (a .included .now) (a .m) (c .before .before .if1 .left) (c .if2 .taken))); marked = refl; leads = refl; within = zero-le }
+    record { entered = ap (enters e) (sym (runs-excluded (a .normal .now) (a .included .now) (a .m) (c .before .before .if1 .left) (c .if2 .taken))); marked = refl; leads = passed-none (a .marks .now) []; within = zero-le }
 
 mul-if3 : tie.Need-mul-if3
 mul-if3 c = search needs
@@ -74,7 +76,7 @@ returns-3 c =
     record {
       entered = sym (ap (enters e) (runs-yes (a .normal .now) (a .included .now) (a .m) (c .before .before .before .before .if1 .left) (c .before .before .if2 .left)) ∙ fresh-not (a .marks .now) (a .m) (c .if3 .taken));
       marked = refl;
-      leads = refl;
+      leads = passed-none (a .marks .now) [];
       within = zero-le;
     }
 
@@ -107,12 +109,13 @@ cast-end c = omega (arith, c .shared-slice-known11 .given (begun (c .before .bef
 
 next-trigger-requires : tie.Need-next-trigger-requires
 next-trigger-requires c κs =
-    let e = begun (c .before .before) in
+    let e = begun (c .before .before .before) in
     let p = e .pre .0 in
     let w = next e .within in (
       omega (arith, p .kinds, w),
       omega (arith, p .targets, w),
       subst (λ (n : ℕ). BelowOrMissing n (e .args .record-target .now)) (sym (p .wraps)) (p .inside),
+      length-set (e .args .marks .now) (e .args .m) 1 ∙ sym (p .wraps),
     )
 
 same-length : tie.Need-same-length
@@ -120,16 +123,17 @@ same-length c = search needs
 
 returns-4 : tie.Need-returns-4
 returns-4 c =
-    let tests = c .before .before .before in
+    let tests = c .before .before .before .before in
     let e = begun tests in
     let a = e .args in
     let r = c .next-trigger .ensures in
     record {
       entered = r .entered ∙ sym (ap (enters e) (runs-yes (a .normal .now) (a .included .now) (a .m) (tests .before .before .before .before .if1 .left) (tests .before .before .if2 .left)) ∙ fresh-zero (a .marks .now) (a .m) (e .pre .2) (tests .if3 .left));
       marked = ap (λ (b : Bool). cond b (set (a .marks .now) (a .m) 1) (a .marks .now)) (sym (r .entered));
-      leads = r .rest
-          ∙ sym (triggered-rows (a .normal .now) (a .wrap .now) (a .record-module .now) (a .record-kind .now) (a .record-target .now) (a .m) (getD (a .starts .now) (a .m) 0) (getD (a .starts .now) (a .m + 1) 0) (first e) (next e))
-          ∙ ap (λ (b : Bool). cond b (triggered (a .normal .now) (a .wrap .now) (a .record-module .now) (a .record-kind .now) (a .record-target .now) (a .m)) []) (sym (r .entered));
+      leads = subst (λ (l : List ℕ). Passed (set (a .marks .now) (a .m) 1) l (pending (rowTriggers (a .normal .now) (a .wrap .now) (a .record-kind .now) (a .record-target .now)) (c .next-trigger .result)))
+          (sym (triggered-rows (a .normal .now) (a .wrap .now) (a .record-module .now) (a .record-kind .now) (a .record-target .now) (a .m) (getD (a .starts .now) (a .m) 0) (getD (a .starts .now) (a .m + 1) 0) (first e) (next e))
+          ∙ ap (λ (b : Bool). cond b (triggered (a .normal .now) (a .wrap .now) (a .record-module .now) (a .record-kind .now) (a .record-target .now) (a .m)) []) (sym (r .entered)))
+          (r .rest);
       within = omega (arith, r .end, next e .within);
     }
 
