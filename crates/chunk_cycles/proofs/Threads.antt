@@ -16,7 +16,7 @@ use Rattle.lists.proofs.Laws.{countFrom-append, mem-countFrom, keep-append, kee
 use Rattle.tables.specs.Refusal.{chunkLimit, rowLimit}
 use Rattle.tables.specs.Readings.{rowsOf, valuesOf}
 use Rattle.chunk_cycles.specs.Graph.{Graph}
-use Rattle.chunk_cycles.specs.Threads.{NextRow, Threadable, Threads, Threaded}
+use Rattle.chunk_cycles.specs.Threads.{NextRow, Threadable, Threads, Linked, Threaded}
 
 -- making threads
 
@@ -75,6 +75,9 @@ threadable g heads nexts h k = record { rows = g .rows; room = le-trans (g .rows
 
 pub threaded : {from to : List ℕ} {n : ℕ} → Graph from to n → (heads nexts : List ℕ) → chunkLimit ≤ length heads → Threads from heads nexts → Threaded from to heads nexts n
 threaded g heads nexts h t = record { graph = g; threads = t; heads-room = le-trans (g .few) h }
+
+pub threaded-linked : {from to heads nexts : List ℕ} {n : ℕ} → Threaded from to heads nexts n → Linked from to heads nexts n
+threaded-linked t = record { lengths = t .graph .lengths; tos = t .graph .tos; threads = t .threads; heads-room = t .heads-room }
 
 -- going through the rows of m
 

@@ -26,6 +26,13 @@ pub record Threads (from heads nexts : List ℕ) : Type 0 where
   pub first : (m : ℕ) → m < length heads → NextRow from m 0 (getD heads m 0)
   pub next : (row : ℕ) → row < length from → NextRow from (getD from row 0) (row + 1) (getD nexts row 0)
 
+-- rows to places below n, with the threads of their first column
+pub record Linked (from to heads nexts : List ℕ) (n : ℕ) : Type 0 where
+  pub lengths : length to ≡ length from
+  pub tos : (i : ℕ) → i < length from → getD to i 0 < n
+  pub threads : Threads from heads nexts
+  pub heads-room : n ≤ length heads
+
 -- a graph over n chunks with the threads of its first column
 pub record Threaded (from to heads nexts : List ℕ) (n : ℕ) : Type 0 where
   pub graph : Graph from to n

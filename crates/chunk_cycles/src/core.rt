@@ -7,12 +7,12 @@ ghost use Rattle.tables.specs.Readings.{firstOf, valuesOf};
 ghost use Rattle.tables.specs.Refusal.{chunkLimit};
 ghost use Rattle.chunk_cycles.specs.Cycles.{labels as labelsOver, reachesCycle};
 ghost use Rattle.chunk_cycles.specs.Graph.{Graph};
-ghost use Rattle.chunk_cycles.specs.Threads.{Threadable, Threads, Threaded};
+ghost use Rattle.chunk_cycles.specs.Threads.{Threadable, Threads, Linked, Threaded};
 ghost use Rattle.chunk_cycles.specs.Steps.{Marked, reachMarks, Numbered, inBoth, relabelled, componentLabelled, labelled, labelledAt, ChunksLabelled};
 use tables::ModuleIdx;
 
-// Threads the rows of each chunk: `heads` gets its first row, `nexts` the next row of the same chunk, or the end.
-fn thread(from: &[u32], heads: &mut [u32], nexts: &mut [u32])
+// Threads the rows of each place: `heads` gets its first row, `nexts` the next row of the same place, or the end.
+pub fn thread(from: &[u32], heads: &mut [u32], nexts: &mut [u32])
     requires { ⌜ Threadable (now from) (now heads) (now nexts) ⌝ }
     ensures { λ _. ⌜ Threads (now (from .entry)) (now (heads .exit)) (now (nexts .exit)) ⌝ }
 {
@@ -27,8 +27,8 @@ fn thread(from: &[u32], heads: &mut [u32], nexts: &mut [u32])
 }
 
 // Marks m and all that it leads to.
-fn visit(from: &[u32], to: &[u32], heads: &[u32], nexts: &[u32], m: u32, marks: &mut [u32])
-    requires rows { ⌜ Threaded (now from) (now to) (now heads) (now nexts) (length (now marks)) ⌝ }
+pub fn visit(from: &[u32], to: &[u32], heads: &[u32], nexts: &[u32], m: u32, marks: &mut [u32])
+    requires rows { ⌜ Linked (now from) (now to) (now heads) (now nexts) (length (now marks)) ⌝ }
     requires chunk { ⌜ m < length (now marks) ⌝ }
     ensures { λ _. ⌜ Marked (valuesOf (now (from .entry)) (now (to .entry))) (now (marks .entry)) m (now (marks .exit)) ⌝ }
 {

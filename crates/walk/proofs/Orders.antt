@@ -14,9 +14,9 @@ use borrow.Author.Tests.{lt-ltb, ltb-true}
 use Rattle.lists.specs.Words.{isZero, zeros, keep, elem, bit, marksOf, Distinct}
 use Rattle.lists.proofs.Laws.{both, and-parts, and-join, mem-keep, keep-mem, keep-all, distinct-append, mem-elem, elem-mem, length-marksOf, marksOf-at}
 use Rattle.walk.specs.Close.{Bits}
-use Rattle.walk.specs.Walk.{St, fresh, enter, leave, visit, walk, snoc, unmet, everywhere, postOrder}
+use Rattle.walk.specs.Walk.{St, fresh, enter, leave, visit, walk, Visits, snoc, unmet, everywhere, postOrder}
 use Rattle.walk.specs.Reach.{Reach, here, step, ReachAny, passing, through}
-use Rattle.walk.proofs.Visits.{Grown, grown-refl, grown-trans, stays, set-self, set-only, set-back, set-zeros, set-bits, none-fresh, fresh-in, fresh-zero, fresh-not, zeros-le, zeros-replicate, unmet-fresh, unmet-in, bits-replicate, visit-old, visit-new, enters-true, visit-met, visit-grown, visits-grown, walk-grown}
+use Rattle.walk.proofs.Visits.{Grown, grown-refl, grown-trans, stays, set-self, set-only, set-back, set-zeros, set-bits, none-fresh, fresh-in, fresh-zero, fresh-not, zeros-le, zeros-replicate, unmet-fresh, unmet-in, bits-replicate, visit-old, visit-new, enters-true, visit-met, visit-grown, visits-grown, walk-grown, visits-fold}
 
 -- paths
 
@@ -202,6 +202,37 @@ module _ (succ : ℕ → List ℕ) (gate : ℕ → Bool) where
         ))
         (λ w. absurd (true≢false (sym f ∙ sym (ap (λ (t : St (List ℕ)). fresh t x) (visit-old succ gate snoc (suc k) s m w)) ∙ e)))
         (both (cond (gate m) (fresh s m) false))
+
+-- visits with any action, from any marks
+
+module _ (succ : ℕ → List ℕ) (gate : ℕ → Bool) {A : Type 0} (act : A → ℕ → A) {s t : St A} {xs : List ℕ} (v : Visits succ gate act s xs t) where
+  -- the same visits, listing
+  abbrev plain : St (List ℕ)
+  plain = record { marks = s .marks; made = [] }
+
+  abbrev listing : St (List ℕ)
+  listing = foldl (visit succ gate snoc (zeros (s .marks))) plain xs
+
+  same-marks : listing .marks ≡ t .marks
+  same-marks = ap (λ (u : St A). u .marks) (sym (visits-fold succ gate act (s .made) (zeros (s .marks)) plain xs) ∙ v .same (zeros (s .marks)) (omega arith))
+
+  met : (x : ℕ) → fresh t x ≡ false → fresh listing x ≡ false
+  met x e = ap (λ (marks : List ℕ). isZero (getD marks x 1)) same-marks ∙ e
+
+  -- a place that is visited is met
+  pub visited-met : (y : ℕ) → List·Memᴰ y xs → gate y ≡ true → fresh t y ≡ false
+  visited-met y h g = sym (ap (λ (marks : List ℕ). isZero (getD marks y 1)) same-marks) ∙ visits-meet succ gate (zeros (s .marks)) plain xs (omega arith) y h g
+
+  -- with what is newly met its successors are met
+  pub visited-followed : (x : ℕ) → fresh s x ≡ true → fresh t x ≡ false → (y : ℕ) → List·Memᴰ y (succ x) → gate y ≡ true → fresh t y ≡ false
+  unfolding Followed
+  visited-followed x f e y h g =
+      sym (ap (λ (marks : List ℕ). isZero (getD marks y 1)) same-marks)
+      ∙ fold-followed succ gate (zeros (s .marks)) (visit-followed succ gate (zeros (s .marks))) plain xs (omega arith) x f (met x e) y h g
+
+  -- what is newly met is led to
+  pub visited-reach : (x : ℕ) → fresh s x ≡ true → fresh t x ≡ false → ReachAny (through succ gate (length (s .marks))) (keep (passing gate (length (s .marks))) xs) x
+  visited-reach x f e = fold-reach succ gate (length (s .marks)) (zeros (s .marks)) (visit-reach succ gate (length (s .marks)) (zeros (s .marks))) plain xs x refl f (met x e)
 
 -- the post-order
 

@@ -10,7 +10,7 @@ use borrow.Author.Needs.{needs}
 use Rattle.lists.specs.Words.{isZero, zeros}
 use Rattle.walk.proofs.Visits.{set-zeros, fresh-zero, fresh-not}
 use Rattle.tables.specs.Readings.{valuesOf}
-use Rattle.chunk_cycles.specs.Threads.{Threaded}
+use Rattle.chunk_cycles.specs.Threads.{Linked}
 use Rattle.chunk_cycles.proofs.Marks.{marked-old, Visiting, visiting-start, visiting-next, visiting-grown, visiting-end}
 use borrow.Fn.Kinds.{In}
 use borrow.Fn.PlainCycle.{Measures, is, falls, and}
@@ -113,7 +113,7 @@ visit-mul-visit : (t : ℕ) → visit-lts.Need-mul-visit (cl t) (visit-at t) vis
 visit-mul-visit t c = search needs
 
 visit-shared-slice-read-visit : (t : ℕ) → visit-lts.Need-shared-slice-read-visit (cl t) (visit-at t) visit.Post visit-Inv-loop visit-μ-loop
-visit-shared-slice-read-visit t c = omega (arith, c .before .loop-test .taken, from-loop t (c .before .before) .pre .1 .0 .graph .lengths)
+visit-shared-slice-read-visit t c = omega (arith, c .before .loop-test .taken, from-loop t (c .before .before) .pre .1 .0 .lengths)
 
 visit-visit-requires : (t : ℕ) → visit-lts.Need-visit-requires (cl t) (visit-at t) visit.Post visit-Inv-loop visit-μ-loop
 visit-visit-requires t c κs =
@@ -122,8 +122,8 @@ visit-visit-requires t c κs =
     let e = from-loop t l in (
       under (fewer t l) (one-less t l) (e .pre .0),
       (
-        subst (Threaded (e .args .from .now) (e .args .to .now) (e .args .heads .now) (e .args .nexts .now)) (sym (marks-len t l)) (e .pre .1 .0),
-        subst (λ (n : ℕ). getD (e .args .to .now) (l .loop .row) 0 < n) (sym (marks-len t l)) (e .pre .1 .0 .graph .tos (l .loop .row) (w .loop-test .taken)),
+        subst (Linked (e .args .from .now) (e .args .to .now) (e .args .heads .now) (e .args .nexts .now)) (sym (marks-len t l)) (e .pre .1 .0),
+        subst (λ (n : ℕ). getD (e .args .to .now) (l .loop .row) 0 < n) (sym (marks-len t l)) (e .pre .1 .0 .tos (l .loop .row) (w .loop-test .taken)),
       ),
     )
 

@@ -7,6 +7,7 @@ use lib.ListN.{length}
 use Rattle.tables.specs.Readings.{valuesOf}
 use Rattle.chunk_cycles.specs.Threads.{Threaded}
 use Rattle.chunk_cycles.specs.Steps.{Marked}
+use Rattle.chunk_cycles.proofs.Threads.{threaded-linked}
 use Rattle.chunk_cycles.proofs.Marks.{marked-reached}
 use borrow.Author.Needs.{needs}
 use Rattle.chunk_cycles.proofs.core.reach.Statement.{statement}
@@ -19,7 +20,7 @@ visit-requires : tie.Need-visit-requires
 visit-requires c κs =
     let f = c .before .before .before in
     let e = f .before .before .before .before .before .before .before in (
-      subst (Threaded (e .args .from .now) (e .args .to .now) (e .args .heads .now) (e .args .nexts .now)) (sym (f .fill .kept .0)) (e .pre .0),
+      threaded-linked (subst (Threaded (e .args .from .now) (e .args .to .now) (e .args .heads .now) (e .args .nexts .now)) (sym (f .fill .kept .0)) (e .pre .0)),
       subst (λ (n : ℕ). e .args .c < n) (sym (f .fill .kept .0)) (e .pre .1),
     )
 
