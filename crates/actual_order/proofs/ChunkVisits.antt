@@ -11,16 +11,16 @@ use Rattle.walk.specs.Walk.{Placed, place, everywhere, Visits}
 use Rattle.walk.proofs.Placing.{place-count, place-length}
 use Rattle.tables.specs.Readings.{valuesOf}
 use Rattle.tables.specs.Refusal.{moduleLimit}
-use Rattle.actual_order.specs.Cores.{Loads, loaded, placing, visiting, RoomFor, pending, Next, Entered}
+use Rattle.actual_order.specs.Cores.{Loads, Starts, loaded, placing, visiting, RoomFor, pending, Next, Entered}
 use Rattle.actual_order.specs.declared.core.ActualOrderTraversal.{ActualOrderTraversal}
 use Rattle.actual_order.specs.declared.core.Pending.{Pending}
 use Rattle.actual_order.proofs.Arranging.{below-mem, values-below}
 use Rattle.actual_order.proofs.Lending.{Lent, lent-start, lent-marks, lent-keeps, lent-within, lent-room, lent-one, lent-falls, lent-leads, lent-next, lent-nearer, lent-end}
 
-module _ (importChunk loads : List ℕ) where
+module _ (importChunk starts loads : List ℕ) where
   -- what the functions ask and say
   abbrev pub Needs : List ℕ → List ℕ → ℕ → ActualOrderTraversal → Type 0
-  Needs marks visited c h = Loads importChunk loads (length marks) × (c < length marks) × RoomFor h marks visited
+  Needs marks visited c h = Loads importChunk loads (length marks) × Starts importChunk starts (length marks) × (c < length marks) × RoomFor h marks visited
 
   abbrev pub Says : List ℕ → List ℕ → ℕ → ActualOrderTraversal → List ℕ → List ℕ → ActualOrderTraversal → Type 0
   Says marks visited c h marks′ visited′ r =
@@ -40,7 +40,7 @@ module _ (importChunk loads : List ℕ) where
     Turn = Lent (valuesOf importChunk loads) everywhere (place everywhere) placing (λ (p : Placed). p .count) (λ x n. refl) (place-count everywhere) (loaded loads) (length loads) marks visited h c marked first e
 
     abbrev pub start : Turn
-    start = lent-start (valuesOf importChunk loads) everywhere (place everywhere) placing (λ (p : Placed). p .count) (λ x n. refl) (place-count everywhere) (loaded loads) (length loads) marks visited h c marked first e (within .2 .equal)
+    start = lent-start (valuesOf importChunk loads) everywhere (place everywhere) placing (λ (p : Placed). p .count) (λ x n. refl) (place-count everywhere) (loaded loads) (length loads) marks visited h c marked first e (within .3 .equal)
 
     module _ (t : Turn) where
       pub same-marks : length (t .ms) ≡ length marks
@@ -58,9 +58,10 @@ module _ (importChunk loads : List ℕ) where
 
         pub call-fits : Needs (t .ms) (t .xs) (t .p .place) (t .t)
         call-fits =
-            let r = within .2 in
+            let r = within .3 in
             let room = lent-room (valuesOf importChunk loads) everywhere (place everywhere) placing (λ (p : Placed). p .count) (λ x n. refl) (place-count everywhere) (loaded loads) (length loads) marks visited h c marked first e t in (
               subst (Loads importChunk loads) (sym same-marks) (within .0),
+              subst (Starts importChunk starts) (sym same-marks) (within .1),
               subst (λ (n : ℕ). t .p .place < n) (sym same-marks) (below-mem (valuesOf importChunk loads c) (values-below (length marks) importChunk loads c (within .0 .lengths) (within .0 .inside)) (lent-leads (valuesOf importChunk loads) everywhere (place everywhere) placing (λ (p : Placed). p .count) (λ x n. refl) (place-count everywhere) (loaded loads) (length loads) marks visited h c marked first e t more)),
               record { equal = t .equal; room = omega (arith, room, r .room, same-visited); limit = omega (arith, room, r .limit) },
             )
@@ -72,7 +73,7 @@ module _ (importChunk loads : List ℕ) where
         nearer r n = lent-nearer (valuesOf importChunk loads) everywhere (place everywhere) placing (λ (p : Placed). p .count) (λ x n. refl) (place-count everywhere) (loaded loads) (length loads) marks visited h c marked first e t more r n
 
       pub leave-fits : MayLeave (t .xs) (t .p .entered) (t .t)
-      leave-fits = (t .equal, λ q. let one = lent-one (valuesOf importChunk loads) everywhere (place everywhere) placing (λ (p : Placed). p .count) (λ x n. refl) (place-count everywhere) (loaded loads) (length loads) marks visited h c marked first e t q in let r = within .2 in (omega (arith, one, r .room, same-visited), omega (arith, one, r .limit)))
+      leave-fits = (t .equal, λ q. let one = lent-one (valuesOf importChunk loads) everywhere (place everywhere) placing (λ (p : Placed). p .count) (λ x n. refl) (place-count everywhere) (loaded loads) (length loads) marks visited h c marked first e t q in let r = within .3 in (omega (arith, one, r .room, same-visited), omega (arith, one, r .limit)))
 
       pub ended : (r : ActualOrderTraversal) (visited′ : List ℕ) → t .p .more ≡ false → Leaves (t .xs) c (t .p .entered) (t .t) visited′ r → Says marks visited c h (t .ms) visited′ r
       ended r visited′ none d =

@@ -1,9 +1,9 @@
 -- The chunks that a visit lists, the hosts that they give, and slices that start as zeros.
 -- Assumes nothing.
-use mathlib.Core.Path.{_≡_, refl, sym, ap, _∙_}
+use mathlib.Core.Path.{_≡_, refl, sym, ap, subst, _∙_}
 use mathlib.Core.Bool.{cond}
 use mathlib.Core.List.{List, [], _∷_, _++_, append-nil}
-use Prim.Native.Nat.{ℕ, zero, suc, _≤_}
+use Prim.Native.Nat.{ℕ, zero, suc, _≤_, _<_}
 use native.Mathlib.Omega.{arith}
 use lib.ListN.{length, getD, take, drop, replicate, length-replicate, length-append}
 use lib.Seq.{take-at}
@@ -12,10 +12,13 @@ use Rattle.lists.specs.Words.{keep}
 use Rattle.lists.proofs.Laws.{keep-all}
 use Rattle.walk.specs.Walk.{St, Placed, place, everywhere, postOrder, Visits}
 use Rattle.walk.proofs.Going.{visited-walk}
+use Rattle.walk.proofs.Orders.{order-met}
 use Rattle.walk.proofs.Placing.{placed-order}
+use Rattle.tables.specs.Lookups.{FirstRows}
 use Rattle.tables.specs.Readings.{wrapped}
+use Rattle.tables.proofs.Accepted.{getD-mem}
 use Rattle.actual_order.specs.Actual.{chunkOrder}
-use Rattle.actual_order.specs.Cores.{visiting, Written}
+use Rattle.actual_order.specs.Cores.{visiting, Written, Starts}
 
 -- a front part of zeros
 pub zeroed : (n k : ℕ) → n ≤ k → take n (replicate {A = ℕ} k 0) ≡ replicate n 0
@@ -25,6 +28,24 @@ zeroed (suc n) (suc k) l = ap (λ (x : List ℕ). 0 ∷ x) (zeroed n k (omega ar
 
 pub zeroed-length : (n k : ℕ) → n ≤ k → n ≡ length (take n (replicate {A = ℕ} k 0))
 zeroed-length n k l = sym (ap length (zeroed n k l) ∙ length-replicate n 0)
+
+-- such a part that was lent came back as a list: it is still the front part
+module _ (n k : ℕ) (l : n ≤ k) (part : List ℕ) (e : length part ≡ length (take n (replicate {A = ℕ} k 0))) where
+  pub part-length : length part ≡ n
+  part-length = e ∙ sym (zeroed-length n k l)
+
+  pub part-front : take n (part ++ drop n (replicate k 0)) ≡ part
+  part-front = take-at part (drop n (replicate k 0)) n part-length
+
+  pub part-size : n ≡ length (take n (part ++ drop n (replicate k 0)))
+  part-size = sym (ap length part-front ∙ part-length)
+
+  pub part-within : n ≤ length (part ++ drop n (replicate k 0))
+  part-within = omega (arith, length-append part (drop n (replicate k 0)), part-length)
+
+  -- the first rows that it has of a column
+  pub part-starts : (column : List ℕ) (m : ℕ) → FirstRows column part → m < n → Starts column (take n (part ++ drop n (replicate k 0))) m
+  part-starts column m rows h = record { rows = subst (FirstRows column) (sym part-front) rows; room = omega (arith, part-size) }
 
 -- from nothing met, a chunk's visit lists the chunk order
 pub chunks-written : (loads : ℕ → List ℕ) (n c : ℕ) (visited marks′ visited′ : List ℕ) (r : ℕ) → n ≤ length visited
@@ -38,6 +59,11 @@ chunks-written loads n c visited marks′ visited′ r l v =
     ∙ placed-order everywhere loads everywhere n (c ∷ []) visited l
     ∙ ap (λ (k : List ℕ). record { order = k ++ drop (length k) visited; count = length k }) all in
     record { count = ap (λ (p : Placed). p .count) made; places = ap (λ (p : Placed). p .order) made }
+
+-- which are chunks
+pub chunks-inside : (loads : ℕ → List ℕ) (n c i : ℕ) → i < length (chunkOrder loads n c) → getD (chunkOrder loads n c) i 0 < n
+unfolding chunkOrder
+chunks-inside loads n c i h = order-met loads everywhere n (c ∷ []) _ (getD-mem (postOrder loads everywhere n (c ∷ [])) i h) .0
 
 -- "last, a root with wrap not 0"
 

@@ -14,7 +14,7 @@ use borrow.Author.Tests.{eq-eqb, ne-eqb}
 use Rattle.lists.specs.Words.{keep, zeros}
 use Rattle.lists.proofs.Laws.{both, and-join, keep-append}
 use Rattle.walk.specs.Walk.{St, visit, Visits}
-use Rattle.walk.proofs.Visits.{visit-fold, visit-fuel, zeros-replicate}
+use Rattle.walk.proofs.Visits.{fresh-not, visit-fold, visit-fuel, visit-met, zeros-replicate}
 use Rattle.walk.proofs.Orders.{visit-run}
 use Rattle.walk.proofs.Going.{visited-grown, visited-keeps, visited-room}
 use Rattle.tables.specs.Project.{missing}
@@ -151,6 +151,11 @@ module _ (normal included wrap recordModule recordKind recordTarget : List ℕ) 
       → Visits (triggered normal wrap recordModule recordKind recordTarget) (executes normal included) (fills host) s (host ∷ []) t → runs s host ≡ t
   unfolding hosted
   host-visited s t host z v = v .same (length normal) z
+
+  -- a host that was met runs nothing
+  pub host-met : (s : St Filling) (host : ℕ) → (getD (s .marks) host 0 ≡ 0 → ⊥) → runs s host ≡ s
+  unfolding hosted
+  host-met s host n = visit-met (triggered normal wrap recordModule recordKind recordTarget) (executes normal included) (fills host) (length normal) s host (fresh-not (s .marks) host n)
 
   host-kept : (s : St Filling) (host : ℕ) → zeros (s .marks) ≤ length normal → Kept s (runs s host)
   unfolding hosted

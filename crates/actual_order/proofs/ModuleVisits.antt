@@ -11,7 +11,7 @@ use Rattle.walk.specs.Walk.{Visits}
 use Rattle.tables.specs.Accepted.{BelowOrMissing}
 use Rattle.tables.specs.Refusal.{moduleLimit}
 use Rattle.actual_order.specs.Actual.{executes, triggered}
-use Rattle.actual_order.specs.Cores.{Fit, rowTriggers, Filling, filling, fills, executing, RoomFor, pending, Next, Entered}
+use Rattle.actual_order.specs.Cores.{Fit, Starts, rowTriggers, Filling, filling, fills, executing, RoomFor, pending, Next, Entered}
 use Rattle.actual_order.specs.declared.core.ActualOrderTraversal.{ActualOrderTraversal}
 use Rattle.actual_order.specs.declared.core.Pending.{Pending}
 use Rattle.actual_order.proofs.Triggers.{triggered-inside}
@@ -22,10 +22,10 @@ use Rattle.actual_order.proofs.Lending.{Lent, lent-start, lent-marks, l
 abbrev made : List ℕ × List ℕ → ℕ → Filling
 made x n = filling (x .0) (x .1) n
 
-module _ (normal included wrap recordModule recordKind recordTarget : List ℕ) where
+module _ (normal included wrap recordModule recordKind recordTarget starts : List ℕ) where
   -- what the functions ask and say
   abbrev pub Needs : List ℕ → List ℕ → List ℕ → ℕ → ActualOrderTraversal → Type 0
-  Needs marks order hosts m h = Fit normal included wrap recordModule recordKind recordTarget (length marks) × (length hosts ≡ length marks) × (m < length marks) × RoomFor h marks order
+  Needs marks order hosts m h = Fit normal included wrap recordModule recordKind recordTarget (length marks) × Starts recordModule starts (length marks) × (length hosts ≡ length marks) × (m < length marks) × RoomFor h marks order
 
   abbrev pub Says : List ℕ → List ℕ → List ℕ → ℕ → ℕ → ActualOrderTraversal → List ℕ → List ℕ → List ℕ → ActualOrderTraversal → Type 0
   Says marks order hosts m host h marks′ order′ hosts′ r =
@@ -48,7 +48,7 @@ module _ (normal included wrap recordModule recordKind recordTarget : List ℕ) 
     Turn = Lent (triggered normal wrap recordModule recordKind recordTarget) (executes normal included) (fills host) made (λ (f : Filling). f .count) (λ x n. refl) (fills-count host) (rowTriggers normal wrap recordKind recordTarget) (length recordModule) marks (order, hosts) h m marked first e
 
     abbrev pub start : Turn
-    start = lent-start (triggered normal wrap recordModule recordKind recordTarget) (executes normal included) (fills host) made (λ (f : Filling). f .count) (λ x n. refl) (fills-count host) (rowTriggers normal wrap recordKind recordTarget) (length recordModule) marks (order, hosts) h m marked first e (within .3 .equal)
+    start = lent-start (triggered normal wrap recordModule recordKind recordTarget) (executes normal included) (fills host) made (λ (f : Filling). f .count) (λ x n. refl) (fills-count host) (rowTriggers normal wrap recordKind recordTarget) (length recordModule) marks (order, hosts) h m marked first e (within .4 .equal)
 
     module _ (t : Turn) where
       pub same-marks : length (t .ms) ≡ length marks
@@ -73,10 +73,11 @@ module _ (normal included wrap recordModule recordKind recordTarget : List ℕ) 
         pub call-fits : Needs (t .ms) (t .xs .0) (t .xs .1) (t .p .place) (t .t)
         call-fits =
             let f = within .0 in
-            let r = within .3 in
+            let r = within .4 in
             let room = lent-room (triggered normal wrap recordModule recordKind recordTarget) (executes normal included) (fills host) made (λ (f : Filling). f .count) (λ x n. refl) (fills-count host) (rowTriggers normal wrap recordKind recordTarget) (length recordModule) marks (order, hosts) h m marked first e t in (
               subst (Fit normal included wrap recordModule recordKind recordTarget) (sym same-marks) f,
-              same-hosts ∙ within .1 ∙ sym same-marks,
+              subst (Starts recordModule starts) (sym same-marks) (within .1),
+              same-hosts ∙ within .2 ∙ sym same-marks,
               subst (λ (n : ℕ). t .p .place < n) (sym same-marks) (triggered-inside (length marks) normal wrap recordModule recordKind recordTarget m (t .p .place) (f .targets) (f .inside) (lent-leads (triggered normal wrap recordModule recordKind recordTarget) (executes normal included) (fills host) made (λ (f : Filling). f .count) (λ x n. refl) (fills-count host) (rowTriggers normal wrap recordKind recordTarget) (length recordModule) marks (order, hosts) h m marked first e t more)),
               record { equal = t .equal; room = omega (arith, room, r .room, same-order); limit = omega (arith, room, r .limit) },
             )
@@ -90,8 +91,8 @@ module _ (normal included wrap recordModule recordKind recordTarget : List ℕ) 
       pub leave-fits : MayLeave (t .xs .0) (t .xs .1) m (t .p .entered) (t .t)
       leave-fits = (
         t .equal,
-        λ q. let one = lent-one (triggered normal wrap recordModule recordKind recordTarget) (executes normal included) (fills host) made (λ (f : Filling). f .count) (λ x n. refl) (fills-count host) (rowTriggers normal wrap recordKind recordTarget) (length recordModule) marks (order, hosts) h m marked first e t q in let r = within .3 in
-            (omega (arith, one, r .room, same-order), omega (arith, one, r .limit), omega (arith, same-hosts, within .1, within .2)),
+        λ q. let one = lent-one (triggered normal wrap recordModule recordKind recordTarget) (executes normal included) (fills host) made (λ (f : Filling). f .count) (λ x n. refl) (fills-count host) (rowTriggers normal wrap recordKind recordTarget) (length recordModule) marks (order, hosts) h m marked first e t q in let r = within .4 in
+            (omega (arith, one, r .room, same-order), omega (arith, one, r .limit), omega (arith, same-hosts, within .2, within .3)),
       )
 
       pub ended : (r : ActualOrderTraversal) (order′ hosts′ : List ℕ) → t .p .more ≡ false → Leaves (t .xs .0) (t .xs .1) m host (t .p .entered) (t .t) order′ hosts′ r → Says marks order hosts m host h (t .ms) order′ hosts′ r

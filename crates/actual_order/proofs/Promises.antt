@@ -34,6 +34,7 @@ module _ (p : Project) (a : Accepted p) where
     lengths = a .sizes .imports;
     chunks = a .values .importChunk;
     inside = a .values .imports;
+    rows = a .sizes .importChunk;
     once = λ i j l h u v. a .agrees .imports i j l h (omega (arith, a .sizes .imports)) u v;
   }
 
@@ -46,10 +47,11 @@ module _ (p : Project) (a : Accepted p) where
     targets = a .sizes .recordTarget;
     inside = a .values .recordTarget;
     rising = a .rises .recordModule;
+    rows = a .sizes .recordModule;
   }
 
   pub members-fit : Members (p .memberChunk) (p .member) (modules p)
-  members-fit = record { rising = a .rises .memberChunk; lengths = a .sizes .member; inside = a .values .member }
+  members-fit = record { rising = a .rises .memberChunk; lengths = a .sizes .member; inside = a .values .member; rows = a .sizes .memberChunk }
 
 -- the run of a root from an entry chunk
 abbrev pub run-from : Project → ℕ → ℕ → Executed

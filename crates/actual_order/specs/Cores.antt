@@ -7,9 +7,9 @@ use Prim.Native.Nat.{ℕ, _+_, _-_, _*_, _≤_, _<_}
 use lib.ListN.{length, getD, take, drop, set}
 use Rattle.lists.specs.Words.{isZero, zeros, countFrom, keep}
 use Rattle.walk.specs.Walk.{St, Placed, visit}
-use Rattle.tables.specs.Lookups.{Rising}
+use Rattle.tables.specs.Lookups.{Rising, FirstRows}
 use Rattle.tables.specs.Accepted.{Below, BelowOrMissing}
-use Rattle.tables.specs.Refusal.{moduleLimit, chunkLimit}
+use Rattle.tables.specs.Refusal.{moduleLimit, chunkLimit, rowLimit}
 use Rattle.tables.specs.Project.{missing}
 use Rattle.tables.specs.Readings.{flagged, wrapped, isEager, anyTarget, rowTargets, valuesOf, firstOf}
 use Rattle.actual_order.specs.Actual.{Executed, noted, executes, triggered}
@@ -38,6 +38,7 @@ pub record Imports (order importChunk imports : List ℕ) : Type 0 where
   pub lengths : length imports ≡ length importChunk
   pub chunks : Below (length order) importChunk
   pub inside : Below (length order) imports
+  pub rows : length importChunk ≤ rowLimit
   pub once : (i j : ℕ) → i < j → j < length importChunk → getD importChunk i 0 ≡ getD importChunk j 0 → getD imports i 0 ≡ getD imports j 0 → ⊥
 
 -- chunks in load order, chunk by rising chunk
@@ -45,6 +46,7 @@ pub record Loads (importChunk loads : List ℕ) (n : ℕ) : Type 0 where
   pub rising : Rising importChunk
   pub lengths : length loads ≡ length importChunk
   pub inside : Below n loads
+  pub rows : length importChunk ≤ rowLimit
 
 -- a row loads one chunk
 abbrev pub loaded : List ℕ → ℕ → List ℕ
@@ -92,6 +94,7 @@ pub record Fit (normal included wrap recordModule recordKind recordTarget : List
   pub targets : length recordTarget ≡ length recordModule
   pub inside : BelowOrMissing n recordTarget
   pub rising : Rising recordModule
+  pub rows : length recordModule ≤ rowLimit
 
 -- the module that an answer names
 abbrev pub named : Trigger → List ℕ
@@ -138,6 +141,16 @@ pub record Members (memberChunk member : List ℕ) (n : ℕ) : Type 0 where
   pub rising : Rising memberChunk
   pub lengths : length member ≡ length memberChunk
   pub inside : Below n member
+  pub rows : length memberChunk ≤ rowLimit
+
+-- `starts` has the first row of every value up to n
+pub record Starts (column starts : List ℕ) (n : ℕ) : Type 0 where
+  pub rows : FirstRows column starts
+  pub room : n < length starts
+
+-- `starts` has the first rows of each of the chunks and of the chunk behind it
+abbrev pub Visited : List ℕ → List ℕ → List ℕ → Type 0
+Visited memberChunk starts chunks = (i : ℕ) → i < length chunks → Starts memberChunk starts (getD chunks i 0 + 1)
 
 -- the entry chunk of a root that is an included entry, or the mark
 unfoldable pub analysedChunk : List ℕ → List ℕ → List ℕ → ℕ → ℕ

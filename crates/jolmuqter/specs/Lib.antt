@@ -1,2 +1,3 @@
--- What the exported functions promise.
+-- What the exported functions promise, and how their answers are told apart.
 pub mod Exported
+pub mod ToldApart

@@ -30,6 +30,8 @@ accepted-fit p e =
       targets = a .sizes .recordTarget;
       rising = a .rises .recordModule;
       within = a .values .recordTarget;
+      few = a .sizes .normal;
+      rows = a .sizes .recordModule;
     }
 
 module _ (p : Project) (ns ss : List ℕ) where

@@ -3,28 +3,41 @@
 use mathlib.Core.Path.{_≡_}
 use mathlib.Core.Bool.{Bool, cond, not}
 use mathlib.Core.List.{List, [], _∷_, _++_}
-use Prim.Native.Nat.{ℕ, _+_, _≤_}
+use Prim.Native.Nat.{ℕ, _+_, _≤_, _<_}
 use lib.ListN.{length, getD, set, drop, replicate}
 use lib.Dec.{eqb}
-use Rattle.lists.specs.Words.{isZero, zeros}
+use Rattle.lists.specs.Words.{isZero, zeros, keep}
 use Rattle.walk.specs.Walk.{St, Placed, place}
 use Rattle.tables.specs.Project.{missing}
 use Rattle.tables.specs.Readings.{isNormal}
-use Rattle.tables.specs.Lookups.{Rising}
+use Rattle.tables.specs.Lookups.{Rising, FirstRows}
+use Rattle.tables.specs.Refusal.{moduleLimit, rowLimit}
 use Rattle.tables.specs.Accepted.{BelowOrMissing}
 
--- the columns fit each other: n modules, and records in module order with targets among the modules
+-- the columns fit each other, within the limits: n modules, and records in module order with targets among the modules
 pub record Fit (normal recordModule recordKind recordTarget : List ℕ) (n : ℕ) : Type 0 where
   pub normals : length normal ≡ n
   pub kinds : length recordKind ≡ length recordModule
   pub targets : length recordTarget ≡ length recordModule
   pub rising : Rising recordModule
   pub within : BelowOrMissing n recordTarget
+  pub few : n ≤ moduleLimit
+  pub rows : length recordModule ≤ rowLimit
+
+-- and starts has the first record row of each module, and of one more
+pub record Indexed (normal recordModule recordKind recordTarget starts : List ℕ) (n : ℕ) : Type 0 where
+  pub fit : Fit normal recordModule recordKind recordTarget n
+  pub firsts : FirstRows recordModule starts
+  pub places : n < length starts
 
 -- r says whether m was met before; if not, it is marked
 pub record Met (marks : List ℕ) (m : ℕ) (r : Bool) (marks′ : List ℕ) : Type 0 where
   pub before : r ≡ not (isZero (getD marks m 1))
   pub marked : marks′ ≡ cond r marks (set marks m 1)
+
+-- those that are not met
+abbrev pub unmetOf : List ℕ → List ℕ → List ℕ
+unmetOf marks = keep (λ (m : ℕ). isZero (getD marks m 1))
 
 -- t as the one module that is led to, or none if it is the mark
 abbrev pub unlessMissing : ℕ → List ℕ

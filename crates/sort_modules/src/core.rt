@@ -6,13 +6,13 @@ ghost use lib.ListN.{length};
 ghost use Rattle.walk.specs.Walk.{Visits, everywhere};
 ghost use Rattle.tables.specs.Project.{missing};
 ghost use Rattle.tables.specs.Readings.{isStatic, anyTarget, rowTargets};
-ghost use Rattle.tables.specs.Accepted.{Below};
+ghost use Rattle.tables.specs.Accepted.{Below, BelowOrMissing};
 ghost use Rattle.sort_modules.specs.Sort.{staticsOf, numbers as numbered, sorted as listed};
-ghost use Rattle.sort_modules.specs.Visit.{Fit, Met, unlessMissing, made, number, held, Room, Sorted};
+ghost use Rattle.sort_modules.specs.Visit.{Fit, Indexed, Met, unlessMissing, unmetOf, made, number, held, Room, Sorted};
 use lists::core::fill;
 use tables::ModuleIdx;
 use tables::Target;
-use tables::core::first_row;
+use tables::core::first_rows;
 use tables::core::is_static;
 use tables::core::resolve;
 
@@ -56,6 +56,28 @@ fn led<'a>(
     t
 }
 
+// The unmet module that a record leads to, or the mark if there is none.
+fn unmet<'a>(
+    normal: &'a [u32],
+    record_kind: &'a [u32],
+    record_target: &'a [u32],
+    marks: &[u32],
+    dynamic: u32,
+    row: usize,
+) -> u32
+    requires { ⌜ (row < length (now record_kind)) × (row < length (now record_target)) × BelowOrMissing (length (now marks)) (now record_target) ⌝ }
+    ensures { λ r. ⌜ unmetOf (now (marks .entry)) (rowTargets (isStatic dynamic) anyTarget (now (normal .entry)) (now (record_kind .entry)) (now (record_target .entry)) row) ≡ unlessMissing r ⌝ }
+{
+    let t = led(normal, record_kind, record_target, dynamic, row);
+    if t == ModuleIdx::MISSING {
+        return t;
+    }
+    if marks[t as usize] != 0 {
+        return ModuleIdx::MISSING;
+    }
+    t
+}
+
 // Leaves a module: it takes the next number, and is listed if it is normal.
 fn leave<'a>(
     normal: &'a [u32],
@@ -84,12 +106,14 @@ fn leave<'a>(
     }
 }
 
-// Visits a module: marks it, visits what its records lead to, and then leaves it. The counters are lent to each visit.
+// Visits a module: marks it, visits what its records lead to, and then leaves it. The counters are lent to each visit. `starts` has each
+// module's first record row.
 fn visit<'a>(
     normal: &'a [u32],
     record_module: &'a [u32],
     record_kind: &'a [u32],
     record_target: &'a [u32],
+    starts: &'a [u32],
     counters: &mut Counters,
     marks: &mut [u32],
     numbers: &mut [u32],
@@ -97,23 +121,24 @@ fn visit<'a>(
     dynamic: u32,
     m: u32,
 )
-    requires { ⌜ Fit (now normal) (now record_module) (now record_kind) (now record_target) (length (now marks)) × (m < length (now marks)) × Room (now marks) (now numbers) (now sorted) (now counters .placed) (now counters .next) ⌝ }
+    requires { ⌜ Indexed (now normal) (now record_module) (now record_kind) (now record_target) (now starts) (length (now marks)) × (m < length (now marks)) × Room (now marks) (now numbers) (now sorted) (now counters .placed) (now counters .next) ⌝ }
     ensures { λ _. ⌜ Visits (staticsOf dynamic (now (normal .entry)) (now (record_module .entry)) (now (record_kind .entry)) (now (record_target .entry))) everywhere (number (now (normal .entry))) (held (now (marks .entry)) (now (numbers .entry)) (now (sorted .entry)) (now (counters .entry) .placed) (now (counters .entry) .next)) (m ∷ []) (held (now (marks .exit)) (now (numbers .exit)) (now (sorted .exit)) (now (counters .exit) .placed) (now (counters .exit) .next)) ⌝ }
 {
     if met(marks, m) {
         return;
     }
     let at = m as usize;
-    let mut row = first_row(record_module, at);
-    let end = first_row(record_module, at + 1);
+    let mut row = starts[at] as usize;
+    let end = starts[at + 1] as usize;
     while row < end {
-        let t = led(normal, record_kind, record_target, dynamic, row);
+        let t = unmet(normal, record_kind, record_target, marks, dynamic, row);
         if t != ModuleIdx::MISSING {
             visit(
                 normal,
                 record_module,
                 record_kind,
                 record_target,
+                starts,
                 counters,
                 marks,
                 numbers,
@@ -134,6 +159,7 @@ fn visit_roots<'a>(
     record_module: &'a [u32],
     record_kind: &'a [u32],
     record_target: &'a [u32],
+    starts: &'a [u32],
     entry: &'a [u32],
     marks: &mut [u32],
     numbers: &mut [u32],
@@ -141,7 +167,7 @@ fn visit_roots<'a>(
     runtime: u32,
     dynamic: u32,
 ) -> Counters
-    requires { ⌜ Fit (now normal) (now record_module) (now record_kind) (now record_target) (length (now marks)) × (runtime < length (now marks)) × Below (length (now marks)) (now entry) × Room (now marks) (now numbers) (now sorted) 0 0 ⌝ }
+    requires { ⌜ Indexed (now normal) (now record_module) (now record_kind) (now record_target) (now starts) (length (now marks)) × (runtime < length (now marks)) × Below (length (now marks)) (now entry) × Room (now marks) (now numbers) (now sorted) 0 0 ⌝ }
     ensures { λ r. ⌜ Visits (staticsOf dynamic (now (normal .entry)) (now (record_module .entry)) (now (record_kind .entry)) (now (record_target .entry))) everywhere (number (now (normal .entry))) (held (now (marks .entry)) (now (numbers .entry)) (now (sorted .entry)) 0 0) (runtime ∷ now (entry .entry)) (held (now (marks .exit)) (now (numbers .exit)) (now (sorted .exit)) (r .placed) (r .next)) ⌝ }
 {
     let mut counters = Counters { placed: 0, next: 0 };
@@ -150,6 +176,7 @@ fn visit_roots<'a>(
         record_module,
         record_kind,
         record_target,
+        starts,
         &mut counters,
         marks,
         numbers,
@@ -163,6 +190,7 @@ fn visit_roots<'a>(
             record_module,
             record_kind,
             record_target,
+            starts,
             &mut counters,
             marks,
             numbers,
@@ -194,11 +222,15 @@ pub fn sort<'a>(
 {
     fill(marks, 0);
     fill(numbers, ModuleIdx::MISSING);
+    let n = normal.len();
+    let mut starts = [0u32; 4097];
+    first_rows(record_module, &mut starts[..n + 1]);
     let last = visit_roots(
         normal,
         record_module,
         record_kind,
         record_target,
+        &starts[..n + 1],
         entry,
         marks,
         numbers,

@@ -17,7 +17,7 @@ use prog.Wp.{Heap, Calls}
 use ghost.Atoms.{Atoms, sem}
 use contract.Monad.{Fun, fact}
 use sound.WpLaws.{FmC}
-use types.Kit.{Given, Item, ‵, raw, mean, _⊛_, some, given, later, _$_, _∵_, !, qed, move, use1, use3, drop, split, join, pick, fsplit, fjoin, feqL, frame, await, updating, now as at-once, check, show, done}
+use types.Kit.{Given, Item, ‵, raw, mean, _⊛_, some, given, later, _$_, _∵_, !, qed, move, use1, use2, use3, drop, split, join, pick, fsplit, fjoin, feqL, frame, await, updating, now as at-once, check, show, done}
 use denote.Laws.{Is, shows}
 use denote.Plain.{uint-makes}
 use denote.Builtin.{u32, usize, bool}
@@ -29,17 +29,16 @@ use denote.Triple.Statement.{Contract, Triple}
 use denote.Triple.Clauses.{ensured, lasts}
 use denote.Triple.Walked.{says}
 use Rattle.tables.specs.Project.{missing}
-use Rattle.tables.specs.Lookups.{Rising, FirstRow}
+use Rattle.tables.specs.Accepted.{BelowOrMissing}
 use Rattle.tables.specs.Readings.{isStatic, anyTarget, rowTargets}
-use Rattle.tables.proofs.core.first_row as first-row
 use Rattle.sort_modules.specs.declared.core.Counters.{Counters}
-use Rattle.sort_modules.specs.Visit.{Met, unlessMissing, made, number}
+use Rattle.sort_modules.specs.Visit.{Met, unlessMissing, unmetOf, made, number}
 use Rattle.sort_modules.proofs.core.Turns.{Now}
-use Rattle.sort_modules.proofs.core.Lent.{anew, seated, HeldRef, HeldSlice, LoanSlice, slice-lends, slice-back, Seats, own-column, Columns, columns-twice, Slices, Beside, Held, slice-of, column-of, mach}
+use Rattle.sort_modules.proofs.core.Lent.{anew, seated, HeldRef, HeldSlice, LoanSlice, HeldShared, LoanShared, slice-lends, slice-back, slice-shares, slice-unshared, Seats, own-column, Columns, columns-twice, Slices, Beside, Held, slice-of, column-of, mach}
 use Rattle.sort_modules.proofs.core.Counters as T
 use Rattle.sort_modules.proofs.core.Counters.Laws as T′
 use Rattle.sort_modules.proofs.core.met as met
-use Rattle.sort_modules.proofs.core.led as led
+use Rattle.sort_modules.proofs.core.unmet as unmet
 use Rattle.sort_modules.proofs.core.leave as leave
 
 abbrev pub with-marks : Now → List ℕ → Now
@@ -62,15 +61,22 @@ ToLists S ns ss z = fsep (flft (S .κ) (S .q)) (fsep (own-column (S .κ) (S .nor
 abbrev pub ListsLent : Seats → List ℕ → List ℕ → List ℕ → (ℕ × GName) × (ℕ × GName) → Fml
 ListsLent S ms ns ss z = fsep (ToLists S ns ss z) (LentLists S ms ns ss z)
 
--- the columns copied, with their token; and the rest
-abbrev Token : Seats → Fml
-Token S = fsep (flft (S .κ) (S .q)) (Columns S)
+-- while the marks are lent as a `&`, beside copied columns
+abbrev ToRow : Seats → Now → ℕ × GName → Fml
+ToRow S t z = fsep (flft (S .κ) (S .q)) (fsep (Columns S) (HeldShared (anew (S .ms) z) (S .marks) (t .ms)))
 
-abbrev Tokenless : Seats → Now → Fml
+abbrev SharedMarks : Seats → Now → ℕ × GName → Fml
+SharedMarks S t z = fsep (HeldRef T.the-row (S .cs) (t .c)) (fsep (Columns S) (fsep (LoanShared (S .ms) (S .marks) z (t .ms)) (fsep (HeldSlice (S .ns) (S .numbers) (t .ns)) (HeldSlice (S .ss) (S .sorted) (t .ss)))))
+
+abbrev pub MarksShared : Seats → Now → ℕ × GName → Fml
+MarksShared S t z = fsep (ToRow S t z) (SharedMarks S t z)
+
+-- the first rows copied, with the columns' token; and the rest
+abbrev pub Tokenless : Seats → Now → Fml
 Tokenless S t = fsep (HeldRef T.the-row (S .cs) (t .c)) (fsep (Columns S) (Slices S (t .ms) (t .ns) (t .ss)))
 
-abbrev pub Copied : Seats → Now → Fml
-Copied S t = fsep (Token S) (Tokenless S t)
+abbrev pub StartsCopied : Seats → Now → Fml
+StartsCopied S t = fsep (fsep (own-column (S .κ) (S .starts)) (flft (S .κ) (S .q))) (Tokenless S t)
 
 -- `met`: its contract, and what it leaves
 abbrev pub MetAt : {M : Type 1} (𝓤 : URA M) (H : Heap 𝓤) (A : Atoms 𝓤) (at-mem : Memory → SProp 𝓤) (run : Routine → Fun 𝓤) → Contract 𝓤
@@ -79,19 +85,15 @@ MetAt 𝓤 H A at-mem run = tripleOf 𝓤 H A met.signature (met.spec 𝓤 H A a
 abbrev pub Was : {M : Type 1} (𝓤 : URA M) → Seats → Now → ℕ → Val → Item 𝓤
 Was 𝓤 S t m v = later (some (λ (p : Bool × List ℕ). given ((v ≡ vbool (p .0)) × Met (t .ms) m (p .0) (p .1) × (length (p .1) ≡ S .marks)) (‵ (Held S (with-marks t (p .1))))))
 
--- `first_row`: its contract, and what it leaves
-abbrev pub FirstRowAt : {M : Type 1} (𝓤 : URA M) (H : Heap 𝓤) (A : Atoms 𝓤) (at-mem : Memory → SProp 𝓤) (run : Routine → Fun 𝓤) → Contract 𝓤
-FirstRowAt 𝓤 H A at-mem run = tripleOf 𝓤 H A first-row.signature (first-row.spec 𝓤 H A at-mem run)
+-- `unmet`: its contract, and what it leaves
+abbrev pub UnmetAt : {M : Type 1} (𝓤 : URA M) (H : Heap 𝓤) (A : Atoms 𝓤) (at-mem : Memory → SProp 𝓤) (run : Routine → Fun 𝓤) → Contract 𝓤
+UnmetAt 𝓤 H A at-mem run = tripleOf 𝓤 H A unmet.signature (unmet.spec 𝓤 H A at-mem run)
 
-abbrev pub Row : {M : Type 1} (𝓤 : URA M) → Seats → Now → ℕ → Val → Item 𝓤
-Row 𝓤 S t x v = later (some (λ (r : ℕ). given ((v ≡ vint w64 r) × (r < 2 ^ 64) × (FirstRow (S .owner .now) x r)) (‵ (Held S t))))
-
--- `led`: its contract, and what it leaves
-abbrev pub LedAt : {M : Type 1} (𝓤 : URA M) (H : Heap 𝓤) (A : Atoms 𝓤) (at-mem : Memory → SProp 𝓤) (run : Routine → Fun 𝓤) → Contract 𝓤
-LedAt 𝓤 H A at-mem run = tripleOf 𝓤 H A led.signature (led.spec 𝓤 H A at-mem run)
+abbrev Leads : Seats → Now → ℕ → ℕ → ℕ → Type 0
+Leads S t dynamic row r = unmetOf (t .ms) (rowTargets (isStatic dynamic) anyTarget (S .normal .now) (S .kind .now) (S .target .now) row) ≡ unlessMissing r
 
 abbrev pub Led : {M : Type 1} (𝓤 : URA M) → Seats → Now → ℕ → ℕ → Val → Item 𝓤
-Led 𝓤 S t dynamic row v = later (some (λ (r : ℕ). given ((v ≡ vint w32 r) × (r < 2 ^ 32) × (rowTargets (isStatic dynamic) anyTarget (S .normal .now) (S .kind .now) (S .target .now) row ≡ unlessMissing r)) (‵ (Held S t))))
+Led 𝓤 S t dynamic row v = later (some (λ (r : ℕ). given ((v ≡ vint w32 r) × (r < 2 ^ 32) × Leads S t dynamic row r) (‵ (Held S t))))
 
 -- `leave`: its contract, and what it leaves
 abbrev pub LeaveAt : {M : Type 1} (𝓤 : URA M) (H : Heap 𝓤) (A : Atoms 𝓤) (at-mem : Memory → SProp 𝓤) (run : Routine → Fun 𝓤) → Contract 𝓤
@@ -107,10 +109,20 @@ module _ {M : Type 1} (𝓤 : URA M) (H : Heap 𝓤) (A : Atoms 𝓤) (W : Given
       move ! (2 ∷ []) $ use1 W (later (some (λ (z : ℕ × GName). ‵ (HeldSlice (anew (S .ms) z) (S .marks) (t .ms)) ⊛ ‵ (LoanSlice (S .ms) (S .marks) z (t .ms))))) (slice-lends 𝓤 H A W (S .ms) (S .marks) (t .ms) fits) $ await ! tt $ pick ! (λ z. split ! $
       at-once ! $ show ! (λ (y : ℕ × GName). sem 𝓤 H A (MarksLent S t y)) z $ move ! (2 ∷ 3 ∷ []) $ fjoin ! $ move ! (3 ∷ 0 ∷ []) $ fjoin ! $ move ! (3 ∷ 0 ∷ []) $ fjoin ! $ move ! (3 ∷ 0 ∷ []) $ fjoin ! $ move ! (2 ∷ 0 ∷ []) $ fjoin ! $ move ! (1 ∷ 0 ∷ []) $ fjoin ! $ done !)
 
-  pub copies : (S : Seats) (t : Now) → ent 𝓤 (sem 𝓤 H A (Held S t)) (sem 𝓤 H A (Copied S t))
-  copies S t =
+  pub shares-marks : (S : Seats) (t : Now) → length (t .ms) ≡ S .marks → ent 𝓤 (sem 𝓤 H A (Held S t)) (H .⇛ (ex 𝓤 (λ (z : ℕ × GName). sem 𝓤 H A (MarksShared S t z))))
+  shares-marks S t fits =
+      qed W (‵ (Held S t) ∷ []) ∵ updating ! $ fsplit ! $ move ! (1 ∷ []) $ fsplit ! $ move ! (1 ∷ []) $ fsplit ! $ move ! (1 ∷ []) $ fsplit ! $ move ! (1 ∷ []) $ fsplit ! $
+      move ! (2 ∷ []) $ use1 W (later (some (λ (z : ℕ × GName). ‵ (HeldShared (anew (S .ms) z) (S .marks) (t .ms)) ⊛ ‵ (LoanShared (S .ms) (S .marks) z (t .ms))))) (slice-shares 𝓤 H A W (S .ms) (S .marks) (t .ms) fits) $ await ! tt $ pick ! (λ z. split ! $
+      move ! (4 ∷ []) $ use1 W (‵ (Columns S) ⊛ ‵ (Columns S)) (columns-twice 𝓤 H A W S) $ split ! $ at-once ! $ show ! (λ (y : ℕ × GName). sem 𝓤 H A (MarksShared S t y)) z $
+      move ! (0 ∷ 2 ∷ []) $ fjoin ! $ move ! (5 ∷ 0 ∷ []) $ fjoin ! $ move ! (3 ∷ 4 ∷ []) $ fjoin ! $ move ! (3 ∷ 0 ∷ []) $ fjoin ! $ move ! (2 ∷ 0 ∷ []) $ fjoin ! $ move ! (2 ∷ 0 ∷ []) $ fjoin ! $ move ! (1 ∷ 0 ∷ []) $ fjoin ! $ done !)
+
+  pub copies-starts : (S : Seats) (t : Now) → ent 𝓤 (sem 𝓤 H A (Held S t)) (sem 𝓤 H A (StartsCopied S t))
+  copies-starts S t =
       qed W (‵ (Held S t) ∷ []) ∵ fsplit ! $ move ! (1 ∷ []) $ fsplit ! $ move ! (1 ∷ []) $ fsplit ! $ use1 W (‵ (Columns S) ⊛ ‵ (Columns S)) (columns-twice 𝓤 H A W S) $ split ! $
-      move ! (3 ∷ 1 ∷ []) $ fjoin ! $ move ! (1 ∷ 2 ∷ []) $ fjoin ! $ move ! (2 ∷ 0 ∷ []) $ fjoin ! $ move ! (1 ∷ 0 ∷ []) $ fjoin ! $ done !
+      fsplit ! $ drop ! $ fsplit ! $ drop ! $ fsplit ! $ drop ! $ fsplit ! $ drop ! $ move ! (0 ∷ 3 ∷ []) $ fjoin ! $ move ! (1 ∷ 2 ∷ []) $ fjoin ! $ move ! (2 ∷ 0 ∷ []) $ fjoin ! $ move ! (1 ∷ 0 ∷ []) $ fjoin ! $ done !
+
+  pub starts-back : (S : Seats) (t : Now) → ent 𝓤 (sep 𝓤 (A .lft (S .κ) (S .q)) (sem 𝓤 H A (Tokenless S t))) (sem 𝓤 H A (Held S t))
+  starts-back S t = qed W (‵ (flft (S .κ) (S .q)) ∷ ‵ (Tokenless S t) ∷ []) ∵ move ! (1 ∷ []) $ fsplit ! $ move ! (2 ∷ 1 ∷ []) $ fjoin ! $ move ! (1 ∷ 0 ∷ []) $ fjoin ! $ done !
 
   pub lends-lists : (S : Seats) (ms ns ss : List ℕ) → length ns ≡ S .numbers → length ss ≡ S .sorted → ent 𝓤 (sem 𝓤 H A (Beside S ms ns ss)) (H .⇛ (ex 𝓤 (λ (z : (ℕ × GName) × (ℕ × GName)). sem 𝓤 H A (ListsLent S ms ns ss z))))
   lends-lists S ms ns ss numbers-fit sorted-fit =
@@ -155,61 +167,35 @@ module _ {M : Type 1} (𝓤 : URA M) (H : Heap 𝓤) (A : Atoms 𝓤) (W : Given
         via 𝓤 (sep 𝓤 (C f with-meets (MetAt 𝓤 H A at-mem run .post to-meets)) (sem 𝓤 H A (LentMarks S t z))) (monoL 𝓤 (sem 𝓤 H A (LentMarks S t z)) (via 𝓤 (MetAt 𝓤 H A at-mem run .pre to-meets) (meets-asks m-fits m-in) (known to-meets)))
         (fm f with-meets (MetAt 𝓤 H A at-mem run .post to-meets) (λ v. mean 𝓤 H A (Was 𝓤 S t m v)) (sem 𝓤 H A (LentMarks S t z)) (meets-leaves room fits))
 
-  -- `first_row`
-  module _ (x : ℕ) where
-    abbrev to-rows : FirstRowAt 𝓤 H A at-mem run .Ghost
-    to-rows = (((S .κ, tt), (S .q, tt), tt, (S .owner, (x, tt)), (column-of (S .owner) ∷ [], (vint w64 x ∷ [], tt))), tt)
-
-    abbrev with-rows : List Val
-    with-rows = column-of (S .owner) ∷ vint w64 x ∷ []
-
-    rows-asks : x < 2 ^ 64 → Rising (S .owner .now) → ent 𝓤 (sem 𝓤 H A (Token S)) (FirstRowAt 𝓤 H A at-mem run .pre to-rows)
-    rows-asks x-fits rising =
-        qed W (‵ (Token S) ∷ []) ∵ says ! rising $ fsplit ! $ nothing ! $ move ! (1 ∷ 0 ∷ []) $ join ! $ frame ! $ fsplit ! $ move ! (1 ∷ []) $ fsplit ! $ move ! (1 ∷ []) $ fsplit ! $
-        move ! (3 ∷ []) $ drop ! $ drop ! $ drop ! $ nothing ! $ owned ! usize (Is usize) (uint-makes 𝓤 H A W w64) x _ (refl, x-fits) $ fjoin ! $
-        move ! (1 ∷ 0 ∷ []) $ fjoin ! $ done !
-
-    rows-leaves : (v : Val) → ent 𝓤 (sep 𝓤 (FirstRowAt 𝓤 H A at-mem run .post to-rows v) (sem 𝓤 H A (Tokenless S t))) (mean 𝓤 H A (Row 𝓤 S t x v))
-    rows-leaves v =
-        qed W (raw (FirstRowAt 𝓤 H A at-mem run .post to-rows v) ∷ ‵ (Tokenless S t) ∷ []) ∵ updating ! $
-        use1 W (later (some (λ (r : ℕ). Results (‵ (flft (S .κ) (S .q)) ⊛ ‵ ftrue) (‵ (usize .own r (v ∷ []))) (ensured 𝓤 H A first-row.ended (first-row.clauses 𝓤 H A at-mem run) (S .κ, tt) (S .owner, (x, tt)) tt r)))) (id⊢ 𝓤 _) $ await ! tt $ pick ! (λ r. split ! $ move ! (1 ∷ []) $
-        use1 W (some (λ (ws : Unit {0} × (Unit {0} × Unit {0})). ‵ (lasts first-row.ended (S .κ, tt) (S .owner, (x, tt)) ws) ⊛ raw (fact 𝓤 (FirstRow (S .owner .now) x r)))) (id⊢ 𝓤 _) $ pick ! (λ ws. split ! $ move ! (1 ∷ []) $ heard ! (FirstRow (S .owner .now) x r) (λ e.
-        drop ! $ split ! $ split ! $ move ! (2 ∷ []) $ facts ! usize (Is usize) (shows 𝓤 H A usize) r (v ∷ []) (λ is.
-        at-once ! $ show ! (λ (r : ℕ). mean 𝓤 H A (given ((v ≡ vint w64 r) × (r < 2 ^ 64) × (FirstRow (S .owner .now) x r)) (‵ (Held S t)))) r $ check ! (ap only (is .0), is .1, e) $
-        move ! (1 ∷ []) $ drop ! $ move ! (1 ∷ []) $ fsplit ! $ move ! (2 ∷ 1 ∷ []) $ fjoin ! $ move ! (1 ∷ 0 ∷ []) $ fjoin ! $ done !))))
-
-    pub rows : x < 2 ^ 64 → Rising (S .owner .now) → Triple 𝓤 (C f) (FirstRowAt 𝓤 H A at-mem run) → ent 𝓤 (sem 𝓤 H A (fsep (Token S) (Tokenless S t))) (C f with-rows (λ v. mean 𝓤 H A (Row 𝓤 S t x v)))
-    rows x-fits rising known =
-        via 𝓤 (sep 𝓤 (C f with-rows (FirstRowAt 𝓤 H A at-mem run .post to-rows)) (sem 𝓤 H A (Tokenless S t))) (monoL 𝓤 (sem 𝓤 H A (Tokenless S t)) (via 𝓤 (FirstRowAt 𝓤 H A at-mem run .pre to-rows) (rows-asks x-fits rising) (known to-rows)))
-        (fm f with-rows (FirstRowAt 𝓤 H A at-mem run .post to-rows) (λ v. mean 𝓤 H A (Row 𝓤 S t x v)) (sem 𝓤 H A (Tokenless S t)) (rows-leaves))
-
-  -- `led`
-  module _ (dynamic row : ℕ) where
-    abbrev to-leads : LedAt 𝓤 H A at-mem run .Ghost
-    to-leads = (((S .κ, tt), (S .q, tt), tt, (S .normal, (S .kind, (S .target, (dynamic, (row, tt))))), (column-of (S .normal) ∷ [], (column-of (S .kind) ∷ [], (column-of (S .target) ∷ [], (vint w32 dynamic ∷ [], (vint w64 row ∷ [], tt)))))), tt)
+  -- `unmet`, with the marks lent as a `&`
+  module _ (dynamic row : ℕ) (z : ℕ × GName) where
+    abbrev to-leads : UnmetAt 𝓤 H A at-mem run .Ghost
+    to-leads = (((S .κ, (z .0 ∷ [], tt)), (S .q, (fullShare, tt)), tt, (S .normal, (S .kind, (S .target, (seated (anew (S .ms) z) (t .ms), (dynamic, (row, tt)))))), (column-of (S .normal) ∷ [], (column-of (S .kind) ∷ [], (column-of (S .target) ∷ [], (slice-of (S .ms) (S .marks) ∷ [], (vint w32 dynamic ∷ [], (vint w64 row ∷ [], tt))))))), tt)
 
     abbrev with-leads : List Val
-    with-leads = column-of (S .normal) ∷ column-of (S .kind) ∷ column-of (S .target) ∷ vint w32 dynamic ∷ vint w64 row ∷ []
+    with-leads = column-of (S .normal) ∷ column-of (S .kind) ∷ column-of (S .target) ∷ slice-of (S .ms) (S .marks) ∷ vint w32 dynamic ∷ vint w64 row ∷ []
 
-    leads-asks : dynamic < 2 ^ 32 → row < 2 ^ 64 → (row < length (S .kind .now)) × (row < length (S .target .now)) → ent 𝓤 (sem 𝓤 H A (Token S)) (LedAt 𝓤 H A at-mem run .pre to-leads)
+    leads-asks : dynamic < 2 ^ 32 → row < 2 ^ 64 → (row < length (S .kind .now)) × (row < length (S .target .now)) × BelowOrMissing (length (t .ms)) (S .target .now) → ent 𝓤 (sem 𝓤 H A (ToRow S t z)) (UnmetAt 𝓤 H A at-mem run .pre to-leads)
     leads-asks dynamic-fits row-fits row-in =
-        qed W (‵ (Token S) ∷ []) ∵ says ! row-in $ fsplit ! $ nothing ! $ move ! (1 ∷ 0 ∷ []) $ join ! $ frame ! $ fsplit ! $ move ! (1 ∷ []) $ fsplit ! $ move ! (1 ∷ []) $ fsplit ! $
-        move ! (2 ∷ []) $ drop ! $ nothing ! $ owned ! usize (Is usize) (uint-makes 𝓤 H A W w64) row _ (refl, row-fits) $ fjoin ! $ owned ! u32 (Is u32) (uint-makes 𝓤 H A W w32) dynamic _ (refl, dynamic-fits) $ fjoin ! $
-        move ! (2 ∷ 0 ∷ []) $ fjoin ! $ move ! (1 ∷ 0 ∷ []) $ fjoin ! $ move ! (1 ∷ 0 ∷ []) $ fjoin ! $ done !
+        qed W (‵ (ToRow S t z) ∷ []) ∵ says ! row-in $ fsplit ! $ move ! (1 ∷ []) $ fsplit ! $ move ! (1 ∷ []) $ fsplit ! $ nothing ! $ move ! (2 ∷ 0 ∷ []) $ join ! $ move ! (3 ∷ 0 ∷ []) $ join ! $ frame ! $
+        move ! (1 ∷ []) $ fsplit ! $ move ! (1 ∷ []) $ fsplit ! $ move ! (1 ∷ []) $ fsplit ! $ move ! (1 ∷ []) $ fsplit ! $ move ! (1 ∷ []) $ drop ! $ move ! (2 ∷ []) $ drop ! $
+        nothing ! $ owned ! usize (Is usize) (uint-makes 𝓤 H A W w64) row _ (refl, row-fits) $ fjoin ! $ owned ! u32 (Is u32) (uint-makes 𝓤 H A W w32) dynamic _ (refl, dynamic-fits) $ fjoin ! $
+        move ! (4 ∷ 0 ∷ []) $ fjoin ! $ move ! (1 ∷ 0 ∷ []) $ fjoin ! $ move ! (1 ∷ 0 ∷ []) $ fjoin ! $ move ! (1 ∷ 0 ∷ []) $ fjoin ! $ done !
 
-    leads-leaves : (v : Val) → ent 𝓤 (sep 𝓤 (LedAt 𝓤 H A at-mem run .post to-leads v) (sem 𝓤 H A (Tokenless S t))) (mean 𝓤 H A (Led 𝓤 S t dynamic row v))
-    leads-leaves v =
-        qed W (raw (LedAt 𝓤 H A at-mem run .post to-leads v) ∷ ‵ (Tokenless S t) ∷ []) ∵ updating ! $
-        use1 W (later (some (λ (r : ℕ). Results (‵ (flft (S .κ) (S .q)) ⊛ ‵ ftrue) (‵ (u32 .own r (v ∷ []))) (ensured 𝓤 H A led.ended (led.clauses 𝓤 H A at-mem run) (S .κ, tt) (S .normal, (S .kind, (S .target, (dynamic, (row, tt))))) tt r)))) (id⊢ 𝓤 _) $ await ! tt $ pick ! (λ r. split ! $ move ! (1 ∷ []) $
-        use1 W (some (λ (ws : Unit {0} × (Unit {0} × (Unit {0} × (Unit {0} × (Unit {0} × Unit {0}))))). ‵ (lasts led.ended (S .κ, tt) (S .normal, (S .kind, (S .target, (dynamic, (row, tt))))) ws) ⊛ raw (fact 𝓤 (rowTargets (isStatic dynamic) anyTarget (S .normal .now) (S .kind .now) (S .target .now) row ≡ unlessMissing r)))) (id⊢ 𝓤 _) $ pick ! (λ ws. split ! $ move ! (1 ∷ []) $ heard ! (rowTargets (isStatic dynamic) anyTarget (S .normal .now) (S .kind .now) (S .target .now) row ≡ unlessMissing r) (λ e.
-        drop ! $ split ! $ split ! $ move ! (2 ∷ []) $ facts ! u32 (Is u32) (shows 𝓤 H A u32) r (v ∷ []) (λ is.
-        at-once ! $ show ! (λ (r : ℕ). mean 𝓤 H A (given ((v ≡ vint w32 r) × (r < 2 ^ 32) × (rowTargets (isStatic dynamic) anyTarget (S .normal .now) (S .kind .now) (S .target .now) row ≡ unlessMissing r)) (‵ (Held S t)))) r $ check ! (ap only (is .0), is .1, e) $
-        move ! (1 ∷ []) $ drop ! $ move ! (1 ∷ []) $ fsplit ! $ move ! (2 ∷ 1 ∷ []) $ fjoin ! $ move ! (1 ∷ 0 ∷ []) $ fjoin ! $ done !))))
+    leads-leaves : Room u32 (S .marks) → length (t .ms) ≡ S .marks → (v : Val) → ent 𝓤 (sep 𝓤 (UnmetAt 𝓤 H A at-mem run .post to-leads v) (sem 𝓤 H A (SharedMarks S t z))) (mean 𝓤 H A (Led 𝓤 S t dynamic row v))
+    leads-leaves room fits v =
+        qed W (raw (UnmetAt 𝓤 H A at-mem run .post to-leads v) ∷ ‵ (SharedMarks S t z) ∷ []) ∵ updating ! $
+        use1 W (later (some (λ (r : ℕ). Results (‵ (flft (S .κ) (S .q)) ⊛ ‵ (flft (z .0 ∷ []) fullShare) ⊛ ‵ ftrue) (‵ (u32 .own r (v ∷ []))) (ensured 𝓤 H A unmet.ended (unmet.clauses 𝓤 H A at-mem run) (S .κ, (z .0 ∷ [], tt)) (S .normal, (S .kind, (S .target, (seated (anew (S .ms) z) (t .ms), (dynamic, (row, tt)))))) tt r)))) (id⊢ 𝓤 _) $ await ! tt $ pick ! (λ r. split ! $ move ! (1 ∷ []) $
+        use1 W (some (λ (ws : Unit {0} × (Unit {0} × (Unit {0} × (Unit {0} × (Unit {0} × (Unit {0} × Unit {0})))))). ‵ (lasts unmet.ended (S .κ, (z .0 ∷ [], tt)) (S .normal, (S .kind, (S .target, (seated (anew (S .ms) z) (t .ms), (dynamic, (row, tt)))))) ws) ⊛ raw (fact 𝓤 (Leads S t dynamic row r)))) (id⊢ 𝓤 _) $ pick ! (λ ws. split ! $ move ! (1 ∷ []) $ heard ! (Leads S t dynamic row r) (λ e.
+        drop ! $ split ! $ split ! $ move ! (1 ∷ []) $ split ! $ move ! (3 ∷ []) $ facts ! u32 (Is u32) (shows 𝓤 H A u32) r (v ∷ []) (λ is.
+        move ! (3 ∷ []) $ fsplit ! $ move ! (1 ∷ []) $ fsplit ! $ move ! (1 ∷ []) $ fsplit ! $ move ! (4 ∷ 0 ∷ []) $ use2 W (later (‵ (HeldSlice (S .ms) (S .marks) (t .ms)))) (slice-unshared 𝓤 H A W (S .ms) (S .marks) z (t .ms) fits room) $ await ! tt $
+        at-once ! $ show ! (λ (r : ℕ). mean 𝓤 H A (given ((v ≡ vint w32 r) × (r < 2 ^ 32) × Leads S t dynamic row r) (‵ (Held S t)))) r $ check ! (ap only (is .0), is .1, e) $
+        fjoin ! $ move ! (1 ∷ 0 ∷ []) $ fjoin ! $ move ! (2 ∷ []) $ drop ! $ move ! (2 ∷ 0 ∷ []) $ fjoin ! $ move ! (1 ∷ 0 ∷ []) $ fjoin ! $ done !))))
 
-    pub leads : dynamic < 2 ^ 32 → row < 2 ^ 64 → (row < length (S .kind .now)) × (row < length (S .target .now)) → Triple 𝓤 (C f) (LedAt 𝓤 H A at-mem run) → ent 𝓤 (sem 𝓤 H A (fsep (Token S) (Tokenless S t))) (C f with-leads (λ v. mean 𝓤 H A (Led 𝓤 S t dynamic row v)))
-    leads dynamic-fits row-fits row-in known =
-        via 𝓤 (sep 𝓤 (C f with-leads (LedAt 𝓤 H A at-mem run .post to-leads)) (sem 𝓤 H A (Tokenless S t))) (monoL 𝓤 (sem 𝓤 H A (Tokenless S t)) (via 𝓤 (LedAt 𝓤 H A at-mem run .pre to-leads) (leads-asks dynamic-fits row-fits row-in) (known to-leads)))
-        (fm f with-leads (LedAt 𝓤 H A at-mem run .post to-leads) (λ v. mean 𝓤 H A (Led 𝓤 S t dynamic row v)) (sem 𝓤 H A (Tokenless S t)) (leads-leaves))
+    pub leads : dynamic < 2 ^ 32 → row < 2 ^ 64 → (row < length (S .kind .now)) × (row < length (S .target .now)) × BelowOrMissing (length (t .ms)) (S .target .now) → Room u32 (S .marks) → length (t .ms) ≡ S .marks → Triple 𝓤 (C f) (UnmetAt 𝓤 H A at-mem run) → ent 𝓤 (sem 𝓤 H A (fsep (ToRow S t z) (SharedMarks S t z))) (C f with-leads (λ v. mean 𝓤 H A (Led 𝓤 S t dynamic row v)))
+    leads dynamic-fits row-fits row-in room fits known =
+        via 𝓤 (sep 𝓤 (C f with-leads (UnmetAt 𝓤 H A at-mem run .post to-leads)) (sem 𝓤 H A (SharedMarks S t z))) (monoL 𝓤 (sem 𝓤 H A (SharedMarks S t z)) (via 𝓤 (UnmetAt 𝓤 H A at-mem run .pre to-leads) (leads-asks dynamic-fits row-fits row-in) (known to-leads)))
+        (fm f with-leads (UnmetAt 𝓤 H A at-mem run .post to-leads) (λ v. mean 𝓤 H A (Led 𝓤 S t dynamic row v)) (sem 𝓤 H A (SharedMarks S t z)) (leads-leaves room fits))
 
   -- `leave`, with the numbers and the list lent
   module _ (m : ℕ) (z : (ℕ × GName) × (ℕ × GName)) where

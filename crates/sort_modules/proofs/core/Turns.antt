@@ -11,16 +11,16 @@ use lib.Dec.{eqb}
 use Rattle.lists.specs.Words.{isZero, zeros}
 use Rattle.walk.specs.Walk.{St, everywhere, Visits}
 use Rattle.walk.proofs.Visits.{set-zeros}
-use Rattle.walk.proofs.Going.{Going, going-start, going-none, going-found, going-end, met-visited, left-visited, visited-then, column-rows}
+use Rattle.walk.proofs.Going.{Going, going-start, going-row, going-found, going-end, met-visited, left-visited, visited-then, column-rows}
 use Rattle.tables.specs.Project.{missing}
 use Rattle.tables.specs.Lookups.{FirstRow}
-use Rattle.tables.specs.Accepted.{Below}
+use Rattle.tables.specs.Accepted.{Below, BelowOrMissing}
 use Rattle.tables.specs.Readings.{isStatic, anyTarget, rowTargets}
 use Rattle.tables.proofs.Rows.{run-ordered, targets-of-run}
 use Rattle.sort_modules.specs.declared.core.Counters.{Counters}
 use Rattle.sort_modules.specs.Sort.{staticsOf}
-use Rattle.sort_modules.specs.Visit.{Fit, Met, unlessMissing, Numbered, made, number, held, Room}
-use Rattle.sort_modules.proofs.Rows.{led-in}
+use Rattle.sort_modules.specs.Visit.{Indexed, Met, unlessMissing, unmetOf, Numbered, made, number, held, Room}
+use Rattle.sort_modules.proofs.Rows.{led-in, led-all, led-met}
 use Rattle.sort_modules.proofs.Numbers.{Carried, carried, room-after}
 
 -- the counters, the marks, the numbers and the list
@@ -46,8 +46,8 @@ is-marked t m ms e n = (not-no (isZero (getD (t .ms) m 1)) (sym (e .before) ∙ 
 
 module _ (normal recordModule recordKind recordTarget : List ℕ) where
   -- what a visit asks
-  abbrev pub Prepared : Now → ℕ → Type 0
-  Prepared t m = Fit normal recordModule recordKind recordTarget (length (t .ms)) × (m < length (t .ms)) × Room (t .ms) (t .ns) (t .ss) (t .c .placed) (t .c .next)
+  abbrev pub Prepared : List ℕ → Now → ℕ → Type 0
+  Prepared starts t m = Indexed normal recordModule recordKind recordTarget starts (length (t .ms)) × (m < length (t .ms)) × Room (t .ms) (t .ns) (t .ss) (t .c .placed) (t .c .next)
 
   module _ (dynamic : ℕ) where
     abbrev succ : ℕ → List ℕ
@@ -75,7 +75,14 @@ module _ (normal recordModule recordKind recordTarget : List ℕ) where
           not-yes true q = sym q
           not-yes false q = refl
 
-      module _ (first end : ℕ) where
+      module _ (starts : List ℕ) where
+        -- the module's rows: from its first to the next module's first
+        abbrev pub first : ℕ
+        first = getD starts m 0
+
+        abbrev pub end : ℕ
+        end = getD starts (m + 1) 0
+
         -- between the rows
         pub record Turn : Type 0 where
           pub row : ℕ
@@ -83,7 +90,13 @@ module _ (normal recordModule recordKind recordTarget : List ℕ) where
           pub going : Going succ everywhere (number normal) rows first (stood (marked t₀ m)) row (stood at)
           pub upto : row ≤ end
 
-        module _ (ready : Prepared t₀ m) (fresh : isZero (getD (t₀ .ms) m 1) ≡ true) (first-is : FirstRow recordModule m first) (end-is : FirstRow recordModule (m + 1) end) where
+        module _ (ready : Prepared starts t₀ m) (fresh : isZero (getD (t₀ .ms) m 1) ≡ true) where
+          pub first-is : FirstRow recordModule m first
+          first-is = let p = ready .0 in p .firsts .firsts m (omega (arith, p .places, ready .1))
+
+          pub end-is : FirstRow recordModule (m + 1) end
+          end-is = let p = ready .0 in p .firsts .firsts (m + 1) (omega (arith, p .places, ready .1))
+
           abbrev pub begin : Turn
           begin = record { row = first; at = marked t₀ m; going = going-start succ everywhere (number normal) rows first (stood (marked t₀ m)); upto = run-ordered recordModule m first end first-is end-is }
 
@@ -114,28 +127,30 @@ module _ (normal recordModule recordKind recordTarget : List ℕ) where
                   counts = omega (arith, k .counts, one-less, r .counts);
                 }
 
-            pub row-in : u .row < end → (u .row < length recordKind) × (u .row < length recordTarget)
-            row-in less = let p = ready .0 in (omega (arith, p .kinds, end-is .within), omega (arith, p .targets, end-is .within))
+            pub row-in : u .row < end → (u .row < length recordKind) × (u .row < length recordTarget) × BelowOrMissing (length (u .at .ms)) recordTarget
+            row-in less =
+                let p = ready .0 .fit in
+                (omega (arith, p .kinds, end-is .within), omega (arith, p .targets, end-is .within), subst (λ (n : ℕ). BelowOrMissing n recordTarget) (sym marks-len) (p .within))
 
-            -- a row that leads nowhere
-            abbrev pub skip : (t : ℕ) → u .row < end → rows (u .row) ≡ unlessMissing t → eqb t missing ≡ true → Turn
+            -- a row that leads to nothing unmet
+            abbrev pub skip : (t : ℕ) → u .row < end → unmetOf (u .at .ms) (rows (u .row)) ≡ unlessMissing t → eqb t missing ≡ true → Turn
             skip t less e y = record {
               row = u .row + 1;
               at = u .at;
-              going = going-none succ everywhere (number normal) rows first (stood (marked t₀ m)) (u .going) (e ∙ ap (λ (b : Bool). cond b [] (t ∷ [])) y);
+              going = going-row succ everywhere (number normal) rows first (stood (marked t₀ m)) (u .going) (led-met dynamic normal recordKind recordTarget (u .row) succ everywhere (number normal) (stood (u .at)) (e ∙ ap (λ (b : Bool). cond b [] (t ∷ [])) y));
               upto = omega arith;
             }
 
-            module _ (t : ℕ) (less : u .row < end) (e : rows (u .row) ≡ unlessMissing t) (n : eqb t missing ≡ false) where
+            module _ (t : ℕ) (less : u .row < end) (e : unmetOf (u .at .ms) (rows (u .row)) ≡ unlessMissing t) (n : eqb t missing ≡ false) where
               pub leads : rows (u .row) ≡ t ∷ []
-              leads = e ∙ ap (λ (b : Bool). cond b [] (t ∷ [])) n
+              leads = led-all dynamic normal recordKind recordTarget (u .row) (u .at .ms) t (e ∙ ap (λ (b : Bool). cond b [] (t ∷ [])) n)
 
               -- a row that leads to a module, which is visited
-              pub call-ready : Prepared (u .at) t
+              pub call-ready : Prepared starts (u .at) t
               call-ready =
                   let q = roomy in (
-                    subst (Fit normal recordModule recordKind recordTarget) (sym marks-len) (ready .0),
-                    (let l = led-in dynamic normal recordKind recordTarget (u .row) (length (t₀ .ms)) t (ready .0 .within) (row-in less .1) leads in omega (arith, l, marks-len)),
+                    subst (Indexed normal recordModule recordKind recordTarget starts) (sym marks-len) (ready .0),
+                    (let l = led-in dynamic normal recordKind recordTarget (u .row) (length (t₀ .ms)) t (ready .0 .fit .within) (row-in less .1) leads in omega (arith, l, marks-len)),
                     record { places = q .places; lists = omega (arith, q .lists); counts = omega (arith, q .counts) },
                   )
 
@@ -154,7 +169,7 @@ module _ (normal recordModule recordKind recordTarget : List ℕ) where
             pub leave-ready : (m < length normal) × (m < length (u .at .ns)) × (u .at .c .placed < length (u .at .ss)) × (u .at .c .next < missing)
             leave-ready =
                 let q = roomy in
-                (omega (arith, ready .0 .normals, ready .1), omega (arith, ready .1, ready .2 .places, numbers-len), omega (arith, q .lists), omega (arith, q .counts))
+                (omega (arith, ready .0 .fit .normals, ready .1), omega (arith, ready .1, ready .2 .places, numbers-len), omega (arith, q .lists), omega (arith, q .counts))
 
             pub ended : end ≤ u .row → (r : Counters) (ns ss : List ℕ) → made ns ss (r .placed) (r .next) ≡ number normal (made (u .at .ns) (u .at .ss) (u .at .c .placed) (u .at .c .next)) m
                 → Visited t₀ (m ∷ []) (record { c = r; ms = u .at .ms; ns = ns; ss = ss })
@@ -167,17 +182,17 @@ module _ (normal recordModule recordKind recordTarget : List ℕ) where
 -- ---- the roots
 module _ (normal recordModule recordKind recordTarget entry : List ℕ) where
   -- what the visits of the entries ask
-  abbrev pub Rooted : Now → Type 0
-  Rooted t = Fit normal recordModule recordKind recordTarget (length (t .ms)) × Below (length (t .ms)) entry × Room (t .ms) (t .ns) (t .ss) (t .c .placed) (t .c .next)
+  abbrev pub Rooted : List ℕ → Now → Type 0
+  Rooted starts t = Indexed normal recordModule recordKind recordTarget starts (length (t .ms)) × Below (length (t .ms)) entry × Room (t .ms) (t .ns) (t .ss) (t .c .placed) (t .c .next)
 
   module _ (dynamic : ℕ) where
     abbrev leads-to : Now → List ℕ → Now → Type 0
     leads-to = Visited normal recordModule recordKind recordTarget dynamic
 
-    pub roots-on : {t u : Now} {xs : List ℕ} → Rooted t → leads-to t xs u → Rooted u
-    roots-on {t} {u} r v =
+    pub roots-on : {starts : List ℕ} {t u : Now} {xs : List ℕ} → Rooted starts t → leads-to t xs u → Rooted starts u
+    roots-on {starts} r v =
         let k = carried-on normal recordModule recordKind recordTarget dynamic v in
-        (subst (Fit normal recordModule recordKind recordTarget) (sym (k .marks-len)) (r .0), subst (λ (n : ℕ). Below n entry) (sym (k .marks-len)) (r .1), room-after (r .2) k)
+        (subst (Indexed normal recordModule recordKind recordTarget starts) (sym (k .marks-len)) (r .0), subst (λ (n : ℕ). Below n entry) (sym (k .marks-len)) (r .1), room-after (r .2) k)
 
     module _ (t₁ : Now) where
       abbrev one : ℕ → List ℕ
@@ -196,7 +211,7 @@ module _ (normal recordModule recordKind recordTarget entry : List ℕ) where
       abbrev pub begin-roots : Root
       begin-roots = record { row = 0; at = t₁; going = going-start statics everywhere (number normal) one 0 (stood t₁); upto = omega arith }
 
-      pub root-ready : Rooted t₁ → (u : Root) → u .row < length entry → Prepared normal recordModule recordKind recordTarget (u .at) (getD entry (u .row) 0)
+      pub root-ready : {starts : List ℕ} → Rooted starts t₁ → (u : Root) → u .row < length entry → Prepared normal recordModule recordKind recordTarget starts (u .at) (getD entry (u .row) 0)
       root-ready r u less = let s = roots-on r (u .going .so-far) in (s .0, s .1 (u .row) less, s .2)
 
       abbrev pub next-root : (u : Root) → u .row < length entry → (v : Now) → leads-to (u .at) (getD entry (u .row) 0 ∷ []) v → Root

@@ -4,15 +4,14 @@ use mathlib.Core.Path.{_≡_, sym, ap, subst, _∙_}
 use mathlib.Core.List.{List, _++_}
 use Prim.Native.Nat.{ℕ}
 use native.Mathlib.Omega.{arith}
-use lib.ListN.{length, take, drop, replicate, length-append}
-use lib.Seq.{take-at}
+use lib.ListN.{length, take, drop, replicate}
 use borrow.Author.Needs.{needs}
 use Rattle.tables.specs.Readings.{valuesOf}
 use Rattle.actual_order.specs.LoadOrder.{loadOrder}
 use Rattle.actual_order.specs.Actual.{executeAll, hostsInTurn}
 use Rattle.actual_order.specs.Cores.{Loads, Listed}
 use Rattle.actual_order.proofs.Arranging.{arranged-loads}
-use Rattle.actual_order.proofs.Chunks.{zeroed-length}
+use Rattle.actual_order.proofs.Chunks.{zeroed-length, part-front, part-size, part-within}
 use Rattle.actual_order.proofs.core.actual_order_from.Statement.{statement}
 use Rattle.actual_order.proofs.core.actual_order_from.Tie as tie
 
@@ -30,18 +29,15 @@ module _ (x : tie.After-arrange) where
   abbrev loads : List ℕ
   loads = x .arrange .last .1 .1 .1 .0
 
-  loads-length : length loads ≡ rows
-  loads-length = x .arrange .kept .1 .1 .1 .0 ∙ sym (zeroed-length rows 16384 (start .pre .1 .1 .1 .0 .1))
-
-  front : take rows (loads ++ zeros-after rows) ≡ loads
-  front = take-at loads (zeros-after rows) rows loads-length
+  size : rows ≡ length (take rows (loads ++ zeros-after rows))
+  size = part-size rows 16384 (start .pre .1 .1 .1 .0 .1) loads (x .arrange .kept .1 .1 .1 .0)
 
   -- the loads as the array's part has them
   arranged : valuesOf (start .args .import-chunk .now) (take rows (loads ++ zeros-after rows)) ≡ loadOrder (start .args .exec-order .now) (start .args .import-chunk .now) (start .args .imports .now)
-  arranged = ap (valuesOf (start .args .import-chunk .now)) front ∙ x .arrange .ensures
+  arranged = ap (valuesOf (start .args .import-chunk .now)) (part-front rows 16384 (start .pre .1 .1 .1 .0 .1) loads (x .arrange .kept .1 .1 .1 .0)) ∙ x .arrange .ensures
 
   fits : Loads (start .args .import-chunk .now) (take rows (loads ++ zeros-after rows)) (length (start .args .exec-order .now))
-  fits = arranged-loads (start .args .exec-order .now) (start .args .import-chunk .now) (start .args .imports .now) (start .pre .1 .1 .0) (take rows (loads ++ zeros-after rows)) (ap length front ∙ loads-length) arranged
+  fits = arranged-loads (start .args .exec-order .now) (start .args .import-chunk .now) (start .args .imports .now) (start .pre .1 .1 .0) (take rows (loads ++ zeros-after rows)) (sym size) arranged
 
 array-borrow-prefix-loads : tie.Need-array-borrow-prefix-loads
 array-borrow-prefix-loads c = search needs
@@ -53,10 +49,10 @@ arrange-requires : tie.Need-arrange-requires
 arrange-requires c κs = let e = c .before .before .before .before .before .before .before .before .before .before .before .before .before .before in (e .pre .1 .1 .0, sym (zeroed-length (length (e .args .imports .now)) 16384 (e .pre .1 .1 .1 .0 .1)))
 
 array-share-prefix-loads : tie.Need-array-share-prefix-loads
-array-share-prefix-loads c = let x = c .before in omega (arith, length-append (loads x) (zeros-after (rows x)), loads-length x)
+array-share-prefix-loads c = let x = c .before in part-within (rows x) 16384 (start x .pre .1 .1 .1 .0 .1) (loads x) (x .arrange .kept .1 .1 .1 .0)
 
 slice-aggregate-actual-order-for-root : tie.Need-slice-aggregate-actual-order-for-root
-slice-aggregate-actual-order-for-root c = let x = c .before .before in sym (ap length (front x) ∙ loads-length x)
+slice-aggregate-actual-order-for-root c = size (c .before .before)
 
 actual-order-for-root-requires : tie.Need-actual-order-for-root-requires
 actual-order-for-root-requires c κs =

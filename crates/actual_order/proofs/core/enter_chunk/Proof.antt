@@ -3,14 +3,27 @@
 use mathlib.Core.Path.{refl, sym, ap, _∙_}
 use mathlib.Core.Bool.{Bool, cond}
 use mathlib.Core.List.{[]}
+use Prim.Native.Nat.{_+_}
 use native.Mathlib.Omega.{arith}
-use lib.ListN.{set}
+use lib.ListN.{getD, set}
 use borrow.Author.Needs.{needs}
 use Rattle.walk.proofs.Visits.{fresh-zero, fresh-not}
+use Rattle.tables.specs.Lookups.{FirstRow}
 use Rattle.tables.specs.Readings.{valuesOf}
 use Rattle.actual_order.proofs.Arranging.{values-rows}
+use Rattle.actual_order.proofs.Starting.{start-at}
 use Rattle.actual_order.proofs.core.enter_chunk.Statement.{statement}
 use Rattle.actual_order.proofs.core.enter_chunk.Tie as tie
+
+-- the chunk's first row, and the first behind its rows
+first : (e : tie.Start) → let a = e .args in FirstRow (a .import-chunk .now) (a .c) (getD (a .starts .now) (a .c) 0)
+first e = start-at (e .pre .1) (e .args .c) (omega (arith, e .pre .2))
+
+next : (e : tie.Start) → let a = e .args in FirstRow (a .import-chunk .now) (a .c + 1) (getD (a .starts .now) (a .c + 1) 0)
+next e = start-at (e .pre .1) (e .args .c + 1) (omega (arith, e .pre .2))
+
+abbrev entry : tie.Else1 → tie.Start
+entry t = t .before .before .before .before .before .before
 
 mul-if1 : tie.Need-mul-if1
 mul-if1 c = search needs
@@ -20,7 +33,7 @@ slice-read-if1 c = search needs
 
 returns : tie.Need-returns
 returns c =
-    let a = c .before .before .before .before .before .args in
+    let a = c .before .before .before .before .before .before .args in
     record { entered = sym (fresh-not (a .marks .now) (a .c) (c .if1 .taken)); marked = refl; leads = refl; within = omega arith }
 
 mul-marks : tie.Need-mul-marks
@@ -29,36 +42,46 @@ mul-marks c = search needs
 slice-write-marks : tie.Need-slice-write-marks
 slice-write-marks c = search needs
 
-first-row-requires : tie.Need-first-row-requires
-first-row-requires c κs = search needs
+mul-first : tie.Need-mul-first
+mul-first c = search needs
 
-add-first-row : tie.Need-add-first-row
-add-first-row c = search needs
+shared-slice-read-first : tie.Need-shared-slice-read-first
+shared-slice-read-first c = search needs
 
-first-row-requires-2 : tie.Need-first-row-requires-2
-first-row-requires-2 c κs = search needs
+cast-first : tie.Need-cast-first
+cast-first c = omega (arith, c .shared-slice-known4 .given (entry (c .before) .args .c))
+
+add-end : tie.Need-add-end
+add-end c = search needs
+
+mul-end : tie.Need-mul-end
+mul-end c = search needs
+
+shared-slice-read-end : tie.Need-shared-slice-read-end
+shared-slice-read-end c = search needs
+
+cast-end : tie.Need-cast-end
+cast-end c = omega (arith, c .shared-slice-known5 .given (entry (c .before .before) .args .c + 1))
 
 next-load-requires : tie.Need-next-load-requires
-next-load-requires c κs = search needs
+next-load-requires c κs = let e = entry (c .before .before) in omega (arith, next e .within, e .pre .0 .lengths)
 
 same-length : tie.Need-same-length
 same-length c = search needs
 
 returns-2 : tie.Need-returns-2
 returns-2 c =
-    let start = c .before .before .first-row in
-    let next = c .before .first-row2 in
-    let test = c .before .before .before .if1 in
-    let e = c .before .before .before .before .before .before .before .before in
+    let test = c .before .before .before in
+    let e = entry test in
     let a = e .args in
     let r = c .next-load .ensures in
     record {
-      entered = r .entered ∙ sym (fresh-zero (a .marks .now) (a .c) (e .pre .1) (test .left));
+      entered = r .entered ∙ sym (fresh-zero (a .marks .now) (a .c) (e .pre .2) (test .if1 .left));
       marked = ap (λ (b : Bool). cond b (set (a .marks .now) (a .c) 1) (a .marks .now)) (sym (r .entered));
       leads = r .rest
-          ∙ sym (values-rows (a .import-chunk .now) (a .loads .now) (a .c) (start .result) (next .result) (start .ensures) (next .ensures))
+          ∙ sym (values-rows (a .import-chunk .now) (a .loads .now) (a .c) (getD (a .starts .now) (a .c) 0) (getD (a .starts .now) (a .c + 1) 0) (first e) (next e))
           ∙ ap (λ (b : Bool). cond b (valuesOf (a .import-chunk .now) (a .loads .now) (a .c)) []) (sym (r .entered));
-      within = omega (arith, r .end, next .ensures .within, e .pre .0 .lengths);
+      within = omega (arith, r .end, next e .within, e .pre .0 .lengths);
     }
 
 pub enter-chunk-spec : {M : Type 1} → statement M
@@ -70,9 +93,13 @@ enter-chunk-spec =
     returns
     mul-marks
     slice-write-marks
-    first-row-requires
-    add-first-row
-    first-row-requires-2
+    mul-first
+    shared-slice-read-first
+    cast-first
+    add-end
+    mul-end
+    shared-slice-read-end
+    cast-end
     next-load-requires
     same-length
     returns-2)

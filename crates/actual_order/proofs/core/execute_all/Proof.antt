@@ -10,7 +10,7 @@ use Rattle.lists.specs.Words.{zeros}
 use Rattle.walk.specs.Walk.{St}
 use Rattle.walk.proofs.Visits.{zeros-le}
 use Rattle.actual_order.specs.Actual.{eagerMembers}
-use Rattle.actual_order.specs.Cores.{Fit, Filling, executing, hosted}
+use Rattle.actual_order.specs.Cores.{Fit, Starts, Filling, executing, hosted}
 use Rattle.actual_order.proofs.Filling.{Kept, turns-kept, host-visited}
 use Rattle.actual_order.proofs.Chunks.{root-plain, root-wrapped}
 use Rattle.actual_order.proofs.core.execute_all.Statement.{statement}
@@ -18,7 +18,7 @@ use Rattle.actual_order.proofs.core.execute_all.Tie as tie
 
 -- the entry, seen from the chunks' end
 abbrev entry : tie.After-execute-chunks → tie.Start
-entry x = x .before .before .before .before .before .before .before .before .before .before .before .before .before .before .before .before
+entry x = x .before .before .before .before .before .before .before .before .before .before .before .before .before .before .before .before .before .before
 
 abbrev begun : tie.After-execute-chunks → St Filling
 begun x = let a = entry x .args in executing (a .marks .now) (a .order .now) (a .hosts .now) 0
@@ -29,7 +29,7 @@ turns x = let a = entry x .args in flatMap (eagerMembers (a .wrap .now) (a .memb
 
 -- what they leave
 abbrev ended : tie.After-execute-chunks → St Filling
-ended x = let k = x .execute-chunks .last .1 .1 .1 .1 .1 .1 .1 .1 .1 in executing (k .0) (k .1 .0) (k .1 .1 .0) (x .execute-chunks .result .placed)
+ended x = let k = x .execute-chunks .last .1 .1 .1 .1 .1 .1 .1 .1 .1 .1 .1 in executing (k .0) (k .1 .0) (k .1 .1 .0) (x .execute-chunks .result .placed)
 
 unmet : (x : tie.After-execute-chunks) → zeros (begun x .marks) ≤ length (entry x .args .normal .now)
 unmet x = omega (arith, zeros-le (entry x .args .marks .now), entry x .pre .0 .normals)
@@ -38,13 +38,16 @@ kept : (x : tie.After-execute-chunks) → let a = entry x .args in Kept (a .norm
 kept x = let a = entry x .args in subst (Kept (a .normal .now) (a .included .now) (a .wrap .now) (a .record-module .now) (a .record-kind .now) (a .record-target .now) (begun x)) (x .execute-chunks .ensures .0) (turns-kept (a .normal .now) (a .included .now) (a .wrap .now) (a .record-module .now) (a .record-kind .now) (a .record-target .now) (begun x) (turns x) (unmet x))
 
 execute-chunks-requires : tie.Need-execute-chunks-requires
-execute-chunks-requires c κs = let e = c .before .before .before .before .before .before .before .before .before .before .before .before .before .before .before in (e .pre .0, (e .pre .1 .0, (e .pre .1 .1 .0, record { equal = refl; room = omega (arith, e .pre .1 .1 .1 .1 .0); limit = omega (arith, e .pre .1 .1 .1 .1 .1) })))
+execute-chunks-requires c κs =
+    let e = c .before .before .before .before .before .before .before .before .before .before .before .before .before .before .before .before .before in
+    let room = e .pre .1 .1 .1 .1 .1 .1 in
+    (e .pre .0, (e .pre .1 .0, (e .pre .1 .1 .0, (e .pre .1 .1 .1 .0, (e .pre .1 .1 .1 .1 .0, record { equal = refl; room = omega (arith, room .0); limit = omega (arith, room .1) })))))
 
 mul-if1 : tie.Need-mul-if1
 mul-if1 c = search needs
 
 shared-slice-read-if1 : tie.Need-shared-slice-read-if1
-shared-slice-read-if1 c = let e = entry (c .before .before .before .before .before .before .before) in omega (arith, e .pre .1 .1 .1 .0, e .pre .0 .wraps)
+shared-slice-read-if1 c = let e = entry (c .before .before .before .before .before .before .before) in omega (arith, e .pre .1 .1 .1 .1 .1 .0, e .pre .0 .wraps)
 
 same-length : tie.Need-same-length
 same-length c = search needs
@@ -68,9 +71,10 @@ execute-host-requires c κs =
     let a = e .args in
     let k = kept x in (
       subst (Fit (a .normal .now) (a .included .now) (a .wrap .now) (a .record-module .now) (a .record-kind .now) (a .record-target .now)) (sym (k .marks)) (e .pre .0),
-      k .hosts ∙ e .pre .1 .0 ∙ sym (k .marks),
-      omega (arith, k .marks, e .pre .1 .1 .1 .0),
-      record { equal = x .execute-chunks .ensures .1; room = omega (arith, k .room, k .order, e .pre .1 .1 .1 .1 .0); limit = omega (arith, k .room, e .pre .1 .1 .1 .1 .1) },
+      subst (Starts (a .record-module .now) (a .starts .now)) (sym (k .marks)) (e .pre .1 .0),
+      k .hosts ∙ e .pre .1 .1 .0 ∙ sym (k .marks),
+      omega (arith, k .marks, e .pre .1 .1 .1 .1 .1 .0),
+      record { equal = x .execute-chunks .ensures .1; room = omega (arith, k .room, k .order, e .pre .1 .1 .1 .1 .1 .1 .0); limit = omega (arith, k .room, e .pre .1 .1 .1 .1 .1 .1 .1) },
     )
 
 same-length-4 : tie.Need-same-length-4
@@ -88,7 +92,7 @@ returns-2 c =
     let t = v .before .before .before .before in
     let x = t .before .before .before .before .before .before .before .before in
     let a = entry x .args in
-    let k = v .execute-host .last .1 .1 .1 .1 .1 .1 in
+    let k = v .execute-host .last .1 .1 .1 .1 .1 .1 .1 in
     let u : St Filling = executing (k .0) (k .1 .0) (k .1 .1 .0) (v .execute-host .result .placed) in
     ap (foldl (hosted (a .normal .now) (a .included .now) (a .wrap .now) (a .record-module .now) (a .record-kind .now) (a .record-target .now)) (begun x)) (root-wrapped (a .wrap .now) (a .root) (turns x) (t .if1 .left))
     ∙ foldl-append (hosted (a .normal .now) (a .included .now) (a .wrap .now) (a .record-module .now) (a .record-kind .now) (a .record-target .now)) (begun x) (turns x) (a .root ∷ [])

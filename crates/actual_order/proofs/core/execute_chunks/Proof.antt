@@ -10,24 +10,24 @@ use Rattle.walk.specs.Walk.{St}
 use Rattle.walk.proofs.Visits.{zeros-le}
 use Rattle.tables.specs.Accepted.{Below}
 use Rattle.actual_order.specs.Actual.{unwrapped, eagerMembers}
-use Rattle.actual_order.specs.Cores.{Fit, Filling, executing, hosted}
+use Rattle.actual_order.specs.Cores.{Fit, Starts, Filling, executing, hosted}
 use Rattle.actual_order.proofs.Arranging.{values-below}
 use Rattle.actual_order.proofs.Filling.{Kept, Turns, turns-none, turns-keep, turns-more, turns-all}
 use Rattle.actual_order.proofs.core.execute_chunks.Statement.{statement}
 use Rattle.actual_order.proofs.core.execute_chunks.Tie as tie
 
 abbrev Inv-loop : tie.InvT-loop
-Inv-loop normal included wrap record-module record-kind record-target member-chunk member chunks marks₀ order₀ hosts₀ traversal₀ i₀ i-end marks order hosts traversal i =
+Inv-loop normal included wrap record-module record-kind record-target starts member-chunk member member-starts chunks marks₀ order₀ hosts₀ traversal₀ i₀ i-end marks order hosts traversal i =
     (i ≤ length chunks) × Turns normal included wrap record-module record-kind record-target (eagerMembers wrap member-chunk member) (executing marks₀ order₀ hosts₀ (traversal₀ .placed)) chunks i (executing marks order hosts (traversal .placed)) × (traversal .next ≡ traversal .placed)
 
 abbrev μ-loop : tie.MeasureT-loop
-μ-loop normal included wrap record-module record-kind record-target member-chunk member chunks marks₀ order₀ hosts₀ traversal₀ i₀ i-end marks order hosts traversal i = length chunks - i
+μ-loop normal included wrap record-module record-kind record-target starts member-chunk member member-starts chunks marks₀ order₀ hosts₀ traversal₀ i₀ i-end marks order hosts traversal i = length chunks - i
 
 abbrev Loop : Type 0
 Loop = tie.At-loop Inv-loop μ-loop
 
 abbrev entry : Loop → tie.Start Inv-loop μ-loop
-entry l = l .before .before .before .before .before .before .before .before .before .before .before .before .before
+entry l = l .before .before .before .before .before .before .before .before .before .before .before .before .before .before .before
 
 abbrev begun : Loop → St Filling
 begun l = let a = entry l .args in executing (a .marks .now) (a .order .now) (a .hosts .now) (a .before .placed)
@@ -47,17 +47,18 @@ kept l =
 
 loop-holds : tie.Need-loop-holds Inv-loop μ-loop
 loop-holds c =
-    let a = c .before .before .before .before .before .before .before .before .before .before .before .before .args in
-    (omega arith, turns-none (a .normal .now) (a .included .now) (a .wrap .now) (a .record-module .now) (a .record-kind .now) (a .record-target .now) (eagerMembers (a .wrap .now) (a .member-chunk .now) (a .member .now)) (executing (a .marks .now) (a .order .now) (a .hosts .now) (a .before .placed)) (a .chunks .now), c .before .before .before .before .before .before .before .before .before .before .before .before .pre .1 .1 .1 .equal)
+    let e = c .before .before .before .before .before .before .before .before .before .before .before .before .before .before in
+    let a = e .args in
+    (omega arith, turns-none (a .normal .now) (a .included .now) (a .wrap .now) (a .record-module .now) (a .record-kind .now) (a .record-target .now) (eagerMembers (a .wrap .now) (a .member-chunk .now) (a .member .now)) (executing (a .marks .now) (a .order .now) (a .hosts .now) (a .before .placed)) (a .chunks .now), e .pre .1 .1 .1 .1 .1 .equal)
 
-mul-members : tie.Need-mul-members Inv-loop μ-loop
-mul-members c = let l = c .before in omega (arith, c .loop-test .taken, entry l .good .1 .1 .1 .1 .1 .1 .1 .1 .0)
+mul-own-members : tie.Need-mul-own-members Inv-loop μ-loop
+mul-own-members c = let l = c .before in omega (arith, c .loop-test .taken, entry l .good .1 .1 .1 .1 .1 .1 .1 .1 .1 .1 .0)
 
-shared-slice-read-members : tie.Need-shared-slice-read-members Inv-loop μ-loop
-shared-slice-read-members c = c .before .loop-test .taken
+shared-slice-read-own-members : tie.Need-shared-slice-read-own-members Inv-loop μ-loop
+shared-slice-read-own-members c = c .before .loop-test .taken
 
-members-requires : tie.Need-members-requires Inv-loop μ-loop
-members-requires c κs = let e = entry (c .before .before) in (e .pre .1 .1 .0 .rising, e .pre .1 .1 .0 .lengths)
+own-members-requires : tie.Need-own-members-requires Inv-loop μ-loop
+own-members-requires c κs = let l = c .before .before in let e = entry l in (e .pre .1 .1 .1 .1 .0 (l .loop .i) (c .before .loop-test .taken), e .pre .1 .1 .1 .0 .lengths)
 
 execute-members-requires : tie.Need-execute-members-requires Inv-loop μ-loop
 execute-members-requires c κs =
@@ -69,16 +70,19 @@ execute-members-requires c κs =
     let n : ℕ = length (a .marks .now) in (
       subst (Fit (a .normal .now) (a .included .now) (a .wrap .now) (a .record-module .now) (a .record-kind .now) (a .record-target .now)) (sym (k .marks)) (e .pre .0),
       (
-        k .hosts ∙ e .pre .1 .0 ∙ sym (k .marks),
+        subst (Starts (a .record-module .now) (a .starts .now)) (sym (k .marks)) (e .pre .1 .0),
         (
-          subst (λ (j : ℕ). Below j (m .members .result .now)) (sym (k .marks)) (subst (Below n) (sym (m .members .ensures)) (values-below n (a .member-chunk .now) (a .member .now) (getD (a .chunks .now) (l .loop .i) 0) (e .pre .1 .1 .0 .lengths) (e .pre .1 .1 .0 .inside))),
-          record { equal = l .loop .inv .2; room = omega (arith, k .room, k .order, e .pre .1 .1 .1 .room); limit = omega (arith, k .room, e .pre .1 .1 .1 .limit) },
+          k .hosts ∙ e .pre .1 .1 .0 ∙ sym (k .marks),
+          (
+            subst (λ (j : ℕ). Below j (m .own-members .result .now)) (sym (k .marks)) (subst (Below n) (sym (m .own-members .ensures)) (values-below n (a .member-chunk .now) (a .member .now) (getD (a .chunks .now) (l .loop .i) 0) (e .pre .1 .1 .1 .0 .lengths) (e .pre .1 .1 .1 .0 .inside))),
+            record { equal = l .loop .inv .2; room = omega (arith, k .room, k .order, e .pre .1 .1 .1 .1 .1 .room); limit = omega (arith, k .room, e .pre .1 .1 .1 .1 .1 .limit) },
+          ),
         ),
       ),
     )
 
 add-i : tie.Need-add-i Inv-loop μ-loop
-add-i c = let l = c .before .before .before .before .before .before .before .before .before .before .before .before .before in omega (arith, c .before .before .before .before .before .before .before .before .before .before .before .before .loop-test .taken, entry l .good .1 .1 .1 .1 .1 .1 .1 .1 .0)
+add-i c = let l = c .before .before .before .before .before .before .before .before .before .before .before .before .before in omega (arith, c .before .before .before .before .before .before .before .before .before .before .before .before .loop-test .taken, entry l .good .1 .1 .1 .1 .1 .1 .1 .1 .1 .1 .0)
 
 loop-less : tie.Need-loop-less Inv-loop μ-loop
 loop-less c = omega (arith, c .before .before .before .before .before .before .before .before .before .before .before .before .loop-test .taken)
@@ -91,11 +95,11 @@ loop-again c =
     let h = m .before .before .loop-test .taken in
     let l = m .before .before .before in
     let a = entry l .args in
-    let x = v .execute-members .last .1 .1 .1 .1 .1 .1 .1 in
+    let x = v .execute-members .last .1 .1 .1 .1 .1 .1 .1 .1 in
     let u : St Filling = executing (x .0) (x .1 .0) (x .1 .1 .0) (v .execute-members .result .placed) in (
       omega arith,
       turns-more (a .normal .now) (a .included .now) (a .wrap .now) (a .record-module .now) (a .record-kind .now) (a .record-target .now) (own l) (begun l) (a .chunks .now) (l .loop .i) (now-at l) u h (l .loop .inv .1)
-          (ap (λ (k : List ℕ). foldl (hosted (a .normal .now) (a .included .now) (a .wrap .now) (a .record-module .now) (a .record-kind .now) (a .record-target .now)) (now-at l) (keep (unwrapped (a .wrap .now)) k)) (sym (m .members .ensures)) ∙ v .execute-members .ensures .0),
+          (ap (λ (k : List ℕ). foldl (hosted (a .normal .now) (a .included .now) (a .wrap .now) (a .record-module .now) (a .record-kind .now) (a .record-target .now)) (now-at l) (keep (unwrapped (a .wrap .now)) k)) (sym (m .own-members .ensures)) ∙ v .execute-members .ensures .0),
       v .execute-members .ensures .1,
     )
 
@@ -121,9 +125,9 @@ execute-chunks-spec =
     Inv-loop
     μ-loop
     loop-holds
-    mul-members
-    shared-slice-read-members
-    members-requires
+    mul-own-members
+    shared-slice-read-own-members
+    own-members-requires
     execute-members-requires
     add-i
     loop-less

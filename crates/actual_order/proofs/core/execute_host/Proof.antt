@@ -60,19 +60,19 @@ use Rattle.actual_order.proofs.core.execute_host.Statement as stated
 use Rattle.actual_order.proofs.core.execute_host.Code as code
 
 abbrev stayed : Stays (f.ended .signature .params) (f.ended .kept)
-stayed = (stay-none-slice (0 ∷ []) tt (plain (λ _. u32)) yes, (stay-none-slice (0 ∷ []) tt (plain (λ _. u32)) yes, (stay-none-slice (0 ∷ []) tt (plain (λ _. u32)) yes, (stay-none-slice (0 ∷ []) tt (plain (λ _. u32)) yes, (stay-none-slice (0 ∷ []) tt (plain (λ _. u32)) yes, (stay-none-slice (0 ∷ []) tt (plain (λ _. u32)) yes, (gave-slice (1 ∷ []) tt (plain (λ _. u32)), (gave-slice (2 ∷ []) tt (plain (λ _. u32)), (gave-slice (3 ∷ []) tt (plain (λ _. u32)), (stay-none (λ _. u32) yes, (stay-none (λ _. T.the-row) yes, tt)))))))))))
+stayed = (stay-none-slice (0 ∷ []) tt (plain (λ _. u32)) yes, (stay-none-slice (0 ∷ []) tt (plain (λ _. u32)) yes, (stay-none-slice (0 ∷ []) tt (plain (λ _. u32)) yes, (stay-none-slice (0 ∷ []) tt (plain (λ _. u32)) yes, (stay-none-slice (0 ∷ []) tt (plain (λ _. u32)) yes, (stay-none-slice (0 ∷ []) tt (plain (λ _. u32)) yes, (stay-none-slice (0 ∷ []) tt (plain (λ _. u32)) yes, (gave-slice (1 ∷ []) tt (plain (λ _. u32)), (gave-slice (2 ∷ []) tt (plain (λ _. u32)), (gave-slice (3 ∷ []) tt (plain (λ _. u32)), (stay-none (λ _. u32) yes, (stay-none (λ _. T.the-row) yes, tt))))))))))))
 
 -- the contract that the proof cites
 abbrev Callee : {M : Type 1} (𝓤 : URA M) (H : Heap 𝓤) (A : Atoms 𝓤) (at-mem : Memory → SProp 𝓤) (run : Routine → Fun 𝓤) → Contract 𝓤
 Callee 𝓤 H A at-mem run = tripleOf 𝓤 H A g.signature (g.spec 𝓤 H A at-mem run)
 
 module _ {M : Type 1} (𝓤 : URA M) (H : Heap 𝓤) (A : Atoms 𝓤) (W : Given 𝓤 H A) (at-mem : Memory → SProp 𝓤) (run : Routine → Fun 𝓤)
-    (κ₀ κm κo κh : Lft) (q₀ qm qo qh : Share) (x₁ x₂ x₃ x₄ x₅ x₆ : Slice) (bm om : ℕ) (γm : GName) (bo oo : ℕ) (γo : GName) (bh oh : ℕ) (γh : GName) (marks order hosts : List ℕ) (host : ℕ) (h : ActualOrderTraversal) where
-  abbrev args : Slice × (Slice × (Slice × (Slice × (Slice × (Slice × (Slice × (Slice × (Slice × (ℕ × (ActualOrderTraversal × Unit {0}))))))))))
-  args = (x₁, (x₂, (x₃, (x₄, (x₅, (x₆, (list bm om γm marks, (list bo oo γo order, (list bh oh γh hosts, (host, (h, tt)))))))))))
+    (κ₀ κm κo κh : Lft) (q₀ qm qo qh : Share) (x₁ x₂ x₃ x₄ x₅ x₆ x₇ : Slice) (bm om : ℕ) (γm : GName) (bo oo : ℕ) (γo : GName) (bh oh : ℕ) (γh : GName) (marks order hosts : List ℕ) (host : ℕ) (h : ActualOrderTraversal) where
+  abbrev args : Slice × (Slice × (Slice × (Slice × (Slice × (Slice × (Slice × (Slice × (Slice × (Slice × (ℕ × (ActualOrderTraversal × Unit {0})))))))))))
+  args = (x₁, (x₂, (x₃, (x₄, (x₅, (x₆, (x₇, (list bm om γm marks, (list bo oo γo order, (list bh oh γh hosts, (host, (h, tt))))))))))))
 
-  abbrev vals : List Val × (List Val × (List Val × (List Val × (List Val × (List Val × (List Val × (List Val × (List Val × (List Val × (List Val × Unit {0}))))))))))
-  vals = (count-of x₁ ∷ [], (count-of x₂ ∷ [], (count-of x₃ ∷ [], (count-of x₄ ∷ [], (count-of x₅ ∷ [], (count-of x₆ ∷ [], (sliceVal (bm, om) (length marks) ∷ [], (sliceVal (bo, oo) (length order) ∷ [], (sliceVal (bh, oh) (length hosts) ∷ [], (vint w32 host ∷ [], (mach h ∷ [], tt)))))))))))
+  abbrev vals : List Val × (List Val × (List Val × (List Val × (List Val × (List Val × (List Val × (List Val × (List Val × (List Val × (List Val × (List Val × Unit {0})))))))))))
+  vals = (count-of x₁ ∷ [], (count-of x₂ ∷ [], (count-of x₃ ∷ [], (count-of x₄ ∷ [], (count-of x₅ ∷ [], (count-of x₆ ∷ [], (count-of x₇ ∷ [], (sliceVal (bm, om) (length marks) ∷ [], (sliceVal (bo, oo) (length order) ∷ [], (sliceVal (bh, oh) (length hosts) ∷ [], (vint w32 host ∷ [], (mach h ∷ [], tt))))))))))))
 
   abbrev Post : Val → SProp 𝓤
   Post = walkOf 𝓤 H A f.ended stayed (f.clauses 𝓤 H A at-mem run) .post (((κ₀, (κm, (κo, (κh, tt)))), (q₀, (qm, (qo, (qh, tt)))), tt, args, vals), tt)
@@ -82,76 +82,76 @@ module _ {M : Type 1} (𝓤 : URA M) (H : Heap 𝓤) (A : Atoms 𝓤) (W : Given
   cs l δ k = record { ptr = (l, 0); name = δ; now = k }
 
   abbrev to-g : ℕ → ℕ → GName → Callee 𝓤 H A at-mem run .Ghost
-  to-g l α δ = (((κ₀, (κm, (κo, (κh, (α ∷ [], tt))))), (q₀, (qm, (qo, (qh, (fullShare, tt))))), tt, (x₁, (x₂, (x₃, (x₄, (x₅, (x₆, (list bm om γm marks, (list bo oo γo order, (list bh oh γh hosts, (host, (host, (cs l δ h, tt)))))))))))), (count-of x₁ ∷ [], (count-of x₂ ∷ [], (count-of x₃ ∷ [], (count-of x₄ ∷ [], (count-of x₅ ∷ [], (count-of x₆ ∷ [], (sliceVal (bm, om) (length marks) ∷ [], (sliceVal (bo, oo) (length order) ∷ [], (sliceVal (bh, oh) (length hosts) ∷ [], (vint w32 host ∷ [], (vint w32 host ∷ [], (vptr l 0 ∷ [], tt))))))))))))), tt)
+  to-g l α δ = (((κ₀, (κm, (κo, (κh, (α ∷ [], tt))))), (q₀, (qm, (qo, (qh, (fullShare, tt))))), tt, (x₁, (x₂, (x₃, (x₄, (x₅, (x₆, (x₇, (list bm om γm marks, (list bo oo γo order, (list bh oh γh hosts, (host, (host, (cs l δ h, tt))))))))))))), (count-of x₁ ∷ [], (count-of x₂ ∷ [], (count-of x₃ ∷ [], (count-of x₄ ∷ [], (count-of x₅ ∷ [], (count-of x₆ ∷ [], (count-of x₇ ∷ [], (sliceVal (bm, om) (length marks) ∷ [], (sliceVal (bo, oo) (length order) ∷ [], (sliceVal (bh, oh) (length hosts) ∷ [], (vint w32 host ∷ [], (vint w32 host ∷ [], (vptr l 0 ∷ [], tt)))))))))))))), tt)
 
-  goes : (l α : ℕ) (δ : GName) → host < 2 ^ 32 → Needs (x₁ .now) (x₂ .now) (x₃ .now) (x₄ .now) (x₅ .now) (x₆ .now) marks order hosts host h
-      → ent 𝓤 (sep 𝓤 (⋆ 𝓤 H A ((‵ (flft κ₀ q₀) ⊛ ‵ (flft κm qm) ⊛ ‵ (flft κo qo) ⊛ ‵ (flft κh qh) ⊛ ‵ (flft (α ∷ []) fullShare) ⊛ ‵ ftrue) ∷ [])) (⋆ 𝓤 H A ((‵ (own-col κ₀ x₁) ⊛ ‵ (own-col κ₀ x₂) ⊛ ‵ (own-col κ₀ x₃) ⊛ ‵ (own-col κ₀ x₄) ⊛ ‵ (own-col κ₀ x₅) ⊛ ‵ (own-col κ₀ x₆) ⊛ ‵ (owned-list bm om κm γm (length marks) marks) ⊛ ‵ (owned-list bo oo κo γo (length order) order) ⊛ ‵ (owned-list bh oh κh γh (length hosts) hosts) ⊛ ‵ (MutRef (named 0) (α ∷ []) T.the-row .own (cs l δ h) (vptr l 0 ∷ []))) ∷ []))) (Callee 𝓤 H A at-mem run .pre (to-g l α δ))
+  goes : (l α : ℕ) (δ : GName) → host < 2 ^ 32 → Needs (x₁ .now) (x₂ .now) (x₃ .now) (x₄ .now) (x₅ .now) (x₆ .now) (x₇ .now) marks order hosts host h
+      → ent 𝓤 (sep 𝓤 (⋆ 𝓤 H A ((‵ (flft κ₀ q₀) ⊛ ‵ (flft κm qm) ⊛ ‵ (flft κo qo) ⊛ ‵ (flft κh qh) ⊛ ‵ (flft (α ∷ []) fullShare) ⊛ ‵ ftrue) ∷ [])) (⋆ 𝓤 H A ((‵ (own-col κ₀ x₁) ⊛ ‵ (own-col κ₀ x₂) ⊛ ‵ (own-col κ₀ x₃) ⊛ ‵ (own-col κ₀ x₄) ⊛ ‵ (own-col κ₀ x₅) ⊛ ‵ (own-col κ₀ x₆) ⊛ ‵ (own-col κ₀ x₇) ⊛ ‵ (owned-list bm om κm γm (length marks) marks) ⊛ ‵ (owned-list bo oo κo γo (length order) order) ⊛ ‵ (owned-list bh oh κh γh (length hosts) hosts) ⊛ ‵ (MutRef (named 0) (α ∷ []) T.the-row .own (cs l δ h) (vptr l 0 ∷ []))) ∷ []))) (Callee 𝓤 H A at-mem run .pre (to-g l α δ))
   goes l α δ host-fits within =
-      qed W ((‵ (flft κ₀ q₀) ⊛ ‵ (flft κm qm) ⊛ ‵ (flft κo qo) ⊛ ‵ (flft κh qh) ⊛ ‵ (flft (α ∷ []) fullShare) ⊛ ‵ ftrue) ∷ (‵ (own-col κ₀ x₁) ⊛ ‵ (own-col κ₀ x₂) ⊛ ‵ (own-col κ₀ x₃) ⊛ ‵ (own-col κ₀ x₄) ⊛ ‵ (own-col κ₀ x₅) ⊛ ‵ (own-col κ₀ x₆) ⊛ ‵ (owned-list bm om κm γm (length marks) marks) ⊛ ‵ (owned-list bo oo κo γo (length order) order) ⊛ ‵ (owned-list bh oh κh γh (length hosts) hosts) ⊛ ‵ (MutRef (named 0) (α ∷ []) T.the-row .own (cs l δ h) (vptr l 0 ∷ []))) ∷ []) ∵ says ! within $ frame ! $
-      split ! $ move ! (1 ∷ []) $ split ! $ move ! (1 ∷ []) $ split ! $ move ! (1 ∷ []) $ split ! $ move ! (1 ∷ []) $ split ! $ move ! (1 ∷ []) $ split ! $ move ! (1 ∷ []) $ split ! $ move ! (1 ∷ []) $ split ! $ move ! (1 ∷ []) $ split ! $ nothing ! $ move ! (2 ∷ 0 ∷ []) $ fjoin ! $ owned ! u32 (Is u32) (uint-makes 𝓤 H A W w32) host _ (refl, host-fits) $ fjoin ! $ owned ! u32 (Is u32) (uint-makes 𝓤 H A W w32) host _ (refl, host-fits) $ fjoin ! $ move ! (1 ∷ 0 ∷ []) $ fjoin ! $ move ! (1 ∷ 0 ∷ []) $ fjoin ! $ move ! (1 ∷ 0 ∷ []) $ fjoin ! $ move ! (1 ∷ 0 ∷ []) $ fjoin ! $ move ! (1 ∷ 0 ∷ []) $ fjoin ! $ move ! (1 ∷ 0 ∷ []) $ fjoin ! $ move ! (1 ∷ 0 ∷ []) $ fjoin ! $ move ! (1 ∷ 0 ∷ []) $ fjoin ! $ move ! (1 ∷ 0 ∷ []) $ fjoin ! $ done !
+      qed W ((‵ (flft κ₀ q₀) ⊛ ‵ (flft κm qm) ⊛ ‵ (flft κo qo) ⊛ ‵ (flft κh qh) ⊛ ‵ (flft (α ∷ []) fullShare) ⊛ ‵ ftrue) ∷ (‵ (own-col κ₀ x₁) ⊛ ‵ (own-col κ₀ x₂) ⊛ ‵ (own-col κ₀ x₃) ⊛ ‵ (own-col κ₀ x₄) ⊛ ‵ (own-col κ₀ x₅) ⊛ ‵ (own-col κ₀ x₆) ⊛ ‵ (own-col κ₀ x₇) ⊛ ‵ (owned-list bm om κm γm (length marks) marks) ⊛ ‵ (owned-list bo oo κo γo (length order) order) ⊛ ‵ (owned-list bh oh κh γh (length hosts) hosts) ⊛ ‵ (MutRef (named 0) (α ∷ []) T.the-row .own (cs l δ h) (vptr l 0 ∷ []))) ∷ []) ∵ says ! within $ frame ! $
+      split ! $ move ! (1 ∷ []) $ split ! $ move ! (1 ∷ []) $ split ! $ move ! (1 ∷ []) $ split ! $ move ! (1 ∷ []) $ split ! $ move ! (1 ∷ []) $ split ! $ move ! (1 ∷ []) $ split ! $ move ! (1 ∷ []) $ split ! $ move ! (1 ∷ []) $ split ! $ move ! (1 ∷ []) $ split ! $ nothing ! $ move ! (2 ∷ 0 ∷ []) $ fjoin ! $ owned ! u32 (Is u32) (uint-makes 𝓤 H A W w32) host _ (refl, host-fits) $ fjoin ! $ owned ! u32 (Is u32) (uint-makes 𝓤 H A W w32) host _ (refl, host-fits) $ fjoin ! $ move ! (1 ∷ 0 ∷ []) $ fjoin ! $ move ! (1 ∷ 0 ∷ []) $ fjoin ! $ move ! (1 ∷ 0 ∷ []) $ fjoin ! $ move ! (1 ∷ 0 ∷ []) $ fjoin ! $ move ! (1 ∷ 0 ∷ []) $ fjoin ! $ move ! (1 ∷ 0 ∷ []) $ fjoin ! $ move ! (1 ∷ 0 ∷ []) $ fjoin ! $ move ! (1 ∷ 0 ∷ []) $ fjoin ! $ move ! (1 ∷ 0 ∷ []) $ fjoin ! $ move ! (1 ∷ 0 ∷ []) $ fjoin ! $ done !
 
   abbrev Had : List ℕ → List ℕ → List ℕ → List (Item 𝓤)
-  Had zm zo zh = ‵ (own-col κ₀ x₁) ∷ ‵ (own-col κ₀ x₂) ∷ ‵ (own-col κ₀ x₃) ∷ ‵ (own-col κ₀ x₄) ∷ ‵ (own-col κ₀ x₅) ∷ ‵ (own-col κ₀ x₆) ∷ (‵ (flft κ₀ q₀) ⊛ ‵ (flft κm qm) ⊛ ‵ (flft κo qo) ⊛ ‵ (flft κh qh) ⊛ ‵ ftrue) ∷ ‵ (finally u32 γm zm) ∷ ‵ (finally u32 γo zo) ∷ ‵ (finally u32 γh zh) ∷ []
+  Had zm zo zh = ‵ (own-col κ₀ x₁) ∷ ‵ (own-col κ₀ x₂) ∷ ‵ (own-col κ₀ x₃) ∷ ‵ (own-col κ₀ x₄) ∷ ‵ (own-col κ₀ x₅) ∷ ‵ (own-col κ₀ x₆) ∷ ‵ (own-col κ₀ x₇) ∷ (‵ (flft κ₀ q₀) ⊛ ‵ (flft κm qm) ⊛ ‵ (flft κo qo) ⊛ ‵ (flft κh qh) ⊛ ‵ ftrue) ∷ ‵ (finally u32 γm zm) ∷ ‵ (finally u32 γo zo) ∷ ‵ (finally u32 γh zh) ∷ []
 
-  exits : host < 2 ^ 32 → Is T.the-row h (mach h ∷ []) → (zm zo zh : List ℕ) (r : ActualOrderTraversal) → Is T.the-row r (mach r ∷ []) → Says (x₁ .now) (x₂ .now) (x₃ .now) (x₄ .now) (x₅ .now) (x₆ .now) marks order hosts host host h zm zo zh r → length zm ≡ length marks → length zo ≡ length order → length zh ≡ length hosts → ent 𝓤 (⋆ 𝓤 H A (Had zm zo zh)) (Post (mach r))
+  exits : host < 2 ^ 32 → Is T.the-row h (mach h ∷ []) → (zm zo zh : List ℕ) (r : ActualOrderTraversal) → Is T.the-row r (mach r ∷ []) → Says (x₁ .now) (x₂ .now) (x₃ .now) (x₄ .now) (x₅ .now) (x₆ .now) (x₇ .now) marks order hosts host host h zm zo zh r → length zm ≡ length marks → length zo ≡ length order → length zh ≡ length hosts → ent 𝓤 (⋆ 𝓤 H A (Had zm zo zh)) (Post (mach r))
   exits host-fits was zm zo zh r is e em eo eh =
-      qed W (Had zm zo zh) ∵ suffices ! _ (ends-at 𝓤 H A f.ended stayed (f.clauses 𝓤 H A at-mem run) W (((κ₀, (κm, (κo, (κh, tt)))), (q₀, (qm, (qo, (qh, tt)))), tt, args, vals), tt) (mach r) r (tt, (tt, (tt, (tt, (tt, (tt, (zm, (zo, (zh, (tt, (tt, tt))))))))))) (tt, (tt, (tt, (tt, (tt, (tt, (em, (eo, (eh, (tt, (tt, tt)))))))))))) $ says ! e $
-      move ! (6 ∷ []) $ frame ! $ nothing ! $ owned ! T.the-row (Is T.the-row) ((LL.makes T.the-type T′.the-plain) 𝓤 H A) h _ was $ fjoin ! $ owned ! u32 (Is u32) (uint-makes 𝓤 H A W w32) host _ (refl, host-fits) $ fjoin ! $ move ! (9 ∷ 0 ∷ []) $ fjoin ! $ move ! (8 ∷ 0 ∷ []) $ fjoin ! $ move ! (7 ∷ 0 ∷ []) $ fjoin ! $ move ! (6 ∷ 0 ∷ []) $ fjoin ! $ move ! (5 ∷ 0 ∷ []) $ fjoin ! $ move ! (4 ∷ 0 ∷ []) $ fjoin ! $ move ! (3 ∷ 0 ∷ []) $ fjoin ! $ move ! (2 ∷ 0 ∷ []) $ fjoin ! $ move ! (1 ∷ 0 ∷ []) $ fjoin ! $
+      qed W (Had zm zo zh) ∵ suffices ! _ (ends-at 𝓤 H A f.ended stayed (f.clauses 𝓤 H A at-mem run) W (((κ₀, (κm, (κo, (κh, tt)))), (q₀, (qm, (qo, (qh, tt)))), tt, args, vals), tt) (mach r) r (tt, (tt, (tt, (tt, (tt, (tt, (tt, (zm, (zo, (zh, (tt, (tt, tt)))))))))))) (tt, (tt, (tt, (tt, (tt, (tt, (tt, (em, (eo, (eh, (tt, (tt, tt))))))))))))) $ says ! e $
+      move ! (7 ∷ []) $ frame ! $ nothing ! $ owned ! T.the-row (Is T.the-row) ((LL.makes T.the-type T′.the-plain) 𝓤 H A) h _ was $ fjoin ! $ owned ! u32 (Is u32) (uint-makes 𝓤 H A W w32) host _ (refl, host-fits) $ fjoin ! $ move ! (10 ∷ 0 ∷ []) $ fjoin ! $ move ! (9 ∷ 0 ∷ []) $ fjoin ! $ move ! (8 ∷ 0 ∷ []) $ fjoin ! $ move ! (7 ∷ 0 ∷ []) $ fjoin ! $ move ! (6 ∷ 0 ∷ []) $ fjoin ! $ move ! (5 ∷ 0 ∷ []) $ fjoin ! $ move ! (4 ∷ 0 ∷ []) $ fjoin ! $ move ! (3 ∷ 0 ∷ []) $ fjoin ! $ move ! (2 ∷ 0 ∷ []) $ fjoin ! $ move ! (1 ∷ 0 ∷ []) $ fjoin ! $
       owned ! T.the-row (Is T.the-row) ((LL.makes T.the-type T′.the-plain) 𝓤 H A) r _ is $ move ! (1 ∷ 0 ∷ []) $ done !
 
   module _ (C : Calls 𝓤 H) (Λ : Loops 𝓤 H) (fm : FmC 𝓤 H (W .laws) C) (known : Triple 𝓤 (C #execute-actual-module) (Callee 𝓤 H A at-mem run)) where
-    walk : Room u32 (length (x₁ .now)) → Room u32 (length (x₂ .now)) → Room u32 (length (x₃ .now)) → Room u32 (length (x₄ .now)) → Room u32 (length (x₅ .now)) → Room u32 (length (x₆ .now)) → Room u32 (length marks) → Room u32 (length order) → Room u32 (length hosts) → host < 2 ^ 32 → Is T.the-row h (mach h ∷ []) → Needs (x₁ .now) (x₂ .now) (x₃ .now) (x₄ .now) (x₅ .now) (x₆ .now) marks order hosts host h
-        → ent 𝓤 (onEntry 𝓤 H A f.signature (κ₀, (κm, (κo, (κh, tt)))) (q₀, (qm, (qo, (qh, tt)))) args vals) (WpFn 𝓤 H C Λ code.function (count-of x₁ ∷ count-of x₂ ∷ count-of x₃ ∷ count-of x₄ ∷ count-of x₅ ∷ count-of x₆ ∷ sliceVal (bm, om) (length marks) ∷ sliceVal (bo, oo) (length order) ∷ sliceVal (bh, oh) (length hosts) ∷ vint w32 host ∷ mach h ∷ []) Post)
+    walk : Room u32 (length (x₁ .now)) → Room u32 (length (x₂ .now)) → Room u32 (length (x₃ .now)) → Room u32 (length (x₄ .now)) → Room u32 (length (x₅ .now)) → Room u32 (length (x₆ .now)) → Room u32 (length (x₇ .now)) → Room u32 (length marks) → Room u32 (length order) → Room u32 (length hosts) → host < 2 ^ 32 → Is T.the-row h (mach h ∷ []) → Needs (x₁ .now) (x₂ .now) (x₃ .now) (x₄ .now) (x₅ .now) (x₆ .now) (x₇ .now) marks order hosts host h
+        → ent 𝓤 (onEntry 𝓤 H A f.signature (κ₀, (κm, (κo, (κh, tt)))) (q₀, (qm, (qo, (qh, tt)))) args vals) (WpFn 𝓤 H C Λ code.function (count-of x₁ ∷ count-of x₂ ∷ count-of x₃ ∷ count-of x₄ ∷ count-of x₅ ∷ count-of x₆ ∷ count-of x₇ ∷ sliceVal (bm, om) (length marks) ∷ sliceVal (bo, oo) (length order) ∷ sliceVal (bh, oh) (length hosts) ∷ vint w32 host ∷ mach h ∷ []) Post)
     unfolding partOf
-    walk room1 room2 room3 room4 room5 room6 room-m room-o room-h host-fits was within =
-        qed W ((‵ (flft κ₀ q₀) ⊛ ‵ (flft κm qm) ⊛ ‵ (flft κo qo) ⊛ ‵ (flft κh qh) ⊛ ‵ ftrue) ∷ ‵ (owns (ShrSlice (named 0) κ₀ u32 ∷ ShrSlice (named 0) κ₀ u32 ∷ ShrSlice (named 0) κ₀ u32 ∷ ShrSlice (named 0) κ₀ u32 ∷ ShrSlice (named 0) κ₀ u32 ∷ ShrSlice (named 0) κ₀ u32 ∷ MutSlice (named 1) κm u32 ∷ MutSlice (named 2) κo u32 ∷ MutSlice (named 3) κh u32 ∷ u32 ∷ T.the-row ∷ []) args vals) ∷ []) ∵ enters ! C Λ code.function (count-of x₁ ∷ count-of x₂ ∷ count-of x₃ ∷ count-of x₄ ∷ count-of x₅ ∷ count-of x₆ ∷ sliceVal (bm, om) (length marks) ∷ sliceVal (bo, oo) (length order) ∷ sliceVal (bh, oh) (length hosts) ∷ vint w32 host ∷ mach h ∷ []) _ $
-        alloc1 ! (λ l₀. alloc1 ! (λ l₁. alloc1 ! (λ l₂. alloc1 ! (λ l₃. alloc1 ! (λ l₄. alloc1 ! (λ l₅. alloc1 ! (λ l₆. alloc1 ! (λ l₇. alloc1 ! (λ l₈. alloc1 ! (λ l₉. alloc1 ! (λ l₁₀. alloc1 ! (λ l₁₁. alloc1 ! (λ l₁₂. alloc1 ! (λ l₁₃. alloc1 ! (λ l₁₄. alloc1 ! (λ l₁₅. alloc1 ! (λ l₁₆. alloc1 ! (λ l₁₇. alloc1 ! (λ l₁₈. alloc1 ! (λ l₁₉. alloc1 ! (λ l₂₀. alloc0 ! $ params1 ! $
-        pass1 ! (init ! 38 refl (tt, (tt, (record { fits = room1 .0 }, tt)))) $ pass1 ! (init ! 36 refl (tt, (tt, (record { fits = room2 .0 }, tt)))) $ pass1 ! (init ! 34 refl (tt, (tt, (record { fits = room3 .0 }, tt)))) $ pass1 ! (init ! 32 refl (tt, (tt, (record { fits = room4 .0 }, tt)))) $ pass1 ! (init ! 30 refl (tt, (tt, (record { fits = room5 .0 }, tt)))) $ pass1 ! (init ! 28 refl (tt, (tt, (record { fits = room6 .0 }, tt)))) $ pass1 ! (init ! 26 refl (tt, (tt, (record { fits = room-m .0 }, tt)))) $ pass1 ! (init ! 24 refl (tt, (tt, (record { fits = room-o .0 }, tt)))) $ pass1 ! (init ! 22 refl (tt, (tt, (record { fits = room-h .0 }, tt)))) $ pass1 ! (init ! 20 refl (tt, record { fits = host-fits })) $ pass1 ! (init ! 18 refl (LL.lawful T.the-type T′.the-laws 𝓤 H A W .typed h _ was .0)) $ pass0 ! $
-        move ! (43 ∷ []) $ fsplit ! $ move ! (1 ∷ []) $ fsplit ! $ move ! (1 ∷ []) $ fsplit ! $ move ! (1 ∷ []) $ fsplit ! $ move ! (1 ∷ []) $ fsplit ! $ move ! (1 ∷ []) $ fsplit ! $ move ! (1 ∷ []) $ fsplit ! $ move ! (1 ∷ []) $ fsplit ! $ move ! (1 ∷ []) $ fsplit ! $ move ! (1 ∷ []) $ fsplit ! $ move ! (1 ∷ []) $ fsplit ! $ move ! (54 ∷ []) $ split ! $ move ! (1 ∷ []) $ split ! $ move ! (1 ∷ []) $ split ! $ move ! (1 ∷ []) $ split ! $
-        assigns ! (of-opd ! (load ! (from ! (stop !)) (look ! 35 refl))) (from ! (stop !)) (init ! 33 refl (LL.lawful T.the-type T′.the-laws 𝓤 H A W .typed h _ was .0)) $
-        assigns ! (addr ! (from ! (fld ! refl (hop ! (look-in ! 43 (sub ! 0 refl (whole !))) (stop !))))) (from ! (stop !)) (init ! 29 refl (tt, tt)) $
-        assigns ! (agg ! (and-then ! (load ! (from ! (stop !)) (look ! 29 refl)) (and-then ! (load ! (from ! (fld ! refl (stop !))) (look-in ! 43 (sub ! 1 refl (whole !)))) (no-more !)))) (from ! (stop !)) (init ! 27 refl (tt, (tt, (record { fits = room-m .0 }, tt)))) $
-        assigns ! (addr ! (from ! (fld ! refl (hop ! (look-in ! 41 (sub ! 0 refl (whole !))) (stop !))))) (from ! (stop !)) (init ! 25 refl (tt, tt)) $
-        assigns ! (agg ! (and-then ! (load ! (from ! (stop !)) (look ! 25 refl)) (and-then ! (load ! (from ! (fld ! refl (stop !))) (look-in ! 41 (sub ! 1 refl (whole !)))) (no-more !)))) (from ! (stop !)) (init ! 23 refl (tt, (tt, (record { fits = room-o .0 }, tt)))) $
-        assigns ! (addr ! (from ! (fld ! refl (hop ! (look-in ! 39 (sub ! 0 refl (whole !))) (stop !))))) (from ! (stop !)) (init ! 21 refl (tt, tt)) $
-        assigns ! (agg ! (and-then ! (load ! (from ! (stop !)) (look ! 21 refl)) (and-then ! (load ! (from ! (fld ! refl (stop !))) (look-in ! 39 (sub ! 1 refl (whole !)))) (no-more !)))) (from ! (stop !)) (init ! 19 refl (tt, (tt, (record { fits = room-h .0 }, tt)))) $
-        assigns ! (addr ! (from ! (stop !))) (from ! (stop !)) (init ! 17 refl (tt, tt)) $
+    walk room1 room2 room3 room4 room5 room6 room7 room-m room-o room-h host-fits was within =
+        qed W ((‵ (flft κ₀ q₀) ⊛ ‵ (flft κm qm) ⊛ ‵ (flft κo qo) ⊛ ‵ (flft κh qh) ⊛ ‵ ftrue) ∷ ‵ (owns (ShrSlice (named 0) κ₀ u32 ∷ ShrSlice (named 0) κ₀ u32 ∷ ShrSlice (named 0) κ₀ u32 ∷ ShrSlice (named 0) κ₀ u32 ∷ ShrSlice (named 0) κ₀ u32 ∷ ShrSlice (named 0) κ₀ u32 ∷ ShrSlice (named 0) κ₀ u32 ∷ MutSlice (named 1) κm u32 ∷ MutSlice (named 2) κo u32 ∷ MutSlice (named 3) κh u32 ∷ u32 ∷ T.the-row ∷ []) args vals) ∷ []) ∵ enters ! C Λ code.function (count-of x₁ ∷ count-of x₂ ∷ count-of x₃ ∷ count-of x₄ ∷ count-of x₅ ∷ count-of x₆ ∷ count-of x₇ ∷ sliceVal (bm, om) (length marks) ∷ sliceVal (bo, oo) (length order) ∷ sliceVal (bh, oh) (length hosts) ∷ vint w32 host ∷ mach h ∷ []) _ $
+        alloc1 ! (λ l₀. alloc1 ! (λ l₁. alloc1 ! (λ l₂. alloc1 ! (λ l₃. alloc1 ! (λ l₄. alloc1 ! (λ l₅. alloc1 ! (λ l₆. alloc1 ! (λ l₇. alloc1 ! (λ l₈. alloc1 ! (λ l₉. alloc1 ! (λ l₁₀. alloc1 ! (λ l₁₁. alloc1 ! (λ l₁₂. alloc1 ! (λ l₁₃. alloc1 ! (λ l₁₄. alloc1 ! (λ l₁₅. alloc1 ! (λ l₁₆. alloc1 ! (λ l₁₇. alloc1 ! (λ l₁₈. alloc1 ! (λ l₁₉. alloc1 ! (λ l₂₀. alloc1 ! (λ l₂₁. alloc0 ! $ params1 ! $
+        pass1 ! (init ! 40 refl (tt, (tt, (record { fits = room1 .0 }, tt)))) $ pass1 ! (init ! 38 refl (tt, (tt, (record { fits = room2 .0 }, tt)))) $ pass1 ! (init ! 36 refl (tt, (tt, (record { fits = room3 .0 }, tt)))) $ pass1 ! (init ! 34 refl (tt, (tt, (record { fits = room4 .0 }, tt)))) $ pass1 ! (init ! 32 refl (tt, (tt, (record { fits = room5 .0 }, tt)))) $ pass1 ! (init ! 30 refl (tt, (tt, (record { fits = room6 .0 }, tt)))) $ pass1 ! (init ! 28 refl (tt, (tt, (record { fits = room7 .0 }, tt)))) $ pass1 ! (init ! 26 refl (tt, (tt, (record { fits = room-m .0 }, tt)))) $ pass1 ! (init ! 24 refl (tt, (tt, (record { fits = room-o .0 }, tt)))) $ pass1 ! (init ! 22 refl (tt, (tt, (record { fits = room-h .0 }, tt)))) $ pass1 ! (init ! 20 refl (tt, record { fits = host-fits })) $ pass1 ! (init ! 18 refl (LL.lawful T.the-type T′.the-laws 𝓤 H A W .typed h _ was .0)) $ pass0 ! $
+        move ! (45 ∷ []) $ fsplit ! $ move ! (1 ∷ []) $ fsplit ! $ move ! (1 ∷ []) $ fsplit ! $ move ! (1 ∷ []) $ fsplit ! $ move ! (1 ∷ []) $ fsplit ! $ move ! (1 ∷ []) $ fsplit ! $ move ! (1 ∷ []) $ fsplit ! $ move ! (1 ∷ []) $ fsplit ! $ move ! (1 ∷ []) $ fsplit ! $ move ! (1 ∷ []) $ fsplit ! $ move ! (1 ∷ []) $ fsplit ! $ move ! (1 ∷ []) $ fsplit ! $ move ! (57 ∷ []) $ split ! $ move ! (1 ∷ []) $ split ! $ move ! (1 ∷ []) $ split ! $ move ! (1 ∷ []) $ split ! $
+        assigns ! (of-opd ! (load ! (from ! (stop !)) (look ! 36 refl))) (from ! (stop !)) (init ! 34 refl (LL.lawful T.the-type T′.the-laws 𝓤 H A W .typed h _ was .0)) $
+        assigns ! (addr ! (from ! (fld ! refl (hop ! (look-in ! 44 (sub ! 0 refl (whole !))) (stop !))))) (from ! (stop !)) (init ! 30 refl (tt, tt)) $
+        assigns ! (agg ! (and-then ! (load ! (from ! (stop !)) (look ! 30 refl)) (and-then ! (load ! (from ! (fld ! refl (stop !))) (look-in ! 44 (sub ! 1 refl (whole !)))) (no-more !)))) (from ! (stop !)) (init ! 28 refl (tt, (tt, (record { fits = room-m .0 }, tt)))) $
+        assigns ! (addr ! (from ! (fld ! refl (hop ! (look-in ! 42 (sub ! 0 refl (whole !))) (stop !))))) (from ! (stop !)) (init ! 26 refl (tt, tt)) $
+        assigns ! (agg ! (and-then ! (load ! (from ! (stop !)) (look ! 26 refl)) (and-then ! (load ! (from ! (fld ! refl (stop !))) (look-in ! 42 (sub ! 1 refl (whole !)))) (no-more !)))) (from ! (stop !)) (init ! 24 refl (tt, (tt, (record { fits = room-o .0 }, tt)))) $
+        assigns ! (addr ! (from ! (fld ! refl (hop ! (look-in ! 40 (sub ! 0 refl (whole !))) (stop !))))) (from ! (stop !)) (init ! 22 refl (tt, tt)) $
+        assigns ! (agg ! (and-then ! (load ! (from ! (stop !)) (look ! 22 refl)) (and-then ! (load ! (from ! (fld ! refl (stop !))) (look-in ! 40 (sub ! 1 refl (whole !)))) (no-more !)))) (from ! (stop !)) (init ! 20 refl (tt, (tt, (record { fits = room-h .0 }, tt)))) $
+        assigns ! (addr ! (from ! (stop !))) (from ! (stop !)) (init ! 18 refl (tt, tt)) $
         -- the local is lent
-        move ! (33 ∷ []) $ use1 W (‵ (cellAt fullShare (T.the-row .mir) (mach h ∷ []) l₁₂ 0)) (W .laws .at-raw fullShare T′.mir l₁₂ 0 (mach h)) $ owned ! T.the-row (Is T.the-row) ((LL.makes T.the-type T′.the-plain) 𝓤 H A) h _ was $ move ! (1 ∷ 0 ∷ []) $ fjoin ! $ fpack ! (List Val) (λ us. fsep (cellAt fullShare (T.the-row .mir) us l₁₂ 0) (T.the-row .own h us)) (mach h ∷ []) $
-        lft-new ! tt (λ α. move ! (1 ∷ []) $ use1 W (later (some (λ (δ : GName). ‵ (MutRef (named 0) (α ∷ []) T.the-row .own (cs l₁₂ δ h) (vptr l₁₂ 0 ∷ [])) ⊛ ‵ (flent (α ∷ []) (Body (mem T.the-row) l₁₂ 0 δ))))) (lends-ref 𝓤 H A W T.the-row (named 0) (α ∷ []) h l₁₂ 0) $ await ! tt $ pick ! (λ δ. split ! $
-        -- [the counters, lent; the right to the local; α's token; κh's token; …; κo's token; κm's token; κ₀'s token; …; …; …; the hosts; the order; the marks; x₆; x₅; x₄; x₃; x₂; x₁; _20; …]
-        move ! (2 ∷ 4 ∷ []) $ join ! $ move ! (3 ∷ 0 ∷ []) $ join ! $ move ! (3 ∷ 0 ∷ []) $ join ! $ move ! (3 ∷ 0 ∷ []) $ join ! $ move ! (3 ∷ 0 ∷ []) $ join ! $ move ! (14 ∷ []) $ use1 W (‵ (own-col κ₀ x₁) ⊛ ‵ (own-col κ₀ x₁)) (shr-slice-copy 𝓤 H A W (named 0) κ₀ u32 .twice x₁ (slice-vals x₁)) $ split ! $ move ! (15 ∷ []) $ use1 W (‵ (own-col κ₀ x₂) ⊛ ‵ (own-col κ₀ x₂)) (shr-slice-copy 𝓤 H A W (named 0) κ₀ u32 .twice x₂ (slice-vals x₂)) $ split ! $ move ! (16 ∷ []) $ use1 W (‵ (own-col κ₀ x₃) ⊛ ‵ (own-col κ₀ x₃)) (shr-slice-copy 𝓤 H A W (named 0) κ₀ u32 .twice x₃ (slice-vals x₃)) $ split ! $ move ! (17 ∷ []) $ use1 W (‵ (own-col κ₀ x₄) ⊛ ‵ (own-col κ₀ x₄)) (shr-slice-copy 𝓤 H A W (named 0) κ₀ u32 .twice x₄ (slice-vals x₄)) $ split ! $ move ! (18 ∷ []) $ use1 W (‵ (own-col κ₀ x₅) ⊛ ‵ (own-col κ₀ x₅)) (shr-slice-copy 𝓤 H A W (named 0) κ₀ u32 .twice x₅ (slice-vals x₅)) $ split ! $ move ! (19 ∷ []) $ use1 W (‵ (own-col κ₀ x₆) ⊛ ‵ (own-col κ₀ x₆)) (shr-slice-copy 𝓤 H A W (named 0) κ₀ u32 .twice x₆ (slice-vals x₆)) $ split ! $ move ! (18 ∷ 13 ∷ []) $ join ! $ move ! (18 ∷ 0 ∷ []) $ join ! $ move ! (18 ∷ 0 ∷ []) $ join ! $ move ! (2 ∷ 0 ∷ []) $ join ! $ move ! (3 ∷ 0 ∷ []) $ join ! $ move ! (4 ∷ 0 ∷ []) $ join ! $ move ! (5 ∷ 0 ∷ []) $ join ! $ move ! (6 ∷ 0 ∷ []) $ join ! $ move ! (7 ∷ 0 ∷ []) $ join ! $
-        move ! (7 ∷ 0 ∷ []) $ use2 W (raw (Callee 𝓤 H A at-mem run .pre (to-g l₁₂ α δ))) (goes l₁₂ α δ host-fits within) $
-        calls-at ! fm (Callee 𝓤 H A at-mem run) known (to-g l₁₂ α δ) (and-then ! (load ! (from ! (stop !)) (look ! 48 refl)) (and-then ! (load ! (from ! (stop !)) (look ! 46 refl)) (and-then ! (load ! (from ! (stop !)) (look ! 44 refl)) (and-then ! (load ! (from ! (stop !)) (look ! 42 refl)) (and-then ! (load ! (from ! (stop !)) (look ! 40 refl)) (and-then ! (load ! (from ! (stop !)) (look ! 38 refl)) (and-then ! (load ! (from ! (stop !)) (look ! 21 refl)) (and-then ! (load ! (from ! (stop !)) (look ! 17 refl)) (and-then ! (load ! (from ! (stop !)) (look ! 13 refl)) (and-then ! (load ! (from ! (stop !)) (look ! 30 refl)) (and-then ! (load ! (from ! (stop !)) (look ! 30 refl)) (and-then ! (load ! (from ! (stop !)) (look ! 11 refl)) (no-more !))))))))))))) (λ v.
-        use1 W (later (some (λ (r : Unit {0}). ((‵ (flft κ₀ q₀) ⊛ ‵ (flft κm qm) ⊛ ‵ (flft κo qo) ⊛ ‵ (flft κh qh) ⊛ ‵ (flft (α ∷ []) fullShare) ⊛ ‵ ftrue) ⊛ ‵ (Nothing .own r (v ∷ []))) ⊛ raw (ensured 𝓤 H A g.ended (g.clauses 𝓤 H A at-mem run) (κ₀, (κm, (κo, (κh, (α ∷ [], tt))))) (x₁, (x₂, (x₃, (x₄, (x₅, (x₆, (list bm om γm marks, (list bo oo γo order, (list bh oh γh hosts, (host, (host, (cs l₁₂ δ h, tt)))))))))))) tt r)))) (id⊢ 𝓤 _) $ await ! tt $ pick ! (λ _. split ! $
-        move ! (1 ∷ []) $ use1 W (some (λ (ws : Unit {0} × (Unit {0} × (Unit {0} × (Unit {0} × (Unit {0} × (Unit {0} × (List ℕ × (List ℕ × (List ℕ × (Unit {0} × (Unit {0} × (ActualOrderTraversal × Unit {0})))))))))))). ‵ (lasts g.ended (κ₀, (κm, (κo, (κh, (α ∷ [], tt))))) (x₁, (x₂, (x₃, (x₄, (x₅, (x₆, (list bm om γm marks, (list bo oo γo order, (list bh oh γh hosts, (host, (host, (cs l₁₂ δ h, tt)))))))))))) ws) ⊛ raw (fact 𝓤 (Says (x₁ .now) (x₂ .now) (x₃ .now) (x₄ .now) (x₅ .now) (x₆ .now) marks order hosts host host h (ws .1 .1 .1 .1 .1 .1 .0) (ws .1 .1 .1 .1 .1 .1 .1 .0) (ws .1 .1 .1 .1 .1 .1 .1 .1 .0) (ws .1 .1 .1 .1 .1 .1 .1 .1 .1 .1 .1 .0))))) (id⊢ 𝓤 _) $ pick ! (λ ws. split ! $ move ! (1 ∷ []) $ heard ! (Says (x₁ .now) (x₂ .now) (x₃ .now) (x₄ .now) (x₅ .now) (x₆ .now) marks order hosts host host h (ws .1 .1 .1 .1 .1 .1 .0) (ws .1 .1 .1 .1 .1 .1 .1 .0) (ws .1 .1 .1 .1 .1 .1 .1 .1 .0) (ws .1 .1 .1 .1 .1 .1 .1 .1 .1 .1 .1 .0)) (λ e.
-        fsplit ! $ drop ! $ fsplit ! $ drop ! $ fsplit ! $ drop ! $ fsplit ! $ drop ! $ fsplit ! $ drop ! $ fsplit ! $ drop ! $ fsplit ! $ fsplit ! $ move ! (1 ∷ []) $ feqL ! (λ len-m. move ! (1 ∷ []) $ fsplit ! $ fsplit ! $ move ! (1 ∷ []) $ feqL ! (λ len-o. move ! (1 ∷ []) $ fsplit ! $ fsplit ! $ move ! (1 ∷ []) $ feqL ! (λ len-h. move ! (1 ∷ []) $ fsplit ! $ drop ! $ fsplit ! $ drop ! $ fsplit ! $
-        move ! (5 ∷ []) $ split ! $ move ! (1 ∷ []) $ feqL ! (λ ev. land ! (from ! (stop !)) (init ! 30 refl (subst (λ (y : Val). T (hasTy tyUnit y) × WT y) (sym (ap only ev)) (tt, tt))) $
-        -- [the tokens; the last of the counters, lent; …; the last of the hosts; the last of the order; the last of the marks; x₆; x₅; x₄; x₃; x₂; x₁; the right to the local; …; …; …; _20; …]
+        move ! (34 ∷ []) $ use1 W (‵ (cellAt fullShare (T.the-row .mir) (mach h ∷ []) l₁₃ 0)) (W .laws .at-raw fullShare T′.mir l₁₃ 0 (mach h)) $ owned ! T.the-row (Is T.the-row) ((LL.makes T.the-type T′.the-plain) 𝓤 H A) h _ was $ move ! (1 ∷ 0 ∷ []) $ fjoin ! $ fpack ! (List Val) (λ us. fsep (cellAt fullShare (T.the-row .mir) us l₁₃ 0) (T.the-row .own h us)) (mach h ∷ []) $
+        lft-new ! tt (λ α. move ! (1 ∷ []) $ use1 W (later (some (λ (δ : GName). ‵ (MutRef (named 0) (α ∷ []) T.the-row .own (cs l₁₃ δ h) (vptr l₁₃ 0 ∷ [])) ⊛ ‵ (flent (α ∷ []) (Body (mem T.the-row) l₁₃ 0 δ))))) (lends-ref 𝓤 H A W T.the-row (named 0) (α ∷ []) h l₁₃ 0) $ await ! tt $ pick ! (λ δ. split ! $
+        -- [the counters, lent; the right to the local; α's token; κh's token; …; κo's token; κm's token; κ₀'s token; …; …; …; the hosts; the order; the marks; x₇; x₆; x₅; x₄; x₃; x₂; x₁; _21; …]
+        move ! (2 ∷ 4 ∷ []) $ join ! $ move ! (3 ∷ 0 ∷ []) $ join ! $ move ! (3 ∷ 0 ∷ []) $ join ! $ move ! (3 ∷ 0 ∷ []) $ join ! $ move ! (3 ∷ 0 ∷ []) $ join ! $ move ! (15 ∷ []) $ use1 W (‵ (own-col κ₀ x₁) ⊛ ‵ (own-col κ₀ x₁)) (shr-slice-copy 𝓤 H A W (named 0) κ₀ u32 .twice x₁ (slice-vals x₁)) $ split ! $ move ! (16 ∷ []) $ use1 W (‵ (own-col κ₀ x₂) ⊛ ‵ (own-col κ₀ x₂)) (shr-slice-copy 𝓤 H A W (named 0) κ₀ u32 .twice x₂ (slice-vals x₂)) $ split ! $ move ! (17 ∷ []) $ use1 W (‵ (own-col κ₀ x₃) ⊛ ‵ (own-col κ₀ x₃)) (shr-slice-copy 𝓤 H A W (named 0) κ₀ u32 .twice x₃ (slice-vals x₃)) $ split ! $ move ! (18 ∷ []) $ use1 W (‵ (own-col κ₀ x₄) ⊛ ‵ (own-col κ₀ x₄)) (shr-slice-copy 𝓤 H A W (named 0) κ₀ u32 .twice x₄ (slice-vals x₄)) $ split ! $ move ! (19 ∷ []) $ use1 W (‵ (own-col κ₀ x₅) ⊛ ‵ (own-col κ₀ x₅)) (shr-slice-copy 𝓤 H A W (named 0) κ₀ u32 .twice x₅ (slice-vals x₅)) $ split ! $ move ! (20 ∷ []) $ use1 W (‵ (own-col κ₀ x₆) ⊛ ‵ (own-col κ₀ x₆)) (shr-slice-copy 𝓤 H A W (named 0) κ₀ u32 .twice x₆ (slice-vals x₆)) $ split ! $ move ! (21 ∷ []) $ use1 W (‵ (own-col κ₀ x₇) ⊛ ‵ (own-col κ₀ x₇)) (shr-slice-copy 𝓤 H A W (named 0) κ₀ u32 .twice x₇ (slice-vals x₇)) $ split ! $ move ! (20 ∷ 15 ∷ []) $ join ! $ move ! (20 ∷ 0 ∷ []) $ join ! $ move ! (20 ∷ 0 ∷ []) $ join ! $ move ! (2 ∷ 0 ∷ []) $ join ! $ move ! (3 ∷ 0 ∷ []) $ join ! $ move ! (4 ∷ 0 ∷ []) $ join ! $ move ! (5 ∷ 0 ∷ []) $ join ! $ move ! (6 ∷ 0 ∷ []) $ join ! $ move ! (7 ∷ 0 ∷ []) $ join ! $ move ! (8 ∷ 0 ∷ []) $ join ! $
+        move ! (8 ∷ 0 ∷ []) $ use2 W (raw (Callee 𝓤 H A at-mem run .pre (to-g l₁₃ α δ))) (goes l₁₃ α δ host-fits within) $
+        calls-at ! fm (Callee 𝓤 H A at-mem run) known (to-g l₁₃ α δ) (and-then ! (load ! (from ! (stop !)) (look ! 51 refl)) (and-then ! (load ! (from ! (stop !)) (look ! 49 refl)) (and-then ! (load ! (from ! (stop !)) (look ! 47 refl)) (and-then ! (load ! (from ! (stop !)) (look ! 45 refl)) (and-then ! (load ! (from ! (stop !)) (look ! 43 refl)) (and-then ! (load ! (from ! (stop !)) (look ! 41 refl)) (and-then ! (load ! (from ! (stop !)) (look ! 39 refl)) (and-then ! (load ! (from ! (stop !)) (look ! 22 refl)) (and-then ! (load ! (from ! (stop !)) (look ! 18 refl)) (and-then ! (load ! (from ! (stop !)) (look ! 14 refl)) (and-then ! (load ! (from ! (stop !)) (look ! 31 refl)) (and-then ! (load ! (from ! (stop !)) (look ! 31 refl)) (and-then ! (load ! (from ! (stop !)) (look ! 12 refl)) (no-more !)))))))))))))) (λ v.
+        use1 W (later (some (λ (r : Unit {0}). ((‵ (flft κ₀ q₀) ⊛ ‵ (flft κm qm) ⊛ ‵ (flft κo qo) ⊛ ‵ (flft κh qh) ⊛ ‵ (flft (α ∷ []) fullShare) ⊛ ‵ ftrue) ⊛ ‵ (Nothing .own r (v ∷ []))) ⊛ raw (ensured 𝓤 H A g.ended (g.clauses 𝓤 H A at-mem run) (κ₀, (κm, (κo, (κh, (α ∷ [], tt))))) (x₁, (x₂, (x₃, (x₄, (x₅, (x₆, (x₇, (list bm om γm marks, (list bo oo γo order, (list bh oh γh hosts, (host, (host, (cs l₁₃ δ h, tt))))))))))))) tt r)))) (id⊢ 𝓤 _) $ await ! tt $ pick ! (λ _. split ! $
+        move ! (1 ∷ []) $ use1 W (some (λ (ws : Unit {0} × (Unit {0} × (Unit {0} × (Unit {0} × (Unit {0} × (Unit {0} × (Unit {0} × (List ℕ × (List ℕ × (List ℕ × (Unit {0} × (Unit {0} × (ActualOrderTraversal × Unit {0}))))))))))))). ‵ (lasts g.ended (κ₀, (κm, (κo, (κh, (α ∷ [], tt))))) (x₁, (x₂, (x₃, (x₄, (x₅, (x₆, (x₇, (list bm om γm marks, (list bo oo γo order, (list bh oh γh hosts, (host, (host, (cs l₁₃ δ h, tt))))))))))))) ws) ⊛ raw (fact 𝓤 (Says (x₁ .now) (x₂ .now) (x₃ .now) (x₄ .now) (x₅ .now) (x₆ .now) (x₇ .now) marks order hosts host host h (ws .1 .1 .1 .1 .1 .1 .1 .0) (ws .1 .1 .1 .1 .1 .1 .1 .1 .0) (ws .1 .1 .1 .1 .1 .1 .1 .1 .1 .0) (ws .1 .1 .1 .1 .1 .1 .1 .1 .1 .1 .1 .1 .0))))) (id⊢ 𝓤 _) $ pick ! (λ ws. split ! $ move ! (1 ∷ []) $ heard ! (Says (x₁ .now) (x₂ .now) (x₃ .now) (x₄ .now) (x₅ .now) (x₆ .now) (x₇ .now) marks order hosts host host h (ws .1 .1 .1 .1 .1 .1 .1 .0) (ws .1 .1 .1 .1 .1 .1 .1 .1 .0) (ws .1 .1 .1 .1 .1 .1 .1 .1 .1 .0) (ws .1 .1 .1 .1 .1 .1 .1 .1 .1 .1 .1 .1 .0)) (λ e.
+        fsplit ! $ drop ! $ fsplit ! $ drop ! $ fsplit ! $ drop ! $ fsplit ! $ drop ! $ fsplit ! $ drop ! $ fsplit ! $ drop ! $ fsplit ! $ drop ! $ fsplit ! $ fsplit ! $ move ! (1 ∷ []) $ feqL ! (λ len-m. move ! (1 ∷ []) $ fsplit ! $ fsplit ! $ move ! (1 ∷ []) $ feqL ! (λ len-o. move ! (1 ∷ []) $ fsplit ! $ fsplit ! $ move ! (1 ∷ []) $ feqL ! (λ len-h. move ! (1 ∷ []) $ fsplit ! $ drop ! $ fsplit ! $ drop ! $ fsplit ! $
+        move ! (5 ∷ []) $ split ! $ move ! (1 ∷ []) $ feqL ! (λ ev. land ! (from ! (stop !)) (init ! 31 refl (subst (λ (y : Val). T (hasTy tyUnit y) × WT y) (sym (ap only ev)) (tt, tt))) $
+        -- [the tokens; the last of the counters, lent; …; the last of the hosts; the last of the order; the last of the marks; x₇; x₆; x₅; x₄; x₃; x₂; x₁; the right to the local; …; …; …; _21; …]
         -- the lifetime is ended, and the local is whole again
-        split ! $ move ! (1 ∷ []) $ split ! $ move ! (1 ∷ []) $ split ! $ move ! (1 ∷ []) $ split ! $ move ! (1 ∷ []) $ split ! $ lft-end ! tt $ move ! (0 ∷ 17 ∷ 6 ∷ []) $ use3 W (later (‵ (mem T.the-row .lies (ws .1 .1 .1 .1 .1 .1 .1 .1 .1 .1 .1 .0) l₁₂ 0))) (ref-back 𝓤 H A W T.the-row (α ∷ []) δ (ws .1 .1 .1 .1 .1 .1 .1 .1 .1 .1 .1 .0) l₁₂ 0) $ await ! tt $
-        fpick ! (λ vs. fsplit ! $ spelt ! T.the-row (Is T.the-row) (shows 𝓤 H A T.the-row) (LL.vals T.the-type T′.the-laws) (LL.tells T.the-type T′.the-laws) fullShare (ws .1 .1 .1 .1 .1 .1 .1 .1 .1 .1 .1 .0) vs l₁₂ 0 $
-        move ! (1 ∷ []) $ peeks ! T.the-row (Is T.the-row) (shows 𝓤 H A T.the-row) (ws .1 .1 .1 .1 .1 .1 .1 .1 .1 .1 .1 .0) (mach (ws .1 .1 .1 .1 .1 .1 .1 .1 .1 .1 .1 .0) ∷ []) (λ is. move ! (1 ∷ []) $ use1 W (‵ (fat fullShare T′.mir l₁₂ 0 (mach (ws .1 .1 .1 .1 .1 .1 .1 .1 .1 .1 .1 .0)))) (W .laws .raw-at fullShare T′.mir l₁₂ 0 (mach (ws .1 .1 .1 .1 .1 .1 .1 .1 .1 .1 .1 .0))) $
-        assigns ! (of-opd ! (load ! (from ! (stop !)) (look ! 0 refl))) (from ! (stop !)) (init ! 59 refl (LL.lawful T.the-type T′.the-laws 𝓤 H A W .typed (ws .1 .1 .1 .1 .1 .1 .1 .1 .1 .1 .1 .0) _ is .0)) $
-        returns ! (look ! 59 refl) $
-        forget ! 59 refl $ forget ! 57 refl $ forget ! 55 refl $ forget ! 53 refl $ forget ! 51 refl $ forget ! 49 refl $ forget ! 47 refl $ forget ! 45 refl $ forget ! 43 refl $ forget ! 41 refl $ forget ! 39 refl $ forget ! 37 refl $ forget ! 0 refl $ forget ! 34 refl $ forget ! 32 refl $ forget ! 30 refl $ forget ! 28 refl $ forget ! 26 refl $ forget ! 24 refl $ forget ! 22 refl $ forget ! 20 refl $
-        move ! (59 ∷ 60 ∷ []) $ free1 ! $ move ! (57 ∷ 58 ∷ []) $ free1 ! $ move ! (55 ∷ 56 ∷ []) $ free1 ! $ move ! (53 ∷ 54 ∷ []) $ free1 ! $ move ! (51 ∷ 52 ∷ []) $ free1 ! $ move ! (49 ∷ 50 ∷ []) $ free1 ! $ move ! (47 ∷ 48 ∷ []) $ free1 ! $ move ! (45 ∷ 46 ∷ []) $ free1 ! $ move ! (43 ∷ 44 ∷ []) $ free1 ! $ move ! (41 ∷ 42 ∷ []) $ free1 ! $ move ! (39 ∷ 40 ∷ []) $ free1 ! $ move ! (37 ∷ 38 ∷ []) $ free1 ! $ move ! (0 ∷ 36 ∷ []) $ free1 ! $ move ! (33 ∷ 34 ∷ []) $ free1 ! $ move ! (31 ∷ 32 ∷ []) $ free1 ! $ move ! (29 ∷ 30 ∷ []) $ free1 ! $ move ! (27 ∷ 28 ∷ []) $ free1 ! $ move ! (25 ∷ 26 ∷ []) $ free1 ! $ move ! (23 ∷ 24 ∷ []) $ free1 ! $ move ! (21 ∷ 22 ∷ []) $ free1 ! $ move ! (19 ∷ 20 ∷ []) $ free1 ! $ free0 ! $ move ! (2 ∷ 1 ∷ []) $ join ! $ move ! (2 ∷ 0 ∷ []) $ join ! $ move ! (2 ∷ 0 ∷ []) $ join ! $ move ! (2 ∷ 0 ∷ []) $ join ! $
-        keep ! (11 ∷ 10 ∷ 9 ∷ 8 ∷ 7 ∷ 6 ∷ 0 ∷ 5 ∷ 4 ∷ 3 ∷ []) $ by ! (exits host-fits was (ws .1 .1 .1 .1 .1 .1 .0) (ws .1 .1 .1 .1 .1 .1 .1 .0) (ws .1 .1 .1 .1 .1 .1 .1 .1 .0) (ws .1 .1 .1 .1 .1 .1 .1 .1 .1 .1 .1 .0) is e len-m len-o len-h))))))))))))))))))))))))))))))))))
+        split ! $ move ! (1 ∷ []) $ split ! $ move ! (1 ∷ []) $ split ! $ move ! (1 ∷ []) $ split ! $ move ! (1 ∷ []) $ split ! $ lft-end ! tt $ move ! (0 ∷ 18 ∷ 6 ∷ []) $ use3 W (later (‵ (mem T.the-row .lies (ws .1 .1 .1 .1 .1 .1 .1 .1 .1 .1 .1 .1 .0) l₁₃ 0))) (ref-back 𝓤 H A W T.the-row (α ∷ []) δ (ws .1 .1 .1 .1 .1 .1 .1 .1 .1 .1 .1 .1 .0) l₁₃ 0) $ await ! tt $
+        fpick ! (λ vs. fsplit ! $ spelt ! T.the-row (Is T.the-row) (shows 𝓤 H A T.the-row) (LL.vals T.the-type T′.the-laws) (LL.tells T.the-type T′.the-laws) fullShare (ws .1 .1 .1 .1 .1 .1 .1 .1 .1 .1 .1 .1 .0) vs l₁₃ 0 $
+        move ! (1 ∷ []) $ peeks ! T.the-row (Is T.the-row) (shows 𝓤 H A T.the-row) (ws .1 .1 .1 .1 .1 .1 .1 .1 .1 .1 .1 .1 .0) (mach (ws .1 .1 .1 .1 .1 .1 .1 .1 .1 .1 .1 .1 .0) ∷ []) (λ is. move ! (1 ∷ []) $ use1 W (‵ (fat fullShare T′.mir l₁₃ 0 (mach (ws .1 .1 .1 .1 .1 .1 .1 .1 .1 .1 .1 .1 .0)))) (W .laws .raw-at fullShare T′.mir l₁₃ 0 (mach (ws .1 .1 .1 .1 .1 .1 .1 .1 .1 .1 .1 .1 .0))) $
+        assigns ! (of-opd ! (load ! (from ! (stop !)) (look ! 0 refl))) (from ! (stop !)) (init ! 62 refl (LL.lawful T.the-type T′.the-laws 𝓤 H A W .typed (ws .1 .1 .1 .1 .1 .1 .1 .1 .1 .1 .1 .1 .0) _ is .0)) $
+        returns ! (look ! 62 refl) $
+        forget ! 62 refl $ forget ! 60 refl $ forget ! 58 refl $ forget ! 56 refl $ forget ! 54 refl $ forget ! 52 refl $ forget ! 50 refl $ forget ! 48 refl $ forget ! 46 refl $ forget ! 44 refl $ forget ! 42 refl $ forget ! 40 refl $ forget ! 38 refl $ forget ! 0 refl $ forget ! 35 refl $ forget ! 33 refl $ forget ! 31 refl $ forget ! 29 refl $ forget ! 27 refl $ forget ! 25 refl $ forget ! 23 refl $ forget ! 21 refl $
+        move ! (62 ∷ 63 ∷ []) $ free1 ! $ move ! (60 ∷ 61 ∷ []) $ free1 ! $ move ! (58 ∷ 59 ∷ []) $ free1 ! $ move ! (56 ∷ 57 ∷ []) $ free1 ! $ move ! (54 ∷ 55 ∷ []) $ free1 ! $ move ! (52 ∷ 53 ∷ []) $ free1 ! $ move ! (50 ∷ 51 ∷ []) $ free1 ! $ move ! (48 ∷ 49 ∷ []) $ free1 ! $ move ! (46 ∷ 47 ∷ []) $ free1 ! $ move ! (44 ∷ 45 ∷ []) $ free1 ! $ move ! (42 ∷ 43 ∷ []) $ free1 ! $ move ! (40 ∷ 41 ∷ []) $ free1 ! $ move ! (38 ∷ 39 ∷ []) $ free1 ! $ move ! (0 ∷ 37 ∷ []) $ free1 ! $ move ! (34 ∷ 35 ∷ []) $ free1 ! $ move ! (32 ∷ 33 ∷ []) $ free1 ! $ move ! (30 ∷ 31 ∷ []) $ free1 ! $ move ! (28 ∷ 29 ∷ []) $ free1 ! $ move ! (26 ∷ 27 ∷ []) $ free1 ! $ move ! (24 ∷ 25 ∷ []) $ free1 ! $ move ! (22 ∷ 23 ∷ []) $ free1 ! $ move ! (20 ∷ 21 ∷ []) $ free1 ! $ free0 ! $ move ! (2 ∷ 1 ∷ []) $ join ! $ move ! (2 ∷ 0 ∷ []) $ join ! $ move ! (2 ∷ 0 ∷ []) $ join ! $ move ! (2 ∷ 0 ∷ []) $ join ! $
+        keep ! (12 ∷ 11 ∷ 10 ∷ 9 ∷ 8 ∷ 7 ∷ 6 ∷ 0 ∷ 5 ∷ 4 ∷ 3 ∷ []) $ by ! (exits host-fits was (ws .1 .1 .1 .1 .1 .1 .1 .0) (ws .1 .1 .1 .1 .1 .1 .1 .1 .0) (ws .1 .1 .1 .1 .1 .1 .1 .1 .1 .0) (ws .1 .1 .1 .1 .1 .1 .1 .1 .1 .1 .1 .1 .0) is e len-m len-o len-h)))))))))))))))))))))))))))))))))))
 
 module _ {M : Type 1} (𝓤 : URA M) (H : Heap 𝓤) (A : Atoms 𝓤) (W : Given 𝓤 H A) (at-mem : Memory → SProp 𝓤) (run : Routine → Fun 𝓤) where
   walks : (C : Calls 𝓤 H) (Λ : Loops 𝓤 H) → FmC 𝓤 H (W .laws) C → Triple 𝓤 (C #execute-actual-module) (Callee 𝓤 H A at-mem run) → Walks 𝓤 H A f.ended stayed (WpFn 𝓤 H C Λ code.function) (f.clauses 𝓤 H A at-mem run)
   walks C Λ fm known = walked 𝓤 H A f.ended stayed (f.clauses 𝓤 H A at-mem run) (WpFn 𝓤 H C Λ code.function)
-      (λ κs. (slice-vals, (slice-vals, (slice-vals, (slice-vals, (slice-vals, (slice-vals, (slice-vals, (slice-vals, (slice-vals, (uint-vals w32, (LL.vals T.the-type T′.the-laws, tt))))))))))))
-      (λ κs. (shr-slice-tells (named 0) (κs .0) u32, (shr-slice-tells (named 0) (κs .0) u32, (shr-slice-tells (named 0) (κs .0) u32, (shr-slice-tells (named 0) (κs .0) u32, (shr-slice-tells (named 0) (κs .0) u32, (shr-slice-tells (named 0) (κs .0) u32, (mut-slice-tells (named 1) (κs .1 .0) u32, (mut-slice-tells (named 2) (κs .1 .1 .0) u32, (mut-slice-tells (named 3) (κs .1 .1 .1 .0) u32, (uint-tells w32, (LL.tells T.the-type T′.the-laws, tt))))))))))))
-      (λ κs qs bounds a g are. needs 𝓤 (Needs (a .0 .now) (a .1 .0 .now) (a .1 .1 .0 .now) (a .1 .1 .1 .0 .now) (a .1 .1 .1 .1 .0 .now) (a .1 .1 .1 .1 .1 .0 .now) (a .1 .1 .1 .1 .1 .1 .0 .now) (a .1 .1 .1 .1 .1 .1 .1 .0 .now) (a .1 .1 .1 .1 .1 .1 .1 .1 .0 .now) (a .1 .1 .1 .1 .1 .1 .1 .1 .1 .0) (a .1 .1 .1 .1 .1 .1 .1 .1 .1 .1 .0)) _
-      (walk 𝓤 H A W at-mem run (κs .0) (κs .1 .0) (κs .1 .1 .0) (κs .1 .1 .1 .0) (qs .0) (qs .1 .0) (qs .1 .1 .0) (qs .1 .1 .1 .0) (a .0) (a .1 .0) (a .1 .1 .0) (a .1 .1 .1 .0) (a .1 .1 .1 .1 .0) (a .1 .1 .1 .1 .1 .0)
-      (a .1 .1 .1 .1 .1 .1 .0 .ptr .0) (a .1 .1 .1 .1 .1 .1 .0 .ptr .1) (a .1 .1 .1 .1 .1 .1 .0 .name) (a .1 .1 .1 .1 .1 .1 .1 .0 .ptr .0) (a .1 .1 .1 .1 .1 .1 .1 .0 .ptr .1) (a .1 .1 .1 .1 .1 .1 .1 .0 .name) (a .1 .1 .1 .1 .1 .1 .1 .1 .0 .ptr .0) (a .1 .1 .1 .1 .1 .1 .1 .1 .0 .ptr .1) (a .1 .1 .1 .1 .1 .1 .1 .1 .0 .name) (a .1 .1 .1 .1 .1 .1 .0 .now) (a .1 .1 .1 .1 .1 .1 .1 .0 .now) (a .1 .1 .1 .1 .1 .1 .1 .1 .0 .now) (a .1 .1 .1 .1 .1 .1 .1 .1 .1 .0) (a .1 .1 .1 .1 .1 .1 .1 .1 .1 .1 .0) C Λ fm known
-      (are .0 .0 .1) (are .1 .0 .0 .1) (are .1 .1 .0 .0 .1) (are .1 .1 .1 .0 .0 .1) (are .1 .1 .1 .1 .0 .0 .1) (are .1 .1 .1 .1 .1 .0 .0 .1) (are .1 .1 .1 .1 .1 .1 .0 .0 .1) (are .1 .1 .1 .1 .1 .1 .1 .0 .0 .1) (are .1 .1 .1 .1 .1 .1 .1 .1 .0 .0 .1) (are .1 .1 .1 .1 .1 .1 .1 .1 .1 .0 .1) (are .1 .1 .1 .1 .1 .1 .1 .1 .1 .1 .0)))
+      (λ κs. (slice-vals, (slice-vals, (slice-vals, (slice-vals, (slice-vals, (slice-vals, (slice-vals, (slice-vals, (slice-vals, (slice-vals, (uint-vals w32, (LL.vals T.the-type T′.the-laws, tt)))))))))))))
+      (λ κs. (shr-slice-tells (named 0) (κs .0) u32, (shr-slice-tells (named 0) (κs .0) u32, (shr-slice-tells (named 0) (κs .0) u32, (shr-slice-tells (named 0) (κs .0) u32, (shr-slice-tells (named 0) (κs .0) u32, (shr-slice-tells (named 0) (κs .0) u32, (shr-slice-tells (named 0) (κs .0) u32, (mut-slice-tells (named 1) (κs .1 .0) u32, (mut-slice-tells (named 2) (κs .1 .1 .0) u32, (mut-slice-tells (named 3) (κs .1 .1 .1 .0) u32, (uint-tells w32, (LL.tells T.the-type T′.the-laws, tt)))))))))))))
+      (λ κs qs bounds a g are. needs 𝓤 (Needs (a .0 .now) (a .1 .0 .now) (a .1 .1 .0 .now) (a .1 .1 .1 .0 .now) (a .1 .1 .1 .1 .0 .now) (a .1 .1 .1 .1 .1 .0 .now) (a .1 .1 .1 .1 .1 .1 .0 .now) (a .1 .1 .1 .1 .1 .1 .1 .0 .now) (a .1 .1 .1 .1 .1 .1 .1 .1 .0 .now) (a .1 .1 .1 .1 .1 .1 .1 .1 .1 .0 .now) (a .1 .1 .1 .1 .1 .1 .1 .1 .1 .1 .0) (a .1 .1 .1 .1 .1 .1 .1 .1 .1 .1 .1 .0)) _
+      (walk 𝓤 H A W at-mem run (κs .0) (κs .1 .0) (κs .1 .1 .0) (κs .1 .1 .1 .0) (qs .0) (qs .1 .0) (qs .1 .1 .0) (qs .1 .1 .1 .0) (a .0) (a .1 .0) (a .1 .1 .0) (a .1 .1 .1 .0) (a .1 .1 .1 .1 .0) (a .1 .1 .1 .1 .1 .0) (a .1 .1 .1 .1 .1 .1 .0)
+      (a .1 .1 .1 .1 .1 .1 .1 .0 .ptr .0) (a .1 .1 .1 .1 .1 .1 .1 .0 .ptr .1) (a .1 .1 .1 .1 .1 .1 .1 .0 .name) (a .1 .1 .1 .1 .1 .1 .1 .1 .0 .ptr .0) (a .1 .1 .1 .1 .1 .1 .1 .1 .0 .ptr .1) (a .1 .1 .1 .1 .1 .1 .1 .1 .0 .name) (a .1 .1 .1 .1 .1 .1 .1 .1 .1 .0 .ptr .0) (a .1 .1 .1 .1 .1 .1 .1 .1 .1 .0 .ptr .1) (a .1 .1 .1 .1 .1 .1 .1 .1 .1 .0 .name) (a .1 .1 .1 .1 .1 .1 .1 .0 .now) (a .1 .1 .1 .1 .1 .1 .1 .1 .0 .now) (a .1 .1 .1 .1 .1 .1 .1 .1 .1 .0 .now) (a .1 .1 .1 .1 .1 .1 .1 .1 .1 .1 .0) (a .1 .1 .1 .1 .1 .1 .1 .1 .1 .1 .1 .0) C Λ fm known
+      (are .0 .0 .1) (are .1 .0 .0 .1) (are .1 .1 .0 .0 .1) (are .1 .1 .1 .0 .0 .1) (are .1 .1 .1 .1 .0 .0 .1) (are .1 .1 .1 .1 .1 .0 .0 .1) (are .1 .1 .1 .1 .1 .1 .0 .0 .1) (are .1 .1 .1 .1 .1 .1 .1 .0 .0 .1) (are .1 .1 .1 .1 .1 .1 .1 .1 .0 .0 .1) (are .1 .1 .1 .1 .1 .1 .1 .1 .1 .0 .0 .1) (are .1 .1 .1 .1 .1 .1 .1 .1 .1 .1 .0 .1) (are .1 .1 .1 .1 .1 .1 .1 .1 .1 .1 .1 .0)))
 
 meets : {M : Type 1} (𝓤 : URA M) (H : Heap 𝓤) (A : Atoms 𝓤) → Given 𝓤 H A → (at-mem : Memory → SProp 𝓤) (run : Routine → Fun 𝓤) (𝓣 : Tables 𝓤 H) → Triple 𝓤 (𝓣 .C #execute-actual-module) (Callee 𝓤 H A at-mem run)
     → Meets 𝓤 H A f.signature (WpFn 𝓤 H (𝓣 .C) (𝓣 .Λ) code.function) (f.spec 𝓤 H A at-mem run)
 meets 𝓤 H A W at-mem run 𝓣 known =
-    walk-meets 𝓤 H A f.ended stayed W (goes-none-slice 𝓤 H A W 4 (0 ∷ []) tt (plain (λ _. u32)) yes, (goes-none-slice 𝓤 H A W 4 (0 ∷ []) tt (plain (λ _. u32)) yes, (goes-none-slice 𝓤 H A W 4 (0 ∷ []) tt (plain (λ _. u32)) yes, (goes-none-slice 𝓤 H A W 4 (0 ∷ []) tt (plain (λ _. u32)) yes, (goes-none-slice 𝓤 H A W 4 (0 ∷ []) tt (plain (λ _. u32)) yes, (goes-none-slice 𝓤 H A W 4 (0 ∷ []) tt (plain (λ _. u32)) yes, (goes-gave-slice 𝓤 H A W 4 1 tt (plain (λ _. u32)), (goes-gave-slice 𝓤 H A W 4 2 tt (plain (λ _. u32)), (goes-gave-slice 𝓤 H A W 4 3 tt (plain (λ _. u32)), (goes-none 𝓤 H A W 4 (λ _. u32) yes (λ κs x f. refl), (goes-none 𝓤 H A W 4 (λ _. T.the-row) yes (λ κs x f. refl), tt))))))))))) (f.clauses 𝓤 H A at-mem run)
+    walk-meets 𝓤 H A f.ended stayed W (goes-none-slice 𝓤 H A W 4 (0 ∷ []) tt (plain (λ _. u32)) yes, (goes-none-slice 𝓤 H A W 4 (0 ∷ []) tt (plain (λ _. u32)) yes, (goes-none-slice 𝓤 H A W 4 (0 ∷ []) tt (plain (λ _. u32)) yes, (goes-none-slice 𝓤 H A W 4 (0 ∷ []) tt (plain (λ _. u32)) yes, (goes-none-slice 𝓤 H A W 4 (0 ∷ []) tt (plain (λ _. u32)) yes, (goes-none-slice 𝓤 H A W 4 (0 ∷ []) tt (plain (λ _. u32)) yes, (goes-none-slice 𝓤 H A W 4 (0 ∷ []) tt (plain (λ _. u32)) yes, (goes-gave-slice 𝓤 H A W 4 1 tt (plain (λ _. u32)), (goes-gave-slice 𝓤 H A W 4 2 tt (plain (λ _. u32)), (goes-gave-slice 𝓤 H A W 4 3 tt (plain (λ _. u32)), (goes-none 𝓤 H A W 4 (λ _. u32) yes (λ κs x f. refl), (goes-none 𝓤 H A W 4 (λ _. T.the-row) yes (λ κs x f. refl), tt)))))))))))) (f.clauses 𝓤 H A at-mem run)
     (WpFn 𝓤 H (𝓣 .C) (𝓣 .Λ) code.function) (WpFn-mono 𝓤 H (W .laws) 𝓣 code.function) (walks 𝓤 H A W at-mem run (𝓣 .C) (𝓣 .Λ) (fmOf 𝓤 H (W .laws) 𝓣) known)
 
 pub execute-host-spec : {M : Type 1} → stated.statement M

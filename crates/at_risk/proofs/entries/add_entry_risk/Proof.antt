@@ -77,7 +77,7 @@ expected-order-for-root-requires c κs =
     let k = c .before in
     let p = entry k .pre in
     let fit = p .0 in (
-      record { normals = fit .normals ∙ sym (part k); includeds = fit .includeds ∙ sym (part k); kinds = fit .kinds; targets = fit .targets; rising = fit .rising },
+      record { normals = fit .normals ∙ sym (part k); includeds = fit .includeds ∙ sym (part k); kinds = fit .kinds; targets = fit .targets; rising = fit .rising; few = omega (arith, part k, p .1 .1 .1 .1 .0 .few); rows = fit .rows },
       (omega (arith, part k, p .1 .1 .1 .1 .1 .0), omega (arith, part k, p .1 .1 .1 .1 .0 .few)),
     )
 
