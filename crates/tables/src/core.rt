@@ -27,7 +27,7 @@ pub fn first_row(column: &[u32], x: usize) -> usize
 }
 
 // The greater of two.
-fn greater(a: u32, b: u32) -> u32
+pub fn greater(a: u32, b: u32) -> u32
     ensures { λ r. ⌜ Greater a b r ⌝ }
 {
     if a < b {
