@@ -52,7 +52,7 @@ slice-aggregate-mark-owners : tie.Need-slice-aggregate-mark-owners
 slice-aggregate-mark-owners c = let e = c .before .before .before .before .before .before .before .before .before .before .before .before .before .before .before .before .before in sym (part-length 4096 (size e) (e .pre .0 .few))
 
 mark-owners-requires : tie.Need-mark-owners-requires
-mark-owners-requires c κs = (c .before .before .before .before .before .before .before .before .before .before .before .before .before .before .before .before .before .pre .0 .dependencies, c .before .before .before .before .before .before .before .before .before .before .before .before .before .before .before .before .before .pre .0 .fewDependencies)
+mark-owners-requires c κs = c .before .before .before .before .before .before .before .before .before .before .before .before .before .before .before .before .before .pre .0 .dependencies
 
 array-share-prefix-importers : tie.Need-array-share-prefix-importers
 array-share-prefix-importers c = view-room (importers-lent (c .before .before .before .before .before .before .before))

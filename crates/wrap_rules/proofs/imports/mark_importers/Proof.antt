@@ -59,7 +59,7 @@ slice-aggregate-mark-owners : tie.Need-slice-aggregate-mark-owners
 slice-aggregate-mark-owners c = sym (view-length (lent (c .before .before .before .before .before .before .before)))
 
 mark-owners-requires : tie.Need-mark-owners-requires
-mark-owners-requires c κs = (view-length (lent (c .before .before .before .before .before .before .before .before .before)), c .before .before .before .before .before .before .before .before .before .before .before .before .before .before .before .before .before .pre .1 .1 .0)
+mark-owners-requires c κs = view-length (lent (c .before .before .before .before .before .before .before .before .before))
 
 same-length : tie.Need-same-length
 same-length c = search needs

@@ -27,7 +27,7 @@ lent : (k : tie.After-import-targets) → Lent 16384 (size (k .before .before .b
 lent k = record { fits = k .before .before .before .before .before .before .before .before .before .before .before .before .pre .1 .1 .0 .0; kept = k .import-targets .kept .1 .1 .0 }
 
 mark-owners-requires : tie.Need-mark-owners-requires
-mark-owners-requires c κs = (refl, c .before .before .before .before .before .before .before .pre .1 .1 .0 .1)
+mark-owners-requires c κs = refl
 
 array-borrow-prefix-targets : tie.Need-array-borrow-prefix-targets
 array-borrow-prefix-targets c = c .before .before .before .before .before .before .before .before .before .before .pre .1 .1 .0 .0
