@@ -212,6 +212,15 @@ has-looked set column row e =
     let l : row < length column = rw (length-looked 0 set column) at (has-in (looked 0 set column) row e) in
     (l, sym (looked-has set column row l) ∙ e)
 
+-- marks that are looked up are 0 or 1 where the set's are
+pub looked-bits : (set column : List ℕ) → Bits set → Bits (looked 0 set column)
+unfolding Bits
+looked-bits set column b row = go (decLt row (length column))
+  where
+    go : Dec (row < length column) → getD (looked 0 set column) row 0 ≤ 1
+    go (yes l) = rw (looked-at 0 set column row 0 l) (b (getD column row 0))
+    go (no l) = let z : getD (looked 0 set column) row 0 ≡ 0 = List·getD-eq-default (looked 0 set column) 0 (omega (arith, length-looked 0 set column)) in omega arith
+
 -- the targets of the kind 0 records
 
 pub length-targets : (kind target : List ℕ) → length (importTargets kind target) ≡ length target

@@ -6,8 +6,8 @@ ghost use lib.ListN.{length, getD};
 ghost use Rattle.lists.specs.Words.{has};
 ghost use Rattle.tables.specs.Project.{missing};
 ghost use Rattle.wrap_rules.specs.Steps.{looked, Raised, Owners, Added, InAll};
-use tables::core::greater;
 use tables::ModuleIdx;
+use tables::core::greater;
 
 // The value at a place of a table, `other` where the table has no such place.
 pub fn value_at(table: &[u32], at: u32, other: u32) -> u32

@@ -10,10 +10,10 @@ use Rattle.wrap_rules.proofs.marks.look_up.Reads as look-up-reads
 use Rattle.wrap_rules.proofs.marks.mark_owners_through.Reads as mark-owners-through-reads
 
 look-up-requires : tie.Need-look-up-requires
-look-up-requires c κs = c .before .before .before .before .before .before .pre .0
+look-up-requires c κs = search needs
 
 mark-owners-through-requires : tie.Need-mark-owners-through-requires
-mark-owners-through-requires c κs = c .before .before .before .before .before .before .before .before .before .before .pre .1
+mark-owners-through-requires c κs = search needs
 
 same-length : tie.Need-same-length
 same-length c = search needs
