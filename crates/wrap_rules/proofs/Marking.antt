@@ -1,6 +1,6 @@
 -- What the passes over rows mark: the steps put together.
 -- Assumes nothing.
-use mathlib.Core.Path.{_≡_, refl, sym, ap, subst, _∙_}
+use mathlib.Core.Path.{_≡_, sym, ap, subst, _∙_}
 use mathlib.Core.Logic.{_⊎_, inl, inr, ⊎-elim}
 use mathlib.Core.Bool.{true, not, true≢false, false≢true}
 use mathlib.Core.List.{List, [], _∷_}

@@ -1,17 +1,15 @@
 -- `wrap_rules::component::close_cyclic_chunk_members` meets its contract: labels hit, members of the chunks that have them, and of these the
 -- sensitive eligible ones.
 -- Assumes nothing.
-use Prim.Native.Nat.{ℕ, _≤_, _<_}
-use mathlib.Core.Path.{_≡_, refl, sym, ap, subst, _∙_}
-use mathlib.Core.Bool.{true}
+use Prim.Native.Nat.{ℕ}
+use mathlib.Core.Path.{_≡_, sym, ap, subst, _∙_}
 use mathlib.Core.List.{List}
 use native.Mathlib.Omega.{arith}
 use lib.ListN.{length, take, replicate}
-use Rattle.lists.specs.Words.{has, ones}
+use Rattle.lists.specs.Words.{ones}
 use Rattle.tables.specs.Project.{missing}
 use Rattle.wrap_rules.specs.Steps.{looked, Owners, Added, InAll}
-use Rattle.wrap_rules.specs.Asked.{Together}
-use Rattle.wrap_rules.proofs.Parts.{Lent, view, part-none, part-length, view-room, view-is, view-length}
+use Rattle.wrap_rules.proofs.Parts.{Lent, part-none, part-length, view-room, view-is, view-length}
 use Rattle.wrap_rules.proofs.Steps.{added-none, added-cong}
 use Rattle.wrap_rules.proofs.Marking.{ones-none, together-hit, members-together, together-members}
 use borrow.Author.Needs.{needs}

@@ -1,13 +1,12 @@
 -- `wrap_rules::marks::mark_owners` meets its contract: the owners of the rows below `row` are marked.
 -- Assumes nothing.
-use Prim.Native.Nat.{ℕ, _+_, _-_, _≤_, _<_}
-use mathlib.Core.Path.{_≡_, refl, sym, ap, subst, _∙_}
-use mathlib.Core.List.{List}
+use Prim.Native.Nat.{ℕ, _-_, _≤_, _<_}
+use mathlib.Core.Path.{_≡_, refl, sym, subst, _∙_}
 use native.Mathlib.Omega.{arith}
-use lib.ListN.{length, getD}
+use lib.ListN.{length}
 use borrow.Author.Needs.{needs}
-use Rattle.wrap_rules.specs.Steps.{looked, Raised, Owners}
-use Rattle.wrap_rules.proofs.Steps.{length-looked, looked-at, owners-start, owners-put}
+use Rattle.wrap_rules.specs.Steps.{looked, Owners}
+use Rattle.wrap_rules.proofs.Steps.{looked-at, owners-start, owners-put}
 use Rattle.wrap_rules.proofs.marks.mark_owners.Statement.{statement}
 use Rattle.wrap_rules.proofs.marks.mark_owners.Tie as tie
 use Rattle.wrap_rules.proofs.marks.mark_owners.Reads as reads

@@ -1,13 +1,13 @@
 -- `wrap_rules::marks::mark_owners_through` meets its contract: the owners of the rows below `row` are marked.
 -- Assumes nothing.
-use Prim.Native.Nat.{ℕ, _+_, _-_, _≤_, _<_}
+use Prim.Native.Nat.{ℕ, _-_, _≤_, _<_}
 use mathlib.Core.Path.{_≡_, refl, sym, ap, subst, _∙_}
 use mathlib.Core.List.{List}
 use native.Mathlib.Omega.{arith}
 use lib.ListN.{length, getD}
 use borrow.Author.Needs.{needs}
 use Rattle.tables.specs.Project.{missing}
-use Rattle.wrap_rules.specs.Steps.{looked, Raised, Owners}
+use Rattle.wrap_rules.specs.Steps.{looked, Owners}
 use Rattle.wrap_rules.proofs.Steps.{length-looked, looked-at, owners-start, owners-put}
 use Rattle.wrap_rules.proofs.marks.mark_owners_through.Statement.{statement}
 use Rattle.wrap_rules.proofs.marks.mark_owners_through.Tie as tie

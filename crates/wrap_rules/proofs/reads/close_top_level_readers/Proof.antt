@@ -1,14 +1,14 @@
 -- `wrap_rules::reads::close_top_level_readers` meets its contract: where a candidate that reads is out, references that touch, modules that have them, and of these the candidates that read.
 -- Assumes nothing.
-use Prim.Native.Nat.{ℕ, _≤_, _<_}
-use mathlib.Core.Path.{_≡_, refl, sym, ap, subst, _∙_}
+use Prim.Native.Nat.{ℕ}
+use mathlib.Core.Path.{_≡_, sym, subst, _∙_}
 use mathlib.Core.List.{List}
 use native.Mathlib.Omega.{arith}
 use lib.ListN.{length}
 use Rattle.lists.proofs.Laws.{not-true}
 use Rattle.wrap_rules.specs.Steps.{Added, InAll}
 use Rattle.wrap_rules.specs.Asked.{Marks, Reader}
-use Rattle.wrap_rules.proofs.Parts.{Lent, view, part-none, part-length, made-length, view-room, view-is, view-length}
+use Rattle.wrap_rules.proofs.Parts.{Lent, part-none, part-length, made-length, view-room, view-is, view-length}
 use Rattle.wrap_rules.proofs.Steps.{added-none, added-cong}
 use Rattle.wrap_rules.proofs.Marking.{marked-read, read-marked}
 use borrow.Author.Needs.{needs}

@@ -1,6 +1,5 @@
 -- `wrap_rules::reads::mark_references` meets its contract: symbols first, then depended ones.
 -- Assumes nothing.
-use mathlib.Core.List.{List}
 use Rattle.wrap_rules.proofs.Marking.{references-marked}
 use borrow.Author.Needs.{needs}
 use Rattle.wrap_rules.proofs.reads.mark_references.Statement.{statement}

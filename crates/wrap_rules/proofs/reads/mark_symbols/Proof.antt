@@ -1,15 +1,14 @@
 -- `wrap_rules::reads::mark_symbols` meets its contract: chains first, then the symbols' own and those of their canonicals.
 -- Assumes nothing.
-use Prim.Native.Nat.{ℕ, _≤_}
-use mathlib.Core.Path.{_≡_, refl, sym, ap, subst, _∙_}
+use Prim.Native.Nat.{ℕ}
+use mathlib.Core.Path.{_≡_, sym, subst, _∙_}
 use mathlib.Core.Bool.{true}
 use mathlib.Core.Logic.{_⊎_}
 use mathlib.Core.List.{List}
-use native.Mathlib.Omega.{arith}
 use lib.ListN.{length, getD}
 use Rattle.lists.specs.Words.{has}
 use Rattle.wrap_rules.specs.Asked.{Marks}
-use Rattle.wrap_rules.proofs.Parts.{Lent, view, part-length, made-length, view-room, view-is, view-length}
+use Rattle.wrap_rules.proofs.Parts.{Lent, part-length, made-length, view-room, view-is, view-length}
 use Rattle.wrap_rules.proofs.Marking.{symbols-marked}
 use borrow.Author.Needs.{needs}
 use Rattle.wrap_rules.proofs.reads.mark_symbols.Statement.{statement}
