@@ -158,11 +158,9 @@ module _ (p : Project) (ok : Accepted p) where
   abbrev targets : List ℕ
   targets = importTargets (p .recordKind) (p .recordTarget)
 
-  pub importing-fit : (importers : List ℕ) → length importers ≤ 16384 → Importing importers (p .dependencyModule) (p .dependency) (candidateMarks p) (modules p)
-  importing-fit importers few = record {
-    fewEdges = few;
+  pub importing-fit : Importing (p .dependencyModule) (p .dependency) (candidateMarks p) (modules p)
+  importing-fit = record {
     dependencies = ok .sizes .dependency;
-    fewDependencies = ok .sizes .dependencyModule;
     candidate = length-marksOf (λ (m : ℕ). eligible p m && reached p m) (modules p);
   }
 

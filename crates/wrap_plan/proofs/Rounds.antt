@@ -59,10 +59,10 @@ module _ (p : Project) (labels rootList sensitives eligibles candidates importer
         (subst (λ (s : List ℕ). Members (p .chunk) (p .memberChunk) (p .member) (labelsOf p) (sensitiveMarks p) s n) (sym (made .eligibleSet))
         (subst (Members (p .chunk) (p .memberChunk) (p .member) (labelsOf p) (sensitiveMarks p) (eligibleMarks p)) (sym e) (members-fit p (made .accepted)))))
 
-    pub importing-ready : Importing importers (p .dependencyModule) (p .dependency) candidates n
+    pub importing-ready : Importing (p .dependencyModule) (p .dependency) candidates n
     importing-ready =
-        subst (λ (s : List ℕ). Importing importers (p .dependencyModule) (p .dependency) s n) (sym (made .candidateSet))
-        (subst (Importing importers (p .dependencyModule) (p .dependency) (candidateMarks p)) (sym e) (importing-fit p (made .accepted) importers (omega (arith, made .edges .few, made .accepted .sizes .recordModule))))
+        subst (λ (s : List ℕ). Importing (p .dependencyModule) (p .dependency) s n) (sym (made .candidateSet))
+        (subst (Importing (p .dependencyModule) (p .dependency) (candidateMarks p)) (sym e) (importing-fit p (made .accepted)))
 
     pub reading-ready : Reading (p .reads) (p .referenceStatement) (p .referenceSymbol) (p .dependedReference) (p .depended) candidates n
     reading-ready =

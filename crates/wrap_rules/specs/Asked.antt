@@ -49,10 +49,8 @@ pub record Importer (importers targets dependencyModule dependency candidates S 
   pub leading : Row importers targets leads m
 
 -- (iii) the columns fit each other, over n modules
-pub record Importing (importers dependencyModule dependency candidates : List ℕ) (n : ℕ) : Type 0 where
-  pub fewEdges : length importers ≤ 16384
+pub record Importing (dependencyModule dependency candidates : List ℕ) (n : ℕ) : Type 0 where
   pub dependencies : length dependency ≡ length dependencyModule
-  pub fewDependencies : length dependencyModule ≤ 16384
   pub candidate : length candidates ≡ n
 
 -- (iv) a symbol's owner is planned, or a link owner in its chain

@@ -44,7 +44,6 @@ fn source_reachable_modules(
     reached: &mut [u32],
 )
     requires edges { ⌜ ModuleGraph (now importers) (now targets) (length (now reached)) ⌝ }
-    requires few { ⌜ length (now roots) ≤ 16384 ⌝ }
     requires none { ⌜ ((m : ℕ) → has (now reached) m ≡ true → ⊥) ⌝ }
     ensures { λ _. ⌜ Reaching (now (included .entry)) (now (roots .entry)) (now (importers .entry)) (now (targets .entry)) (length (now (reached .entry))) (now (reached .exit)) ⌝ }
 {
@@ -68,7 +67,6 @@ pub fn mark_candidates(
     candidates: &mut [u32],
 )
     requires edges { ⌜ ModuleGraph (now importers) (now targets) (length (now candidates)) ⌝ }
-    requires few { ⌜ length (now roots) ≤ 16384 ⌝ }
     requires modules { ⌜ length (now eligible) ≡ length (now candidates) ⌝ }
     requires none { ⌜ ((m : ℕ) → has (now candidates) m ≡ true → ⊥) ⌝ }
     ensures { λ _. ⌜ Chosen (now (included .entry)) (now (roots .entry)) (now (importers .entry)) (now (targets .entry)) (now (eligible .entry)) (now (candidates .entry)) (now (candidates .exit)) ⌝ }

@@ -106,7 +106,7 @@ spread-requires : tie.Need-spread-requires
 spread-requires c κs =
     let e = c .before .before .before .before .before .before .before .before .before .before .before .before .before .before .before .before .before in
     let k = c .before .before .before .before .before .before in
-    spreadable-none (e .pre .0) (threads k) (view-length (heads-lent k)) (view-length (start-lent (c .before .before .before .before .before .before .before .before .before .before))) refl (e .pre .1 .1)
+    spreadable-none (e .pre .0) (threads k) (view-length (heads-lent k)) (view-length (start-lent (c .before .before .before .before .before .before .before .before .before .before))) refl (e .pre .1)
 
 same-length : tie.Need-same-length
 same-length c = search needs
