@@ -106,11 +106,3 @@ pub fn add(first: &[u32], second: &[u32], third: &[u32], set: &mut [u32]) -> boo
     }
     changed
 }
-
-// Adds what is in another set.
-pub fn join(other: &[u32], set: &mut [u32]) -> bool
-    requires { ⌜ length (now other) ≡ length (now set) ⌝ }
-    ensures { λ r. ⌜ Added (λ m. has (now (other .entry)) m ≡ true) (now (set .entry)) (now (set .exit)) r ⌝ }
-{
-    add(other, other, other, set)
-}
