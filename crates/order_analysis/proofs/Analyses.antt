@@ -36,7 +36,7 @@ use Rattle.wrap_plan.specs.Planned.{ordersOf, planOf}
 use Rattle.wrap_rules.specs.Steps.{looked, Owners}
 use Rattle.wrap_plan.specs.Closing.{Basis}
 use Rattle.wrap_rules.proofs.Lists.{marksOf-bits}
-use Rattle.wrap_rules.proofs.Steps.{looked-has, has-looked}
+use Rattle.wrap_rules.proofs.Steps.{looked-has, has-looked, looked-bits}
 use Rattle.wrap_rules.proofs.Rows.{mem-at}
 use Rattle.wrap_plan.proofs.AtProject.{eligible-has, length-labels}
 use Rattle.order_analysis.specs.Whole.{seedsOf, wholePlan}
@@ -175,7 +175,7 @@ module _ (p : Project) (ok : Accepted p) where
       plan-size = o .len ∙ risked-length
 
       plan-bits : Bits plan
-      plan-bits = o .bits (subst Bits (sym risked-is) (marksOf-bits allRisks (modules p)))
+      plan-bits = o .bits (looked-bits eligibles (p .seed) (subst Bits (sym (k .eligibleSet)) (marksOf-bits (eligible p) (modules p)))) (subst Bits (sym risked-is) (marksOf-bits allRisks (modules p)))
 
       there : (m : ℕ) → m < modules p → has plan m ≡ true → (eligible p m && elem m (seedsOf p)) ≡ true
       unfolding Rattle.walk.specs.Close.Within

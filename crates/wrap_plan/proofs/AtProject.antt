@@ -31,7 +31,7 @@ use Rattle.wrap_rules.specs.Plan.{suffixRule, componentRule, importRule, readRu
 use Rattle.wrap_plan.specs.Planned.{ordersOf}
 use Rattle.wrap_rules.specs.Passes.{Passed}
 use Rattle.wrap_rules.specs.Steps.{importTargets, Added}
-use Rattle.wrap_rules.specs.Spread.{Along, Under, Spreads}
+use Rattle.wrap_rules.specs.Spread.{Along, Under, Spreads, ModuleGraph, Edges}
 use Rattle.wrap_rules.specs.Asked.{Together, Members, Row, Importer, Importing, ChainTouch, SymbolTouch, Touching, bySymbol, byDepended, TopLevelRead, Symbols, Reading}
 use Rattle.wrap_rules.specs.Suffix.{Suffixes, sensitiveOrders}
 use Rattle.wrap_plan.specs.Closing.{sensitiveMarks, eligibleMarks, candidateMarks}
@@ -69,7 +69,7 @@ module _ (p : Project) (ok : Accepted p) where
   pub suffixes-fit : Suffixes (p .normal) (p .included) (p .recordModule) (p .recordKind) (p .recordTarget) (sensitiveMarks p) (eligibleMarks p) (modules p)
   suffixes-fit = record {
     few = ok .sizes .normal;
-    fit = record { normals = refl; includeds = ok .sizes .included; kinds = ok .sizes .recordKind; targets = ok .sizes .recordTarget; rising = ok .rises .recordModule };
+    fit = record { normals = refl; includeds = ok .sizes .included; kinds = ok .sizes .recordKind; targets = ok .sizes .recordTarget; rising = ok .rises .recordModule; few = ok .sizes .normal; rows = ok .sizes .recordModule };
     sensitives = length-marksOf (sensitive p) (modules p);
     eligibles = length-marksOf (eligible p) (modules p);
   }
@@ -158,16 +158,10 @@ module _ (p : Project) (ok : Accepted p) where
   abbrev targets : List ℕ
   targets = importTargets (p .recordKind) (p .recordTarget)
 
-  pub importing-fit : (marks : List ℕ) → length marks ≡ modules p → Importing (p .recordModule) (p .recordKind) (p .recordTarget) (p .dependencyModule) (p .dependency) (candidateMarks p) marks (modules p)
-  importing-fit marks n = record {
-    few = ok .sizes .normal;
-    kinds = ok .sizes .recordKind;
-    targets = ok .sizes .recordTarget;
-    fewRecords = ok .sizes .recordModule;
+  pub importing-fit : Importing (p .dependencyModule) (p .dependency) (candidateMarks p) (modules p)
+  importing-fit = record {
     dependencies = ok .sizes .dependency;
-    fewDependencies = ok .sizes .dependencyModule;
     candidate = length-marksOf (λ (m : ℕ). eligible p m && reached p m) (modules p);
-    lead = n;
   }
 
   -- a row whose target is a module is a kind 0 record to it
@@ -183,6 +177,26 @@ module _ (p : Project) (ok : Accepted p) where
   pub row-target : (row : ℕ) → row < length (p .recordModule) → getD (p .recordKind) row 0 ≡ 0 → getD targets row 0 ≡ getD (p .recordTarget) row 0
   row-target row l e =
       target-at (p .recordKind) (p .recordTarget) row 0 (omega (arith, ok .sizes .recordTarget)) ∙ ap (λ (b : Bool). cond b (getD (p .recordTarget) row 0) missing) (eq-eqb (getD (p .recordKind) row 0) 0 e)
+
+  -- the edges lie between modules
+  pub edges-graph : (importers edgeTargets : List ℕ) → length edgeTargets ≡ length importers → Edges (p .recordModule) targets importers edgeTargets (length importers) → ModuleGraph importers edgeTargets (modules p)
+  edges-graph importers edgeTargets n g = record {
+    few = ok .sizes .normal;
+    rows = omega (arith, g .few, ok .sizes .recordModule);
+    lengths = n;
+    froms = λ i l. let r = g .row i l in subst (λ (x : ℕ). x < modules p) (r .2) (ok .values .recordModule (r .0) (r .1));
+    tos = λ i l. let r = g .row i l in subst (λ (x : ℕ). x < modules p) (r .3) (inside (r .0) (r .1) (r .4));
+  }
+    where
+      inside : (row : ℕ) → row < length (p .recordModule) → (getD targets row 0 ≡ missing → ⊥) → getD targets row 0 < modules p
+      inside row l n =
+          let e : getD targets row 0 ≡ cond (isImport (getD (p .recordKind) row 0)) (getD (p .recordTarget) row 0) missing = target-at (p .recordKind) (p .recordTarget) row 0 (omega (arith, ok .sizes .recordTarget)) in
+          ⊎-elim
+          (λ q.
+          let f : getD targets row 0 ≡ getD (p .recordTarget) row 0 = e ∙ ap (λ (b : Bool). cond b (getD (p .recordTarget) row 0) missing) q in
+          ⊎-elim (λ k. subst (λ (x : ℕ). x < modules p) (sym f) k) (λ z. absurd (n (f ∙ z))) (ok .values .recordTarget row (omega (arith, ok .sizes .recordTarget))))
+          (λ q. absurd (n (e ∙ ap (λ (b : Bool). cond b (getD (p .recordTarget) row 0) missing) q)))
+          (both (isImport (getD (p .recordKind) row 0)))
 
   -- closed along the records from target to owner, and closed backward, are the same
   along-backward : (L : List ℕ) → length L ≡ modules p → Along targets (p .recordModule) L → Backward p L

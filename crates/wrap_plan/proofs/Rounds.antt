@@ -1,30 +1,35 @@
 -- One pass of each rule at a project, and passes until nothing changes.
 -- Assumes nothing.
 use mathlib.Core.Path.{_≡_, refl, sym, ap, subst, _∙_}
-use mathlib.Core.Bool.{Bool, true, false, _||_}
+use mathlib.Core.Bool.{Bool, true, false, _&&_, _||_}
 use mathlib.Core.List.{List}
 use Prim.Native.Nat.{ℕ, _+_, _≤_, _<_}
 use native.Mathlib.Omega.{arith}
 use lib.ListN.{length, getD}
 use Rattle.lists.specs.Words.{has, zeros, bit}
+use Rattle.lists.proofs.Laws.{has-in, length-marksOf}
 use Rattle.walk.specs.Close.{close, Within, Bits}
-use Rattle.tables.specs.Project.{Project}
+use Rattle.tables.specs.Project.{Project, missing}
 use Rattle.tables.specs.Readings.{modules}
 use Rattle.tables.specs.Accepted.{Below}
 use Rattle.tables.proofs.Accepted.{getD-mem}
 use Rattle.chunk_cycles.specs.Cycles.{labelsOf}
+use Rattle.chunk_cycles.specs.Threads.{Linked}
+use Rattle.at_risk.specs.Marks.{eligible}
 use Rattle.wrap_rules.specs.Rules.{suffixAsks}
-use Rattle.wrap_rules.specs.Plan.{suffixRule, componentRule, importRule, readRule, roots, asks, asked}
+use Rattle.wrap_rules.specs.Plan.{suffixRule, componentRule, importRule, readRule, roots, reached, asks, asked}
 use Rattle.wrap_plan.specs.Planned.{ordersOf}
 use Rattle.wrap_rules.specs.Passes.{Passed}
 use Rattle.wrap_rules.specs.Steps.{importTargets, Added}
-use Rattle.wrap_rules.specs.Spread.{Along, Under, Spreads}
+use Rattle.wrap_rules.specs.Spread.{Along, Under, Spreads, Spreadable}
 use Rattle.wrap_rules.specs.Asked.{Together, Members, Importer, Importing, TopLevelRead, Reading}
 use Rattle.wrap_rules.specs.Suffix.{Suffixes, sensitiveOrders, AllPlanned, Settled}
 use Rattle.wrap_plan.specs.Closing.{sensitiveMarks, eligibleMarks, candidateMarks, Made, Kept}
 use Rattle.wrap_rules.proofs.Monotone.{asked-monotone}
 use Rattle.wrap_rules.proofs.Passes.{pass-rules, Spread, spread-start, spread-step, spread-end}
 use Rattle.wrap_rules.proofs.Extending.{planned-more}
+use Rattle.wrap_rules.proofs.Steps.{added-cong, length-targets}
+use Rattle.wrap_rules.proofs.Edging.{RowsIn, rows-back, edges-rows, rows-edges, along-rows, under-rows, spreads-rows, row-rows, graph-linked}
 use Rattle.wrap_plan.proofs.AtProject.{suffixes-fit, suffix-pass, members-fit, component-pass, importing-fit, import-pass, reading-fit, read-pass}
 use Rattle.wrap_plan.proofs.Reached.{root-in}
 
@@ -33,7 +38,7 @@ pub under-more : (from to s t L : List ℕ) → length t ≡ length s → Within
 unfolding Within Under
 under-more from to s t L n w u M k v = u M (k ∙ n) (λ m e. v m (w m e))
 
-module _ (p : Project) (labels rootList sensitives eligibles candidates : List ℕ) (made : Made p labels rootList sensitives eligibles candidates) where
+module _ (p : Project) (labels rootList sensitives eligibles candidates importers targets heads nexts : List ℕ) (made : Made p labels rootList sensitives eligibles candidates importers targets heads nexts) where
   -- what the four passes ask, over n modules
 
   module _ (n : ℕ) (e : n ≡ modules p) where
@@ -54,15 +59,44 @@ module _ (p : Project) (labels rootList sensitives eligibles candidates : List �
         (subst (λ (s : List ℕ). Members (p .chunk) (p .memberChunk) (p .member) (labelsOf p) (sensitiveMarks p) s n) (sym (made .eligibleSet))
         (subst (Members (p .chunk) (p .memberChunk) (p .member) (labelsOf p) (sensitiveMarks p) (eligibleMarks p)) (sym e) (members-fit p (made .accepted)))))
 
-    pub importing-ready : (leads : List ℕ) → length leads ≡ modules p → Importing (p .recordModule) (p .recordKind) (p .recordTarget) (p .dependencyModule) (p .dependency) candidates leads n
-    importing-ready leads k =
-        subst (λ (s : List ℕ). Importing (p .recordModule) (p .recordKind) (p .recordTarget) (p .dependencyModule) (p .dependency) s leads n) (sym (made .candidateSet))
-        (subst (Importing (p .recordModule) (p .recordKind) (p .recordTarget) (p .dependencyModule) (p .dependency) (candidateMarks p) leads) (sym e) (importing-fit p (made .accepted) leads k))
+    pub importing-ready : Importing (p .dependencyModule) (p .dependency) candidates n
+    importing-ready =
+        subst (λ (s : List ℕ). Importing (p .dependencyModule) (p .dependency) s n) (sym (made .candidateSet))
+        (subst (Importing (p .dependencyModule) (p .dependency) (candidateMarks p)) (sym e) (importing-fit p (made .accepted)))
 
     pub reading-ready : Reading (p .reads) (p .referenceStatement) (p .referenceSymbol) (p .dependedReference) (p .depended) candidates n
     reading-ready =
         subst (λ (s : List ℕ). Reading (p .reads) (p .referenceStatement) (p .referenceSymbol) (p .dependedReference) (p .depended) s n) (sym (made .candidateSet))
         (subst (Reading (p .reads) (p .referenceStatement) (p .referenceSymbol) (p .dependedReference) (p .depended) (candidateMarks p)) (sym e) (reading-fit p (made .accepted)))
+
+  -- from target to importer, the edges are the records
+
+  abbrev recordTargets : List ℕ
+  recordTargets = importTargets (p .recordKind) (p .recordTarget)
+
+  few : modules p ≤ missing
+  few = omega (arith, made .accepted .sizes .normal)
+
+  record-lengths : length recordTargets ≡ length (p .recordModule)
+  record-lengths = length-targets (p .recordKind) (p .recordTarget) ∙ made .accepted .sizes .recordTarget
+
+  edges-back : RowsIn targets importers recordTargets (p .recordModule) (modules p)
+  edges-back = rows-back importers targets (p .recordModule) recordTargets (modules p) (sym (made .graph .lengths)) record-lengths (edges-rows (p .recordModule) recordTargets importers targets (modules p) few (made .edges))
+
+  records-back : RowsIn recordTargets (p .recordModule) targets importers (modules p)
+  records-back = rows-back (p .recordModule) recordTargets importers targets (modules p) record-lengths (sym (made .graph .lengths)) (rows-edges (p .recordModule) recordTargets importers targets (modules p) few (made .edges))
+
+  pub leads-ready : (s L : List ℕ) → length s ≡ modules p → length L ≡ modules p → Along recordTargets (p .recordModule) L → Under recordTargets (p .recordModule) s L → Spreadable targets importers heads nexts s L
+  leads-ready s L n k a u = record {
+    few = omega (arith, made .accepted .sizes .normal);
+    len = k ∙ sym n;
+    linked = subst (Linked targets importers heads nexts) (sym n) (graph-linked (made .graph) (made .threads) (omega (arith, made .headSize)));
+    along = along-rows targets importers recordTargets (p .recordModule) L (modules p) k edges-back a;
+    under = under-rows targets importers recordTargets (p .recordModule) s L (modules p) n records-back u;
+  }
+
+  spread-records : {s L : List ℕ} → length s ≡ modules p → Spreads targets importers s L → Spreads recordTargets (p .recordModule) s L
+  spread-records {s} {L} n h = spreads-rows recordTargets (p .recordModule) targets importers s L (modules p) n records-back edges-back h
 
   -- the four passes in turn
   abbrev Suffixed : List ℕ → List ℕ → Bool → Type 0
@@ -71,11 +105,8 @@ module _ (p : Project) (labels rootList sensitives eligibles candidates : List �
   abbrev Joined : List ℕ → List ℕ → Bool → Type 0
   Joined s t r = Added (λ (m : ℕ). Together (p .chunk) (p .memberChunk) (p .member) labels s m × (has sensitives m ≡ true) × (has eligibles m ≡ true)) s t r
 
-  abbrev targets : List ℕ
-  targets = importTargets (p .recordKind) (p .recordTarget)
-
   abbrev Imported : List ℕ → List ℕ → List ℕ → Bool → Type 0
-  Imported L s t r = Added (Importer (p .recordModule) targets (p .dependencyModule) (p .dependency) candidates s L) s t r
+  Imported L s t r = Added (Importer importers targets (p .dependencyModule) (p .dependency) candidates s L) s t r
 
   abbrev Readings : List ℕ → List ℕ → Bool → Type 0
   Readings s t r = Added (TopLevelRead (p .reads) (p .statementModule) (p .owner) (p .canonical) (p .chainSymbol) (p .chainLink) (p .referenceStatement) (p .referenceSymbol) (p .dependedReference) (p .depended) candidates s) s t r
@@ -94,10 +125,17 @@ module _ (p : Project) (labels rootList sensitives eligibles candidates : List �
       (subst (λ (x : List ℕ). Added (λ (m : ℕ). Together (p .chunk) (p .memberChunk) (p .member) labels s m × (has x m ≡ true) × (has (eligibleMarks p) m ≡ true)) s t r) (made .sensitiveSet)
       (subst (λ (x : List ℕ). Added (λ (m : ℕ). Together (p .chunk) (p .memberChunk) (p .member) labels s m × (has sensitives m ≡ true) × (has x m ≡ true)) s t r) (made .eligibleSet) h)))
 
-  third : {s t L : List ℕ} {r : Bool} → length s ≡ modules p → Bits s → Spreads targets (p .recordModule) s L → Imported L s t r → Passed (asks (ordersOf p) (labelsOf p) p importRule) s t r
+  third : {s t L : List ℕ} {r : Bool} → length s ≡ modules p → Bits s → Spreads targets importers s L → Imported L s t r → Passed (asks (ordersOf p) (labelsOf p) p importRule) s t r
   third {s} {t} {L} {r} n b w h =
-      import-pass p (made .accepted) s L n w (ordersOf p) (labelsOf p) b
-      (subst (λ (x : List ℕ). Added (Importer (p .recordModule) targets (p .dependencyModule) (p .dependency) x s L) s t r) (made .candidateSet) h)
+      import-pass p (made .accepted) s L n (spread-records n w) (ordersOf p) (labelsOf p) b
+      (subst (λ (x : List ℕ). Added (Importer (p .recordModule) recordTargets (p .dependencyModule) (p .dependency) x s L) s t r) (made .candidateSet)
+      (added-cong (Importer importers targets (p .dependencyModule) (p .dependency) candidates s L) (Importer (p .recordModule) recordTargets (p .dependencyModule) (p .dependency) candidates s L)
+      (λ m l q. record { candidate = q .candidate; depends = q .depends; leading = row-rows (p .recordModule) recordTargets importers targets L (modules p) (w .len ∙ n) (rows-edges (p .recordModule) recordTargets importers targets (modules p) few (made .edges)) m (omega (arith, n)) (q .leading) })
+      (λ m q. record { candidate = q .candidate; depends = q .depends; leading = row-rows importers targets (p .recordModule) recordTargets L (modules p) (w .len ∙ n) (edges-rows (p .recordModule) recordTargets importers targets (modules p) few (made .edges)) m (candidate-in m (q .candidate)) (q .leading) })
+      h))
+    where
+      candidate-in : (m : ℕ) → has candidates m ≡ true → m < modules p
+      candidate-in m e = omega (arith, has-in candidates m e, ap length (made .candidateSet), length-marksOf (λ (x : ℕ). eligible p x && reached p x) (modules p))
 
   fourth : {s t : List ℕ} {r : Bool} → Bits s → Readings s t r → Passed (asks (ordersOf p) (labelsOf p) p readRule) s t r
   fourth {s} {t} {r} b h =
@@ -106,7 +144,7 @@ module _ (p : Project) (labels rootList sensitives eligibles candidates : List �
 
   pub once : {settled leads plan settled′ leads′ t u v w : List ℕ} {a b c d r : Bool} → Kept p rootList sensitives eligibles settled leads plan
       → length settled′ ≡ length settled → Settled (p .normal) (p .included) (p .recordModule) (p .recordKind) (p .recordTarget) rootList sensitives eligibles settled′ t
-      → Suffixed plan t a → Joined t u b → Spreads targets (p .recordModule) u leads′ → Imported leads′ u v c → Readings v w d → (a || (b || (c || d))) ≡ r
+      → Suffixed plan t a → Joined t u b → Spreads targets importers u leads′ → Imported leads′ u v c → Readings v w d → (a || (b || (c || d))) ≡ r
       → Kept p rootList sensitives eligibles settled′ leads′ w × Passed (asked (ordersOf p) (labelsOf p) p) plan w r
   unfolding Settled Within
   once {settled} {leads} {plan} {settled′} {leads′} {t} {u} {v} {w} kept n h f g s i j e =
@@ -121,7 +159,8 @@ module _ (p : Project) (labels rootList sensitives eligibles candidates : List �
           settledSize = n ∙ kept .settledSize;
           settles = λ k l q. planned-more _ sensitives eligibles t w (λ m x. four .grows m (three .grows m (two .grows m x))) (h k l q);
           leadSize = s .len ∙ size;
-          under = under-more targets (p .recordModule) u w leads′ (four .len ∙ three .len) (λ m x. four .grows m (three .grows m x)) (s .under);
+          along = spread-records size s .along;
+          under = under-more recordTargets (p .recordModule) u w leads′ (four .len ∙ three .len) (λ m x. four .grows m (three .grows m x)) (spread-records size s .under);
         },
         subst (Passed (asked (ordersOf p) (labelsOf p) p) plan w) e (pass-rules (ordersOf p) (labelsOf p) p one two three four),
       )

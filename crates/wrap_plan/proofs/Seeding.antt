@@ -23,7 +23,8 @@ use Rattle.wrap_rules.specs.Plan.{start, planFrom, asked}
 use Rattle.wrap_plan.specs.Planned.{ordersOf, planOf}
 use Rattle.wrap_rules.specs.Steps.{looked, Owners}
 use Rattle.wrap_plan.specs.Closing.{sensitiveMarks, eligibleMarks, Basis, Marked}
-use Rattle.wrap_rules.proofs.Steps.{looked-has, has-looked}
+use Rattle.wrap_rules.proofs.Lists.{marksOf-bits}
+use Rattle.wrap_rules.proofs.Steps.{looked-has, has-looked, looked-bits}
 use Rattle.wrap_rules.proofs.Rows.{mem-at}
 use Rattle.wrap_plan.proofs.AtProject.{eligible-has}
 
@@ -39,7 +40,7 @@ module _ (p : Project) (names sensitives eligibles : List ℕ) (n : ℕ) (k : Ma
   plan-size = o .len ∙ ap length z ∙ length-replicate n 0 ∙ k .size
 
   plan-bits : Bits plan
-  plan-bits = o .bits (subst Bits (sym z) (bits-replicate n))
+  plan-bits = o .bits (looked-bits eligibles seeds (subst Bits (sym (k .eligibleSet)) (marksOf-bits (eligible p) (modules p)))) (subst Bits (sym z) (bits-replicate n))
 
   -- the marks of the eligible seeds
   seeds-start : plan ≡ start (ordersOf p) (labelsOf p) p seeds

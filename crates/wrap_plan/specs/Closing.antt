@@ -11,12 +11,13 @@ use Rattle.tables.specs.Project.{Project}
 use Rattle.tables.specs.Readings.{modules}
 use Rattle.tables.specs.Accepted.{Accepted}
 use Rattle.chunk_cycles.specs.Cycles.{labelsOf}
+use Rattle.chunk_cycles.specs.Threads.{Threads}
 use Rattle.at_risk.specs.Marks.{sensitive, eligible}
 use Rattle.wrap_rules.specs.Plan.{roots, reached, asked}
 use Rattle.wrap_plan.specs.Planned.{ordersOf, planOf}
 use Rattle.wrap_rules.specs.Passes.{Passed}
 use Rattle.wrap_rules.specs.Steps.{importTargets}
-use Rattle.wrap_rules.specs.Spread.{Under}
+use Rattle.wrap_rules.specs.Spread.{Along, Under, ModuleGraph, Edges}
 use Rattle.wrap_rules.specs.Suffix.{Settled}
 
 -- the columns that closing doesn't read, or reads only at first
@@ -89,14 +90,18 @@ eligibleMarks p = marksOf (eligible p) (modules p)
 abbrev pub candidateMarks : Project → List ℕ
 candidateMarks p = marksOf (λ (m : ℕ). eligible p m && reached p m) (modules p)
 
--- what is made of an accepted project before closing
-pub record Made (p : Project) (labels rootList sensitives eligibles candidates : List ℕ) : Type 0 where
+-- what is made of an accepted project before closing; the edges are threaded by their targets
+pub record Made (p : Project) (labels rootList sensitives eligibles candidates importers targets heads nexts : List ℕ) : Type 0 where
   pub accepted : Accepted p
   pub label : labels ≡ labelsOf p
   pub root : rootList ≡ roots p
   pub sensitiveSet : sensitives ≡ sensitiveMarks p
   pub eligibleSet : eligibles ≡ eligibleMarks p
   pub candidateSet : candidates ≡ candidateMarks p
+  pub edges : Edges (p .recordModule) (importTargets (p .recordKind) (p .recordTarget)) importers targets (length importers)
+  pub graph : ModuleGraph targets importers (modules p)
+  pub threads : Threads targets heads nexts
+  pub headSize : length heads ≡ modules p
 
 -- what holds of the sets that change, before and after each pass
 pub record Kept (p : Project) (rootList sensitives eligibles settled leads plan : List ℕ) : Type 0 where
@@ -105,23 +110,24 @@ pub record Kept (p : Project) (rootList sensitives eligibles settled leads plan 
   pub settledSize : length settled ≡ length rootList
   pub settles : Settled (p .normal) (p .included) (p .recordModule) (p .recordKind) (p .recordTarget) rootList sensitives eligibles settled plan
   pub leadSize : length leads ≡ modules p
+  pub along : Along (importTargets (p .recordKind) (p .recordTarget)) (p .recordModule) leads
   pub under : Under (importTargets (p .recordKind) (p .recordTarget)) (p .recordModule) plan leads
 
 -- there is a project of which all this holds; `of` puts the rest and the columns together
-unfoldable pub Ready : (Rest → Project) → List ℕ → List ℕ → List ℕ → List ℕ → List ℕ → List ℕ → List ℕ → List ℕ → Type 0
-Ready of labels rootList sensitives eligibles candidates settled leads plan =
-    (rest : Rest) × Made (of rest) labels rootList sensitives eligibles candidates × Kept (of rest) rootList sensitives eligibles settled leads plan
+unfoldable pub Ready : (Rest → Project) → List ℕ → List ℕ → List ℕ → List ℕ → List ℕ → List ℕ → List ℕ → List ℕ → List ℕ → List ℕ → List ℕ → List ℕ → Type 0
+Ready of labels rootList sensitives eligibles candidates importers targets heads nexts settled leads plan =
+    (rest : Rest) × Made (of rest) labels rootList sensitives eligibles candidates importers targets heads nexts × Kept (of rest) rootList sensitives eligibles settled leads plan
 
 -- one pass of each rule, at every project of which it holds
-unfoldable pub Once : (Rest → Project) → List ℕ → List ℕ → List ℕ → List ℕ → List ℕ → List ℕ → List ℕ → List ℕ → List ℕ → List ℕ → List ℕ → Bool → Type 0
-Once of labels rootList sensitives eligibles candidates settled leads plan settled′ leads′ plan′ changed =
-    (rest : Rest) → Made (of rest) labels rootList sensitives eligibles candidates → Kept (of rest) rootList sensitives eligibles settled leads plan
+unfoldable pub Once : (Rest → Project) → List ℕ → List ℕ → List ℕ → List ℕ → List ℕ → List ℕ → List ℕ → List ℕ → List ℕ → List ℕ → List ℕ → List ℕ → List ℕ → List ℕ → List ℕ → Bool → Type 0
+Once of labels rootList sensitives eligibles candidates importers targets heads nexts settled leads plan settled′ leads′ plan′ changed =
+    (rest : Rest) → Made (of rest) labels rootList sensitives eligibles candidates importers targets heads nexts → Kept (of rest) rootList sensitives eligibles settled leads plan
     → Kept (of rest) rootList sensitives eligibles settled′ leads′ plan′ × Passed (asked (ordersOf (of rest)) (labelsOf (of rest)) (of rest)) plan plan′ changed
 
 -- the plan is closed, at every project of which it holds
-unfoldable pub Finished : (Rest → Project) → List ℕ → List ℕ → List ℕ → List ℕ → List ℕ → List ℕ → List ℕ → List ℕ → List ℕ → Type 0
-Finished of labels rootList sensitives eligibles candidates settled leads plan plan′ =
-    (rest : Rest) → Made (of rest) labels rootList sensitives eligibles candidates → Kept (of rest) rootList sensitives eligibles settled leads plan
+unfoldable pub Finished : (Rest → Project) → List ℕ → List ℕ → List ℕ → List ℕ → List ℕ → List ℕ → List ℕ → List ℕ → List ℕ → List ℕ → List ℕ → List ℕ → List ℕ → Type 0
+Finished of labels rootList sensitives eligibles candidates importers targets heads nexts settled leads plan plan′ =
+    (rest : Rest) → Made (of rest) labels rootList sensitives eligibles candidates importers targets heads nexts → Kept (of rest) rootList sensitives eligibles settled leads plan
     → plan′ ≡ close (asked (ordersOf (of rest)) (labelsOf (of rest)) (of rest)) plan
 
 -- what is made of an accepted project before its roots and candidates are, and a plan to start from

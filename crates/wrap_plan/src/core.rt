@@ -5,6 +5,7 @@ ghost use Rattle.wrap_plan.specs.Closing.{whole, Ready, Once, Finished, 
 use at_risk::core::mark_eligible;
 use at_risk::core::mark_sensitive;
 use chunk_cycles::core::label_chunks;
+use chunk_cycles::core::thread;
 use lists::core::count_marked;
 use lists::core::fill;
 use wrap_rules::component::close_cyclic_chunk_members;
@@ -13,6 +14,7 @@ use wrap_rules::reads::close_top_level_readers;
 use wrap_rules::roots::list_roots;
 use wrap_rules::roots::mark_candidates;
 use wrap_rules::seeds::mark_seeds;
+use wrap_rules::spread::import_edges;
 use wrap_rules::suffixes::close_expected_sensitive_suffixes;
 
 // One pass of each rule. Whether any module was added.
@@ -42,12 +44,16 @@ fn close_once<'a>(
     sensitive: &[u32],
     eligible: &[u32],
     candidates: &[u32],
+    importers: &[u32],
+    targets: &[u32],
+    heads: &[u32],
+    nexts: &[u32],
     settled: &mut [u32],
     leads: &mut [u32],
     plan: &mut [u32],
 ) -> bool
-    requires { ⌜ Ready (λ rest. whole rest (now normal) (now included) (now reads) (now chunk) (now «record_module») (now «record_kind») (now «record_target») (now «dependency_module») (now dependency) (now «statement_module») (now owner) (now canonical) (now «chain_symbol») (now «chain_link») (now «reference_statement») (now «reference_symbol») (now «depended_reference») (now depended) (now «member_chunk») (now member)) (now labels) (now roots) (now sensitive) (now eligible) (now candidates) (now settled) (now leads) (now plan) ⌝ }
-    ensures { λ r. ⌜ Once (λ rest. whole rest (now (normal .entry)) (now (included .entry)) (now (reads .entry)) (now (chunk .entry)) (now («record_module» .entry)) (now («record_kind» .entry)) (now («record_target» .entry)) (now («dependency_module» .entry)) (now (dependency .entry)) (now («statement_module» .entry)) (now (owner .entry)) (now (canonical .entry)) (now («chain_symbol» .entry)) (now («chain_link» .entry)) (now («reference_statement» .entry)) (now («reference_symbol» .entry)) (now («depended_reference» .entry)) (now (depended .entry)) (now («member_chunk» .entry)) (now (member .entry))) (now (labels .entry)) (now (roots .entry)) (now (sensitive .entry)) (now (eligible .entry)) (now (candidates .entry)) (now (settled .entry)) (now (leads .entry)) (now (plan .entry)) (now (settled .exit)) (now (leads .exit)) (now (plan .exit)) r ⌝ }
+    requires { ⌜ Ready (λ rest. whole rest (now normal) (now included) (now reads) (now chunk) (now «record_module») (now «record_kind») (now «record_target») (now «dependency_module») (now dependency) (now «statement_module») (now owner) (now canonical) (now «chain_symbol») (now «chain_link») (now «reference_statement») (now «reference_symbol») (now «depended_reference») (now depended) (now «member_chunk») (now member)) (now labels) (now roots) (now sensitive) (now eligible) (now candidates) (now importers) (now targets) (now heads) (now nexts) (now settled) (now leads) (now plan) ⌝ }
+    ensures { λ r. ⌜ Once (λ rest. whole rest (now (normal .entry)) (now (included .entry)) (now (reads .entry)) (now (chunk .entry)) (now («record_module» .entry)) (now («record_kind» .entry)) (now («record_target» .entry)) (now («dependency_module» .entry)) (now (dependency .entry)) (now («statement_module» .entry)) (now (owner .entry)) (now (canonical .entry)) (now («chain_symbol» .entry)) (now («chain_link» .entry)) (now («reference_statement» .entry)) (now («reference_symbol» .entry)) (now («depended_reference» .entry)) (now (depended .entry)) (now («member_chunk» .entry)) (now (member .entry))) (now (labels .entry)) (now (roots .entry)) (now (sensitive .entry)) (now (eligible .entry)) (now (candidates .entry)) (now (importers .entry)) (now (targets .entry)) (now (heads .entry)) (now (nexts .entry)) (now (settled .entry)) (now (leads .entry)) (now (plan .entry)) (now (settled .exit)) (now (leads .exit)) (now (plan .exit)) r ⌝ }
 {
     let suffixes = close_expected_sensitive_suffixes(
         normal,
@@ -70,10 +76,11 @@ fn close_once<'a>(
         eligible,
         plan,
     );
-    let importers = close_static_importers(
-        record_module,
-        record_kind,
-        record_target,
+    let imports = close_static_importers(
+        importers,
+        targets,
+        heads,
+        nexts,
         dependency_module,
         dependency,
         candidates,
@@ -100,7 +107,7 @@ fn close_once<'a>(
     if members {
         return true;
     }
-    if importers {
+    if imports {
         return true;
     }
     readers
@@ -133,12 +140,16 @@ fn close_plan<'a>(
     sensitive: &[u32],
     eligible: &[u32],
     candidates: &[u32],
+    importers: &[u32],
+    targets: &[u32],
+    heads: &[u32],
+    nexts: &[u32],
     settled: &mut [u32],
     leads: &mut [u32],
     plan: &mut [u32],
 )
-    requires { ⌜ Ready (λ rest. whole rest (now normal) (now included) (now reads) (now chunk) (now «record_module») (now «record_kind») (now «record_target») (now «dependency_module») (now dependency) (now «statement_module») (now owner) (now canonical) (now «chain_symbol») (now «chain_link») (now «reference_statement») (now «reference_symbol») (now «depended_reference») (now depended) (now «member_chunk») (now member)) (now labels) (now roots) (now sensitive) (now eligible) (now candidates) (now settled) (now leads) (now plan) ⌝ }
-    ensures { λ _. ⌜ Finished (λ rest. whole rest (now (normal .entry)) (now (included .entry)) (now (reads .entry)) (now (chunk .entry)) (now («record_module» .entry)) (now («record_kind» .entry)) (now («record_target» .entry)) (now («dependency_module» .entry)) (now (dependency .entry)) (now («statement_module» .entry)) (now (owner .entry)) (now (canonical .entry)) (now («chain_symbol» .entry)) (now («chain_link» .entry)) (now («reference_statement» .entry)) (now («reference_symbol» .entry)) (now («depended_reference» .entry)) (now (depended .entry)) (now («member_chunk» .entry)) (now (member .entry))) (now (labels .entry)) (now (roots .entry)) (now (sensitive .entry)) (now (eligible .entry)) (now (candidates .entry)) (now (settled .entry)) (now (leads .entry)) (now (plan .entry)) (now (plan .exit)) ⌝ }
+    requires { ⌜ Ready (λ rest. whole rest (now normal) (now included) (now reads) (now chunk) (now «record_module») (now «record_kind») (now «record_target») (now «dependency_module») (now dependency) (now «statement_module») (now owner) (now canonical) (now «chain_symbol») (now «chain_link») (now «reference_statement») (now «reference_symbol») (now «depended_reference») (now depended) (now «member_chunk») (now member)) (now labels) (now roots) (now sensitive) (now eligible) (now candidates) (now importers) (now targets) (now heads) (now nexts) (now settled) (now leads) (now plan) ⌝ }
+    ensures { λ _. ⌜ Finished (λ rest. whole rest (now (normal .entry)) (now (included .entry)) (now (reads .entry)) (now (chunk .entry)) (now («record_module» .entry)) (now («record_kind» .entry)) (now («record_target» .entry)) (now («dependency_module» .entry)) (now (dependency .entry)) (now («statement_module» .entry)) (now (owner .entry)) (now (canonical .entry)) (now («chain_symbol» .entry)) (now («chain_link» .entry)) (now («reference_statement» .entry)) (now («reference_symbol» .entry)) (now («depended_reference» .entry)) (now (depended .entry)) (now («member_chunk» .entry)) (now (member .entry))) (now (labels .entry)) (now (roots .entry)) (now (sensitive .entry)) (now (eligible .entry)) (now (candidates .entry)) (now (importers .entry)) (now (targets .entry)) (now (heads .entry)) (now (nexts .entry)) (now (settled .entry)) (now (leads .entry)) (now (plan .entry)) (now (plan .exit)) ⌝ }
 {
     let mut more = true;
     while more {
@@ -168,6 +179,10 @@ fn close_plan<'a>(
             sensitive,
             eligible,
             candidates,
+            importers,
+            targets,
+            heads,
+            nexts,
             settled,
             leads,
             plan,
@@ -209,16 +224,27 @@ fn close_from_roots<'a>(
 {
     let n = plan.len();
     let rows = roots.len();
-    let mut candidates = [0u32; 4096];
-    mark_candidates(
-        included,
+    let mut importers = [0u32; 16384];
+    let mut targets = [0u32; 16384];
+    let edges = import_edges(
         record_module,
         record_kind,
         record_target,
+        &mut importers,
+        &mut targets,
+    );
+    let mut candidates = [0u32; 4096];
+    mark_candidates(
+        included,
+        &importers[..edges],
+        &targets[..edges],
         roots,
         eligible,
         &mut candidates[..n],
     );
+    let mut heads = [0u32; 4096];
+    let mut nexts = [0u32; 16384];
+    thread(&targets[..edges], &mut heads[..n], &mut nexts[..edges]);
     let mut settled = [0u32; 16384];
     let mut leads = [0u32; 4096];
     close_plan(
@@ -247,6 +273,10 @@ fn close_from_roots<'a>(
         sensitive,
         eligible,
         &candidates[..n],
+        &importers[..edges],
+        &targets[..edges],
+        &heads[..n],
+        &nexts[..edges],
         &mut settled[..rows],
         &mut leads[..n],
         plan,

@@ -9,6 +9,7 @@ pub mod Rows
 pub mod Touches
 pub mod Steps
 pub mod Spreading
+pub mod Edging
 pub mod Parts
 pub mod Marking
 pub mod Extending

@@ -1,18 +1,21 @@
 -- What the passes over rows mark: the steps put together.
 -- Assumes nothing.
-use mathlib.Core.Path.{_≡_, refl, sym, ap, subst, _∙_}
+use mathlib.Core.Path.{_≡_, sym, ap, subst, _∙_}
 use mathlib.Core.Logic.{_⊎_, inl, inr, ⊎-elim}
-use mathlib.Core.Bool.{Bool, true, false}
-use mathlib.Core.List.{List}
-use Prim.Native.Nat.{ℕ, _≤_, _<_}
+use mathlib.Core.Bool.{true, not, true≢false, false≢true}
+use mathlib.Core.List.{List, [], _∷_}
+use Prim.Native.Nat.{ℕ, zero, suc, _+_, _≤_, _<_}
 use native.Mathlib.Omega.{arith}
-use lib.ListN.{length, getD}
-use Rattle.lists.specs.Words.{has}
+use native.Mathlib.Decide.{ℕ-discrete}
+use lib.ListN.{length, getD, set}
+use lib.Seq.{getD-set-same, getD-set-other}
+use Rattle.lists.specs.Words.{isZero, has, ones}
 use Rattle.lists.proofs.Laws.{has-in}
 use Rattle.walk.specs.Close.{Within}
+use Rattle.tables.specs.Lookups.{Greater}
 use Rattle.tables.specs.Project.{missing}
-use Rattle.chunk_cycles.proofs.Lists.{getD-in}
-use Rattle.wrap_rules.specs.Steps.{looked, Owners, Added, InAll}
+use Rattle.chunk_cycles.proofs.Lists.{mark-in, mark-out, getD-in}
+use Rattle.wrap_rules.specs.Steps.{looked, Owners, InAll}
 use Rattle.wrap_rules.specs.Asked.{Marks, Together, Row, Importer, ChainTouch, SymbolTouch, ReferenceTouch, Touching, bySymbol, byDepended, Reader, TopLevelRead}
 use Rattle.wrap_rules.proofs.Steps.{length-looked, looked-at, looked-has, has-looked}
 
@@ -31,41 +34,49 @@ module _ (owner value S s t : List ℕ) (none : (m : ℕ) → has s m ≡ true �
 
 -- (ii)
 
-module _ (chunk memberChunk member labels S hits₀ hits marks₀ marks : List ℕ)
-    (noHits : (m : ℕ) → has hits₀ m ≡ true → ⊥) (noMarks : (m : ℕ) → has marks₀ m ≡ true → ⊥)
-    (size : length hits₀ ≡ length labels) (chunks : length chunk ≡ length S) (rows : length memberChunk ≡ length member)
-    (h : Owners (looked missing labels chunk) S (length S) hits₀ hits)
-    (o : Owners member (looked 0 hits (looked missing labels memberChunk)) (length member) marks₀ marks) where
-  pub members-together : (m : ℕ) → has marks m ≡ true → Together chunk memberChunk member labels S m
-  members-together m e =
-      let r = owners-row member (looked missing labels memberChunk) hits marks₀ marks noMarks (length-looked missing labels memberChunk ∙ rows) o m e in
-      let label : getD (looked missing labels memberChunk) (r .row) 0 ≡ getD labels (getD memberChunk (r .row) 0) missing = looked-at missing labels memberChunk (r .row) 0 (omega (arith, rows, r .there)) in
-      ⊎-elim (λ k. absurd (noHits (getD (looked missing labels memberChunk) (r .row) 0) k))
-      (λ q.
-      let x = q .0 in
-      let of : getD (looked missing labels chunk) x 0 ≡ getD labels (getD chunk x 0) missing = looked-at missing labels chunk x 0 (omega (arith, chunks, q .1)) in
-      let within : getD (looked missing labels memberChunk) (r .row) 0 < length hits = has-in hits _ (r .holds) in
-      record {
-        row = r .row;
-        there = r .there;
-        named = r .named;
-        planned = x;
-        inside = omega (arith, chunks, q .1);
-        holds = q .2;
-        same = sym label ∙ sym (q .3) ∙ of;
-        labelled = subst (λ (i : ℕ). i < length labels) (sym (q .3) ∙ of) (omega (arith, within, h .len, size));
-      })
-      (h .only (getD (looked missing labels memberChunk) (r .row) 0) (r .holds))
+-- nothing is in where no mark is counted
+pub ones-none : (s : List ℕ) → ones s ≡ 0 → (m : ℕ) → has s m ≡ true → ⊥
+ones-none [] n m e = false≢true e
+ones-none (zero ∷ s) n zero e = false≢true e
+ones-none (zero ∷ s) n (suc m) e = ones-none s n m e
+ones-none (suc x ∷ s) n m e = omega arith
 
-  pub together-members : (m : ℕ) → m < length marks₀ → Together chunk memberChunk member labels S m → has marks m ≡ true
-  together-members m l t =
-      let label : getD (looked missing labels memberChunk) (t .row) 0 ≡ getD labels (getD memberChunk (t .row) 0) missing = looked-at missing labels memberChunk (t .row) 0 (omega (arith, rows, t .there)) in
+module _ (chunk memberChunk member labels S hits₀ hits : List ℕ) (size : length hits₀ ≡ length labels) (h : Owners (looked missing labels chunk) S (length chunk) hits₀ hits) where
+  -- the label that is shared is hit
+  pub together-hit : (m : ℕ) (t : Together chunk memberChunk member labels S m) → has hits (getD labels (getD chunk (t .planned) 0) missing) ≡ true
+  together-hit m t =
       let of : getD (looked missing labels chunk) (t .planned) 0 ≡ getD labels (getD chunk (t .planned) 0) missing = looked-at missing labels chunk (t .planned) 0 (t .inside) in
-      let hit : has hits (getD (looked missing labels chunk) (t .planned) 0) ≡ true =
-      h .new (t .planned) (omega (arith, chunks, t .inside)) (t .holds) (subst (λ (i : ℕ). i < length hits₀) (sym of) (omega (arith, t .labelled, size)))
-      in
-      row-owners member (looked missing labels memberChunk) hits marks₀ marks noMarks (length-looked missing labels memberChunk ∙ rows) o m l
-      (record { row = t .row; there = t .there; named = t .named; holds = subst (λ (i : ℕ). has hits i ≡ true) (of ∙ sym (t .same) ∙ sym label) hit })
+      subst (λ (i : ℕ). has hits i ≡ true) of
+      (h .new (t .planned) (t .inside) (t .holds) (subst (λ (i : ℕ). i < length hits₀) (sym of) (omega (arith, t .labelled, size))))
+
+  module _ (marks₀ marks : List ℕ) (noHits : (m : ℕ) → has hits₀ m ≡ true → ⊥) (noMarks : (m : ℕ) → has marks₀ m ≡ true → ⊥) (rows : length memberChunk ≡ length member)
+      (o : Owners member (looked 0 hits (looked missing labels memberChunk)) (length member) marks₀ marks) where
+    pub members-together : (m : ℕ) → has marks m ≡ true → Together chunk memberChunk member labels S m
+    members-together m e =
+        let r = owners-row member (looked missing labels memberChunk) hits marks₀ marks noMarks (length-looked missing labels memberChunk ∙ rows) o m e in
+        let label : getD (looked missing labels memberChunk) (r .row) 0 ≡ getD labels (getD memberChunk (r .row) 0) missing = looked-at missing labels memberChunk (r .row) 0 (omega (arith, rows, r .there)) in
+        ⊎-elim (λ k. absurd (noHits (getD (looked missing labels memberChunk) (r .row) 0) k))
+        (λ q.
+        let x = q .0 in
+        let of : getD (looked missing labels chunk) x 0 ≡ getD labels (getD chunk x 0) missing = looked-at missing labels chunk x 0 (q .1) in
+        let within : getD (looked missing labels memberChunk) (r .row) 0 < length hits = has-in hits _ (r .holds) in
+        record {
+          row = r .row;
+          there = r .there;
+          named = r .named;
+          planned = x;
+          inside = q .1;
+          holds = q .2;
+          same = sym label ∙ sym (q .3) ∙ of;
+          labelled = subst (λ (i : ℕ). i < length labels) (sym (q .3) ∙ of) (omega (arith, within, h .len, size));
+        })
+        (h .only (getD (looked missing labels memberChunk) (r .row) 0) (r .holds))
+
+    pub together-members : (m : ℕ) → m < length marks₀ → Together chunk memberChunk member labels S m → has marks m ≡ true
+    together-members m l t =
+        let label : getD (looked missing labels memberChunk) (t .row) 0 ≡ getD labels (getD memberChunk (t .row) 0) missing = looked-at missing labels memberChunk (t .row) 0 (omega (arith, rows, t .there)) in
+        row-owners member (looked missing labels memberChunk) hits marks₀ marks noMarks (length-looked missing labels memberChunk ∙ rows) o m l
+        (record { row = t .row; there = t .there; named = t .named; holds = subst (λ (i : ℕ). has hits i ≡ true) (sym (t .same) ∙ sym label) (together-hit m t) })
 
 -- (iii)
 
@@ -90,17 +101,20 @@ module _ (recordModule targets dependencyModule dependency candidates S leads im
 
 -- (iv)
 
-pub chains-marked : (owner chainSymbol chainLink S chains₀ owners chains : List ℕ) → length chainLink ≡ length chainSymbol
-    → chains₀ ≡ looked 0 S owner → owners ≡ looked missing owner chainLink → Owners chainSymbol (looked 0 S owners) (length chainSymbol) chains₀ chains
+pub chains-marked : (owner chainSymbol chainLink S chains₀ chains : List ℕ) → length chainLink ≡ length chainSymbol
+    → chains₀ ≡ looked 0 S owner → Owners chainSymbol (looked 0 S (looked missing owner chainLink)) (length chainSymbol) chains₀ chains
     → Marks (ChainTouch owner chainSymbol chainLink S) chains
 unfolding Within
-chains-marked owner chainSymbol chainLink S chains₀ owners chains links start look o = record { only = back; all = there }
+chains-marked owner chainSymbol chainLink S chains₀ chains links start o = record { only = back; all = there }
   where
+    owners : List ℕ
+    owners = looked missing owner chainLink
+
     count : length chains₀ ≡ length owner
     count = ap length start ∙ length-looked 0 S owner
 
     linked : (row : ℕ) → row < length chainSymbol → getD owners row 0 ≡ getD owner (getD chainLink row 0) missing
-    linked row l = ap (λ (xs : List ℕ). getD xs row 0) look ∙ looked-at missing owner chainLink row 0 (omega (arith, links))
+    linked row l = looked-at missing owner chainLink row 0 (omega (arith, links))
 
     back : (y : ℕ) → has chains y ≡ true → ChainTouch owner chainSymbol chainLink S y
     back y e =
@@ -115,30 +129,46 @@ chains-marked owner chainSymbol chainLink S chains₀ owners chains links start 
         (λ h. let k : y < length owner = omega (arith, o .len, count) in o .old y (subst (λ (xs : List ℕ). has xs y ≡ true) (sym start) (looked-has S owner y k ∙ subst (λ (x : ℕ). has S x ≡ true) (getD-in owner y missing 0 k) h)))
         (λ r.
         let row = r .0 in
-        let k : row < length owners = omega (arith, r .1, links, ap length look ∙ length-looked missing owner chainLink) in
+        let k : row < length owners = omega (arith, r .1, links, length-looked missing owner chainLink) in
         subst (λ (x : ℕ). has chains x ≡ true) (r .2)
         (o .new row (r .1) (looked-has S owners row k ∙ subst (λ (x : ℕ). has S x ≡ true) (sym (linked row (r .1))) (r .3)) (subst (λ (x : ℕ). x < length chains₀) (sym (r .2)) (omega (arith, o .len)))))
         t
 
-pub symbols-marked : (owner canonical chainSymbol chainLink S chains symbols₀ symbols : List ℕ) {changed : Bool} → length chains ≡ length owner → length canonical ≡ length owner
+-- the marks of the symbols below y: each the greater of its own and its canonical's
+abbrev pub Joined : List ℕ → List ℕ → ℕ → List ℕ → Type 0
+Joined canonical chains y symbols = (i : ℕ) → i < y → Greater (getD chains i 0) (getD chains (getD canonical i 0) 0) (getD symbols i 0)
+
+module _ (canonical chains : List ℕ) (y : ℕ) (symbols : List ℕ) where
+  pub joined-put : (v : ℕ) → Joined canonical chains y symbols → y < length symbols → Greater (getD chains y 0) (getD chains (getD canonical y 0) 0) v → Joined canonical chains (y + 1) (set symbols y v)
+  joined-put v g l e i k = go (ℕ-discrete i y)
+    where
+      go : Dec (i ≡ y) → Greater (getD chains i 0) (getD chains (getD canonical i 0) 0) (getD (set symbols y v) i 0)
+      go (yes q) = subst (λ (x : ℕ). Greater (getD chains x 0) (getD chains (getD canonical x 0) 0) (getD (set symbols y v) x 0)) (sym q) (rw (getD-set-same symbols y v 0 l) e)
+      go (no n) = rw (getD-set-other symbols y i v 0 n) (g i (omega arith))
+
+  pub joined-marks : Joined canonical chains y symbols → length symbols ≤ y → Marks (λ (i : ℕ). (has chains i ≡ true) ⊎ (has chains (getD canonical i 0) ≡ true)) symbols
+  joined-marks g l = record {
+    only = λ i e.
+        ⊎-elim (λ q. inl (ap (λ (x : ℕ). not (isZero x)) (sym q) ∙ e)) (λ q. inr (ap (λ (x : ℕ). not (isZero x)) (sym q) ∙ e))
+        (g i (omega (arith, has-in symbols i e)) .one);
+    all = λ i k h. let m = g i (omega arith) in ⊎-elim (λ e. more e (m .first)) (λ e. more e (m .second)) h;
+  }
+    where
+      more : {a b : ℕ} → not (isZero a) ≡ true → a ≤ b → not (isZero b) ≡ true
+      more {a} {b} e k = mark-in b (λ z. true≢false (sym e ∙ mark-out a (omega arith)))
+
+pub symbols-marked : (owner canonical chainSymbol chainLink S chains symbols : List ℕ) → length chains ≡ length owner → length symbols ≡ length owner
     → ((y : ℕ) → y < length owner → getD canonical y 0 < length owner)
-    → Marks (ChainTouch owner chainSymbol chainLink S) chains → symbols₀ ≡ looked 0 chains canonical → Added (λ (m : ℕ). has chains m ≡ true) symbols₀ symbols changed
+    → Marks (ChainTouch owner chainSymbol chainLink S) chains → Marks (λ (y : ℕ). (has chains y ≡ true) ⊎ (has chains (getD canonical y 0) ≡ true)) symbols
     → Marks (SymbolTouch owner canonical chainSymbol chainLink S) symbols
-unfolding Within
-symbols-marked owner canonical chainSymbol chainLink S chains symbols₀ symbols count canonicals inside c start a = record {
-  only = λ y e.
-      ⊎-elim (λ h. inr (c .only (getD canonical y 0) (has-looked chains canonical y (subst (λ (xs : List ℕ). has xs y ≡ true) start h) .1)))
-      (λ h. inl (c .only y h))
-      (a .only y e);
+symbols-marked owner canonical chainSymbol chainLink S chains symbols count size inside c s = record {
+  only = λ y e. ⊎-elim (λ h. inl (c .only y h)) (λ h. inr (c .only (getD canonical y 0) h)) (s .only y e);
   all = λ y l t.
-      let k : y < length owner = omega (arith, a .len, size, l) in
-      ⊎-elim (λ h. a .all y (omega (arith, size)) (c .all y (omega (arith, count)) h))
-      (λ h. a .old y (subst (λ (xs : List ℕ). has xs y ≡ true) (sym start) (looked-has chains canonical y (omega (arith, canonicals)) ∙ c .all (getD canonical y 0) (omega (arith, count, inside y k)) h)))
-      t;
+      s .all y l
+      (⊎-elim (λ h. inl (c .all y (omega (arith, count, size)) h))
+      (λ h. inr (c .all (getD canonical y 0) (omega (arith, count, inside y (omega (arith, size)))) h))
+      t);
 }
-  where
-    size : length symbols₀ ≡ length owner
-    size = ap length start ∙ length-looked 0 chains canonical ∙ canonicals
 
 pub references-marked : (referenceSymbol dependedReference depended symbols references₀ references : List ℕ) → length depended ≡ length dependedReference
     → references₀ ≡ looked 0 symbols referenceSymbol → Owners dependedReference (looked 0 symbols depended) (length dependedReference) references₀ references
@@ -175,25 +205,24 @@ touching-marked owner canonical chainSymbol chainLink referenceSymbol dependedRe
     go i (bySymbol l t) = inl (s .all (getD referenceSymbol i 0) (omega (arith, size)) t)
     go i (byDepended d k q l t) = inr (record { row = d; there = k; named = q; holds = s .all (getD depended d 0) (omega (arith, size)) t })
 
-pub readers-marked : (statementModule referenceStatement references owners readers₀ readers : List ℕ) → ((m : ℕ) → has readers₀ m ≡ true → ⊥)
-    → owners ≡ looked missing statementModule referenceStatement → Owners owners references (length owners) readers₀ readers
+pub readers-marked : (statementModule referenceStatement references readers₀ readers : List ℕ) → ((m : ℕ) → has readers₀ m ≡ true → ⊥)
+    → Owners (looked missing statementModule referenceStatement) references (length referenceStatement) readers₀ readers
     → Marks (Reader statementModule referenceStatement references) readers
-readers-marked statementModule referenceStatement references owners readers₀ readers none look o = record {
+readers-marked statementModule referenceStatement references readers₀ readers none o = record {
   only = λ m e.
       ⊎-elim (λ h. absurd (none m h))
-      (λ q. let l : q .0 < length referenceStatement = omega (arith, q .1, size) in record { row = q .0; there = l; named = sym (at (q .0) l) ∙ q .3; holds = q .2 })
+      (λ q. record { row = q .0; there = q .1; named = sym (at (q .0) (q .1)) ∙ q .3; holds = q .2 })
       (o .only m e);
   all = λ m l r.
-      let k : r .row < length owners = omega (arith, size, r .there) in
       let named : getD owners (r .row) 0 ≡ m = at (r .row) (r .there) ∙ r .named in
-      subst (λ (x : ℕ). has readers x ≡ true) named (o .new (r .row) k (r .holds) (subst (λ (x : ℕ). x < length readers₀) (sym named) (omega (arith, o .len))));
+      subst (λ (x : ℕ). has readers x ≡ true) named (o .new (r .row) (r .there) (r .holds) (subst (λ (x : ℕ). x < length readers₀) (sym named) (omega (arith, o .len))));
 }
   where
-    size : length owners ≡ length referenceStatement
-    size = ap length look ∙ length-looked missing statementModule referenceStatement
+    owners : List ℕ
+    owners = looked missing statementModule referenceStatement
 
     at : (row : ℕ) → row < length referenceStatement → getD owners row 0 ≡ getD statementModule (getD referenceStatement row 0) missing
-    at row l = ap (λ (xs : List ℕ). getD xs row 0) look ∙ looked-at missing statementModule referenceStatement row 0 l
+    at row l = looked-at missing statementModule referenceStatement row 0 l
 
 module _ (reads statementModule owner canonical chainSymbol chainLink referenceStatement referenceSymbol dependedReference depended candidates S references readers : List ℕ)
     (size : length references ≡ length referenceStatement)

@@ -1,141 +1,121 @@
--- Closing a set along rows: what holds after each turn of a pass, and after each pass.
+-- Closing a set along rows by visits: what a visit adds to marks that are closed, and what holds between two of them.
 -- Assumes nothing.
 use mathlib.Core.Path.{_≡_, refl, sym, ap, subst, _∙_}
 use mathlib.Core.Logic.{⊎-elim}
-use mathlib.Core.Bool.{Bool, true, false, true≢false, false≢true}
-use mathlib.Core.List.{List}
+use mathlib.Core.Bool.{Bool, true, false, not, true≢false}
+use mathlib.Core.List.{List, [], _∷_, List·Memᴰ, List·Memᴰ·head, List·Memᴰ·eq-of-singleton}
 use Prim.Native.Nat.{ℕ, _+_, _≤_, _<_}
 use native.Mathlib.Omega.{arith}
 use native.Mathlib.Decide.{ℕ-discrete}
-use lib.ListN.{length, getD, set, length-set}
-use Rattle.lists.specs.Words.{has, zeros, bit}
+use lib.ListN.{length, getD}
+use borrow.Author.Tests.{ltb-true}
+use Rattle.lists.specs.Words.{isZero, has}
+use Rattle.lists.proofs.Laws.{both, mem-keep, has-in}
+use Rattle.walk.specs.Walk.{everywhere}
+use Rattle.walk.specs.Reach.{Reach, here, step, ReachAny, passing, through}
 use Rattle.walk.specs.Close.{Within}
-use Rattle.walk.proofs.Visits.{fresh-zero, set-zeros}
-use Rattle.wrap_rules.specs.Spread.{turned, AlongRow, Along, Under, Grew, Spreads}
-use Rattle.lists.proofs.Laws.{has-in}
-use Rattle.wrap_rules.specs.Steps.{Added}
-use Rattle.wrap_rules.proofs.Passes.{has-set, set-has}
+use Rattle.walk.proofs.Visits.{Grown, stays, fresh-zero, fresh-not}
+use Rattle.walk.proofs.Orders.{visited-met, visited-followed, visited-reach}
+use Rattle.tables.specs.Readings.{valuesOf}
+use Rattle.chunk_cycles.specs.Steps.{nothing, Marked}
+use Rattle.chunk_cycles.proofs.Lists.{values-row, row-values}
+use Rattle.chunk_cycles.proofs.Marks.{marked-grown}
+use Rattle.wrap_rules.specs.Spread.{Along, Under, Spreads, Spreadable}
 
--- each turn has a row, and each row a turn
+-- a place that is in was met, and one of a set's places that was met is in
 
-pub turn-in : (down : Bool) (n i : ℕ) → i < n → turned down n i < n
-turn-in true n i l = omega arith
-turn-in false n i l = l
+has-met : (s : List ℕ) (x : ℕ) → has s x ≡ true → isZero (getD s x 1) ≡ false
+has-met s x e = fresh-not s x (λ z. true≢false (sym e ∙ ap (λ (i : ℕ). not (isZero i)) z))
 
-turn-back : (down : Bool) (n i : ℕ) → i < n → turned down n (turned down n i) ≡ i
-turn-back true n i l = omega arith
-turn-back false n i l = refl
+met-has : (s : List ℕ) (x : ℕ) → x < length s → isZero (getD s x 1) ≡ false → has s x ≡ true
+met-has s x l e = ⊎-elim (λ h. h) (λ h. absurd (true≢false (sym (fresh-zero s x l (out (getD s x 0) h)) ∙ e))) (both (has s x))
+  where
+    out : (i : ℕ) → not (isZero i) ≡ false → i ≡ 0
+    out Prim.Native.Nat.zero h = refl
+    out (Prim.Native.Nat.suc i) h = absurd (true≢false h)
 
-module _ (from to s : List ℕ) (down : Bool) where
-  -- a pass under way: i turns were made
-  pub record Growing (i : ℕ) (t : List ℕ) (changed : Bool) : Type 0 where
+-- a visit of a member of s, from marks that are closed and within what s leads to
+module _ (from to s t u : List ℕ) (m : ℕ) (len : length t ≡ length s) (v : Marked (valuesOf from to) t m u) where
+  abbrev succ : ℕ → List ℕ
+  succ = valuesOf from to
+
+  grown : Grown t u
+  grown = marked-grown succ t m u v
+
+  pub visit-len : length u ≡ length s
+  visit-len = grown .len ∙ len
+
+  pub visit-holds : Within t u
+  unfolding Within
+  visit-holds x e = met-has u x (omega (arith, grown .len, has-in t x e)) (stays grown x (has-met t x e))
+
+  pub visit-in : m < length s → has u m ≡ true
+  visit-in l = met-has u m (omega (arith, visit-len)) (visited-met succ everywhere nothing v m (List·Memᴰ·head refl) refl)
+
+  pub visit-along : Along from to t → Along from to u
+  unfolding Along Within
+  visit-along a row l e k =
+      let x = getD from row 0 in
+      let y = getD to row 0 in
+      ⊎-elim
+      (λ f. met-has u y k (visited-followed succ everywhere nothing v x f (has-met u x e) y (row-values from to row l) refl))
+      (λ f. visit-holds y (a row l (met-has t x (omega (arith, grown .len, has-in u x e)) f) (omega (arith, grown .len))))
+      (both (isZero (getD t x 1)))
+
+  -- a set that is closed along the rows has what a path leads to
+  follow : (M : List ℕ) → length M ≡ length t → Along from to M → {r x : ℕ} → Reach (through succ everywhere (length t)) r x → has M r ≡ true → has M x ≡ true
+  unfolding Along
+  follow M n a (here q) e = subst (λ (i : ℕ). has M i ≡ true) (sym q) e
+  follow M n a (step {m} {y} h p) e =
+      let k = mem-keep (passing everywhere (length t)) (succ m) h in
+      let q = values-row from to m y (k .0) in
+      let l = ltb-true y (length t) (k .1) in
+      follow M n a p
+      (subst (λ (i : ℕ). has M i ≡ true) (q .3) (a (q .0) (q .1) (subst (λ (i : ℕ). has M i ≡ true) (sym (q .2)) e) (subst (λ (i : ℕ). i < length M) (sym (q .3)) (omega (arith, n)))))
+
+  pub visit-under : has s m ≡ true → Under from to s t → Under from to s u
+  unfolding Under Within ReachAny
+  visit-under h b M n w a x e =
+      ⊎-elim
+      (λ f.
+      let r = visited-reach succ everywhere nothing v x f (has-met u x e) in
+      let q : r .0 ≡ m = List·Memᴰ·eq-of-singleton (mem-keep (passing everywhere (length t)) (m ∷ []) (r .1) .0) in
+      follow M (n ∙ sym len) a (r .2) (subst (λ (i : ℕ). has M i ≡ true) (sym q) (w m h)))
+      (λ f. b M n w a x (met-has t x (omega (arith, grown .len, has-in u x e)) f))
+      (both (isZero (getD t x 1)))
+
+-- between two visits: the members of s below i are in
+module _ (from to s : List ℕ) where
+  pub record Spreading (i : ℕ) (t : List ℕ) : Type 0 where
     pub len : length t ≡ length s
-    pub holds : Within s t
+    pub along : Along from to t
     pub under : Under from to s t
-    pub fewer : zeros t ≤ zeros s
-    pub same : changed ≡ false → t ≡ s
-    pub falls : changed ≡ true → zeros t < zeros s
-    pub seen : changed ≡ false → (j : ℕ) → j < i → AlongRow from to s (turned down (length from) j)
+    pub below : (j : ℕ) → j < i → has s j ≡ true → has t j ≡ true
 
-  pub growing-start : Growing 0 s false
-  unfolding Within Under
-  growing-start = record {
-    len = refl;
-    holds = λ m e. e;
-    under = λ M n w a. w;
-    fewer = omega arith;
-    same = λ e. refl;
-    falls = λ e. absurd (false≢true e);
-    seen = λ e j l. absurd (omega arith);
-  }
+  pub spreading-start : {heads nexts t : List ℕ} → Spreadable from to heads nexts s t → Spreading 0 t
+  spreading-start g = record { len = g .len; along = g .along; under = g .under; below = λ j l. absurd (omega arith) }
 
-  module _ (i : ℕ) (t : List ℕ) (changed : Bool) (g : Growing i t changed) where
-    pub growing-pass : AlongRow from to t (turned down (length from) i) → Growing (i + 1) t changed
-    growing-pass h = record {
-      len = g .len;
-      holds = g .holds;
-      under = g .under;
-      fewer = g .fewer;
-      same = g .same;
-      falls = g .falls;
-      seen = λ e j l. go e j (ℕ-discrete j i) l;
+  module _ (i : ℕ) (t : List ℕ) (g : Spreading i t) where
+    pub spreading-pass : (has s i ≡ true → has t i ≡ true) → Spreading (i + 1) t
+    spreading-pass h = record { len = g .len; along = g .along; under = g .under; below = λ j l e. go j e (ℕ-discrete j i) l }
+      where
+        go : (j : ℕ) → has s j ≡ true → Dec (j ≡ i) → j < i + 1 → has t j ≡ true
+        go j e (yes q) l = subst (λ (x : ℕ). has t x ≡ true) (sym q) (h (subst (λ (x : ℕ). has s x ≡ true) q e))
+        go j e (no q) l = g .below j (omega arith) e
+
+    pub spreading-visit : (u : List ℕ) → has s i ≡ true → Marked (valuesOf from to) t i u → Spreading (i + 1) u
+    unfolding Within
+    spreading-visit u h v = record {
+      len = visit-len from to s t u i (g .len) v;
+      along = visit-along from to s t u i (g .len) v (g .along);
+      under = visit-under from to s t u i (g .len) v h (g .under);
+      below = λ j l e. go j e (ℕ-discrete j i) l;
     }
       where
-        go : changed ≡ false → (j : ℕ) → Dec (j ≡ i) → j < i + 1 → AlongRow from to s (turned down (length from) j)
-        go e j (yes q) l = subst (λ (x : ℕ). AlongRow from to s (turned down (length from) x)) (sym q) (subst (λ (u : List ℕ). AlongRow from to u (turned down (length from) i)) (g .same e) h)
-        go e j (no q) l = g .seen e j (omega arith)
+        go : (j : ℕ) → has s j ≡ true → Dec (j ≡ i) → j < i + 1 → has u j ≡ true
+        go j e (yes q) l = subst (λ (x : ℕ). has u x ≡ true) (sym q) (visit-in from to s t u i (g .len) v (has-in s i h))
+        go j e (no q) l = visit-holds from to s t u i (g .len) v j (g .below j (omega arith) e)
 
-    pub growing-put : (row : ℕ) → row < length from → has t (getD from row 0) ≡ true → getD to row 0 < length t → getD t (getD to row 0) 0 ≡ 0 → Growing (i + 1) (set t (getD to row 0) 1) true
-    unfolding Within Under Along
-    growing-put row l h k e =
-        let m = getD to row 0 in
-        let z = set-zeros t m (fresh-zero t m k e) in
-        record {
-          len = length-set t m 1 ∙ g .len;
-          holds = λ x q. has-set t m x (g .holds x q);
-          under = λ M n w a x q.
-              let inside : (y : ℕ) → has t y ≡ true → has M y ≡ true = g .under M n w a in
-              let new : has M m ≡ true = a row l (inside (getD from row 0) h) (omega (arith, n, g .len)) in
-              ⊎-elim (λ p. subst (λ (y : ℕ). has M y ≡ true) (sym p) new) (inside x) (set-has t m x q);
-          fewer = omega (arith, g .fewer);
-          same = λ q. absurd (true≢false q);
-          falls = λ q. omega (arith, g .fewer);
-          seen = λ q. absurd (true≢false q);
-        }
-
-    pub growing-end : length from ≤ i → Grew from to s t changed
-    unfolding Along
-    growing-end l = record {
-      len = g .len;
-      holds = g .holds;
-      under = g .under;
-      still = λ e. (
-        g .same e,
-        λ row k.
-            subst (λ (x : ℕ). AlongRow from to s x) (turn-back down (length from) row k)
-            (g .seen e (turned down (length from) row) (omega (arith, turn-in down (length from) row k))),
-      );
-      falls = g .falls;
-    }
-
--- passes until one changes nothing: from s to t, `more` as the last pass said
-module _ (from to s : List ℕ) where
-  pub record Spreading (t : List ℕ) (more : Bool) : Type 0 where
-    pub len : length t ≡ length s
-    pub holds : Within s t
-    pub under : Under from to s t
-    pub ended : more ≡ false → Along from to t
-
-  pub spreading-start : Spreading s true
-  unfolding Within Under
-  spreading-start = record { len = refl; holds = λ m e. e; under = λ M n w a. w; ended = λ e. absurd (true≢false e) }
-
-  pub spreading-step : {t u : List ℕ} {more changed : Bool} → Spreading t more → Grew from to t u changed → Spreading u changed
-  unfolding Within Under
-  spreading-step g p = record {
-    len = p .len ∙ g .len;
-    holds = λ m e. p .holds m (g .holds m e);
-    under = λ M n w a. p .under M (n ∙ sym (g .len)) (g .under M n w a) a;
-    ended = λ e. subst (Along from to) (sym (p .still e .0)) (p .still e .1);
-  }
-
-  pub spreading-end : {t : List ℕ} → Spreading t false → Spreads from to s t
-  spreading-end g = record { len = g .len; holds = g .holds; along = g .ended refl; under = g .under }
-
--- the measure of the loop: the marks that are 0, and one more while a pass is due
-pub grew-falls : {from to t u : List ℕ} {changed : Bool} → Grew from to t u changed → zeros u + bit changed < zeros t + 1
-grew-falls {from} {to} {t} {u} {changed} p = go changed refl
-  where
-    go : (b : Bool) → changed ≡ b → zeros u + bit b < zeros t + 1
-    go true e = omega (arith, p .falls e)
-    go false e = omega (arith, ap zeros (p .still e .0))
-
--- a set that is joined to what it leads to so far, and then closed
-pub joined-spreads : (from to S L J M : List ℕ) {changed : Bool} → length L ≡ length S → Under from to S L → Added (λ (m : ℕ). has S m ≡ true) L J changed → Spreads from to J M → Spreads from to S M
-unfolding Within Under
-joined-spreads from to S L J M n u a s = record {
-  len = s .len ∙ a .len ∙ n;
-  holds = λ m e. s .holds m (a .all m (omega (arith, n, has-in S m e)) e);
-  along = s .along;
-  under = λ X k w b. s .under X (k ∙ sym n ∙ sym (a .len)) (λ m e. ⊎-elim (u X k w b m) (w m) (a .only m e)) b;
-}
+    pub spreading-end : length s ≤ i → Spreads from to s t
+    unfolding Within
+    spreading-end l = record { len = g .len; holds = λ x e. g .below x (omega (arith, has-in s x e)) e; along = g .along; under = g .under }

@@ -6,17 +6,18 @@ use mathlib.Core.Bool.{Bool, true, false, cond, not, true≢false, false≢true}
 use mathlib.Core.List.{List, map}
 use Prim.Native.Nat.{ℕ, _+_, _≤_, _<_}
 use native.Mathlib.Omega.{arith}
-use native.Mathlib.Decide.{ℕ-discrete}
-use lib.ListN.{length, getD, set, length-set}
+use native.Mathlib.Decide.{ℕ-discrete, decLt}
+use lib.ListN.{length, getD, set, length-set, List·getD-eq-default}
 use lib.Seq.{ext-getD, getD-set-same, getD-set-other}
 use Rattle.lists.specs.Words.{isZero, upTo, has}
 use Rattle.lists.proofs.Laws.{has-in}
 use Rattle.walk.specs.Close.{Within, Bits}
 use Rattle.walk.proofs.Visits.{fresh-zero, set-zeros, set-bits}
+use Rattle.tables.specs.Lookups.{Greater}
 use Rattle.tables.specs.Project.{missing}
 use Rattle.tables.specs.Readings.{isImport}
-use Rattle.chunk_cycles.proofs.Lists.{getD-map-upTo, length-map-upTo}
-use Rattle.wrap_rules.specs.Steps.{looked, importTargets, Owners, Adding, Added}
+use Rattle.chunk_cycles.proofs.Lists.{mark-in, mark-out, getD-map-upTo, length-map-upTo}
+use Rattle.wrap_rules.specs.Steps.{looked, importTargets, Raised, Owners, Adding, Added}
 use Rattle.wrap_rules.proofs.Passes.{has-set, set-has}
 
 -- writing a column from place 0
@@ -46,43 +47,80 @@ module _ (f : ℕ → ℕ) (n : ℕ) where
 pub set-in : (t : List ℕ) (m : ℕ) → m < length t → has (set t m 1) m ≡ true
 set-in t m l = ap (λ (x : ℕ). not (isZero x)) (getD-set-same t m 1 0 l)
 
+-- raising a mark
+
+pub raised-put : (m x y : ℕ) (s : List ℕ) → Greater x (getD s m 0) y → Raised m x s (set s m y)
+raised-put m x y s g = record {
+  len = length-set s m y;
+  there = λ l. rw (getD-set-same s m y 0 l) g;
+  other = λ i n. getD-set-other s m i y 0 n;
+}
+
+module _ {m x : ℕ} {s t : List ℕ} (r : Raised m x s t) where
+  -- what was in stays
+  pub raised-old : Within s t
+  unfolding Within
+  raised-old i e = go (ℕ-discrete i m)
+    where
+      go : Dec (i ≡ m) → has t i ≡ true
+      go (yes q) =
+          let l : m < length s = rw q at (has-in s i e) in
+          let n : getD s m 0 ≡ 0 → ⊥ = λ z. true≢false (sym e ∙ mark-out (getD s i 0) (rw (sym q) at z)) in
+          rw q (mark-in (getD t m 0) (λ z. n (omega (arith, r .there l .second))))
+      go (no n) = ap (λ (y : ℕ). not (isZero y)) (r .other i n) ∙ e
+
+  -- the place comes in where the mark isn't 0
+  pub raised-new : not (isZero x) ≡ true → m < length s → has t m ≡ true
+  raised-new e l = mark-in (getD t m 0) (λ z. true≢false (sym e ∙ mark-out x (omega (arith, r .there l .first))))
+
+  -- and nothing else does
+  pub raised-only : (i : ℕ) → has t i ≡ true → (has s i ≡ true) ⊎ ((i ≡ m) × (not (isZero x) ≡ true))
+  raised-only i e = go (ℕ-discrete i m)
+    where
+      go : Dec (i ≡ m) → (has s i ≡ true) ⊎ ((i ≡ m) × (not (isZero x) ≡ true))
+      go (yes q) =
+          let e′ : has t m ≡ true = rw q at e in
+          let l : m < length s = rw (r .len) at (has-in t m e′) in
+          ⊎-elim (λ k. inr (q, ap (λ (y : ℕ). not (isZero y)) (sym k) ∙ e′))
+          (λ k. inl (rw q (ap (λ (y : ℕ). not (isZero y)) (sym k) ∙ e′)))
+          (r .there l .one)
+      go (no n) = inl (ap (λ (y : ℕ). not (isZero y)) (sym (r .other i n)) ∙ e)
+
+  pub raised-bits : x ≤ 1 → Bits s → Bits t
+  unfolding Bits
+  raised-bits u b i = go (ℕ-discrete i m) (decLt i (length s))
+    where
+      go : Dec (i ≡ m) → Dec (i < length s) → getD t i 0 ≤ 1
+      go (yes q) (yes l) =
+          ⊎-elim (λ k. let h : getD t i 0 ≡ x = rw q k in omega arith) (λ k. let h : getD t i 0 ≡ getD s i 0 = rw q k in omega (arith, b i)) (r .there (rw q at l) .one)
+      go (no n) l = let h = r .other i n in omega (arith, b i)
+      go (yes q) (no l) = let h : getD t i 0 ≡ 0 = List·getD-eq-default t 0 (omega (arith, r .len)) in omega arith
+
 -- marking owners of rows
 
 module _ (owner rows s : List ℕ) where
   pub owners-start : Owners owner rows 0 s s
   unfolding Within
-  owners-start = record { len = refl; bits = λ b. b; old = λ i e. e; new = λ row l. absurd (omega arith); only = λ m e. inl e }
+  owners-start = record { len = refl; bits = λ a b. b; old = λ i e. e; new = λ row l. absurd (omega arith); only = λ m e. inl e }
 
-  module _ (i : ℕ) (t : List ℕ) (g : Owners owner rows i s t) where
-    pub owners-pass : (has rows i ≡ true → getD owner i 0 < length s → ⊥) → Owners owner rows (i + 1) s t
-    owners-pass n = record {
-      len = g .len;
-      bits = g .bits;
-      old = g .old;
-      new = λ row l e k. go row e k (ℕ-discrete row i) l;
-      only = λ m e. ⊎-elim (λ a. inl a) (λ r. inr (r .0, omega (arith, r .1), r .2, r .3)) (g .only m e);
-    }
-      where
-        go : (row : ℕ) → has rows row ≡ true → getD owner row 0 < length s → Dec (row ≡ i) → row < i + 1 → has t (getD owner row 0) ≡ true
-        go row e k (yes q) l = absurd (n (rw q at e) (rw q at k))
-        go row e k (no q) l = g .new row (omega arith) e k
-
-    pub owners-put : has rows i ≡ true → getD owner i 0 < length t → Owners owner rows (i + 1) s (set t (getD owner i 0) 1)
-    unfolding Within
-    owners-put h l = record {
-      len = length-set t (getD owner i 0) 1 ∙ g .len;
-      bits = λ b. set-bits t (getD owner i 0) (g .bits b);
-      old = λ m e. has-set t (getD owner i 0) m (g .old m e);
-      new = λ row k e b. go row e b (ℕ-discrete row i) k;
-      only = λ m e.
-          ⊎-elim (λ q. inr (i, omega arith, h, sym q))
-          (λ k. ⊎-elim (λ a. inl a) (λ r. inr (r .0, omega (arith, r .1), r .2, r .3)) (g .only m k))
-          (set-has t (getD owner i 0) m e);
-    }
-      where
-        go : (row : ℕ) → has rows row ≡ true → getD owner row 0 < length s → Dec (row ≡ i) → row < i + 1 → has (set t (getD owner i 0) 1) (getD owner row 0) ≡ true
-        go row e k (yes q) b = subst (λ (x : ℕ). has (set t (getD owner i 0) 1) (getD owner x 0) ≡ true) (sym q) (set-in t (getD owner i 0) l)
-        go row e k (no q) b = has-set t (getD owner i 0) (getD owner row 0) (g .new row (omega arith) e k)
+  pub owners-put : (i : ℕ) (t u : List ℕ) → Owners owner rows i s t → {m x : ℕ} → getD owner i 0 ≡ m → getD rows i 0 ≡ x → Raised m x t u → Owners owner rows (i + 1) s u
+  unfolding Within Bits
+  owners-put i t u g {m} {x} named mark r = record {
+    len = r .len ∙ g .len;
+    bits = λ a b. raised-bits r (subst (λ (y : ℕ). y ≤ 1) mark (a i)) (g .bits a b);
+    old = λ j e. raised-old r j (g .old j e);
+    new = λ row k e b. go row e b (ℕ-discrete row i) k;
+    only = λ j e.
+        ⊎-elim (λ k. ⊎-elim (λ a. inl a) (λ q. inr (q .0, omega (arith, q .1), q .2, q .3)) (g .only j k))
+        (λ q. inr (i, omega arith, ap (λ (y : ℕ). not (isZero y)) mark ∙ q .1, named ∙ sym (q .0)))
+        (raised-only r j e);
+  }
+    where
+      go : (row : ℕ) → has rows row ≡ true → getD owner row 0 < length s → Dec (row ≡ i) → row < i + 1 → has u (getD owner row 0) ≡ true
+      go row e k (yes q) b =
+          let n : getD owner row 0 ≡ m = ap (λ (y : ℕ). getD owner y 0) q ∙ named in
+          subst (λ (y : ℕ). has u y ≡ true) (sym n) (raised-new r (ap (λ (y : ℕ). not (isZero y)) (sym (ap (λ (y : ℕ). getD rows y 0) q ∙ mark)) ∙ e) (omega (arith, g .len)))
+      go row e k (no q) b = raised-old r (getD owner row 0) (g .new row (omega arith) e k)
 
 -- adding to a set
 
@@ -136,6 +174,12 @@ module _ (f : ℕ → Type 0) (s : List ℕ) where
         go m h (yes q) k = subst (λ (x : ℕ). has (set t i 1) x ≡ true) (sym q) (set-in t i l)
         go m h (no q) k = has-set t i m (g .all m (omega arith) h)
 
+-- nothing is added where it holds only of what is in
+pub added-none : (f : ℕ → Type 0) (s : List ℕ) → ((m : ℕ) → m < length s → f m → has s m ≡ true) → Added f s s false
+added-none f s h =
+    let a = adding-start f s in
+    record { len = refl; bits = a .bits; old = a .old; all = h; only = a .only; fewer = a .fewer; same = a .same; falls = a .falls }
+
 -- what holds of the same places is added the same
 pub added-cong : (f g : ℕ → Type 0) {s t : List ℕ} {changed : Bool} → ((m : ℕ) → m < length s → g m → f m) → ((m : ℕ) → f m → g m) → Added f s t changed → Added g s t changed
 added-cong f g there back a = record {
@@ -167,6 +211,15 @@ pub has-looked : (set column : List ℕ) (row : ℕ) → has (looked 0 set colum
 has-looked set column row e =
     let l : row < length column = rw (length-looked 0 set column) at (has-in (looked 0 set column) row e) in
     (l, sym (looked-has set column row l) ∙ e)
+
+-- marks that are looked up are 0 or 1 where the set's are
+pub looked-bits : (set column : List ℕ) → Bits set → Bits (looked 0 set column)
+unfolding Bits
+looked-bits set column b row = go (decLt row (length column))
+  where
+    go : Dec (row < length column) → getD (looked 0 set column) row 0 ≤ 1
+    go (yes l) = rw (looked-at 0 set column row 0 l) (b (getD column row 0))
+    go (no l) = let z : getD (looked 0 set column) row 0 ≡ 0 = List·getD-eq-default (looked 0 set column) 0 (omega (arith, length-looked 0 set column)) in omega arith
 
 -- the targets of the kind 0 records
 

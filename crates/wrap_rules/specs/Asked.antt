@@ -43,21 +43,15 @@ pub record Row (owner value S : List ℕ) (m : ℕ) : Type 0 where
   pub holds : has S (getD value row 0) ≡ true
 
 -- (iii) a candidate with a planned dependency and a kind 0 target that leads to the plan
-pub record Importer (recordModule targets dependencyModule dependency candidates S leads : List ℕ) (m : ℕ) : Type 0 where
+pub record Importer (importers targets dependencyModule dependency candidates S leads : List ℕ) (m : ℕ) : Type 0 where
   pub candidate : has candidates m ≡ true
   pub depends : Row dependencyModule dependency S m
-  pub leading : Row recordModule targets leads m
+  pub leading : Row importers targets leads m
 
 -- (iii) the columns fit each other, over n modules
-pub record Importing (recordModule recordKind recordTarget dependencyModule dependency candidates leads : List ℕ) (n : ℕ) : Type 0 where
-  pub few : n ≤ 4096
-  pub kinds : length recordKind ≡ length recordModule
-  pub targets : length recordTarget ≡ length recordModule
-  pub fewRecords : length recordModule ≤ 16384
+pub record Importing (dependencyModule dependency candidates : List ℕ) (n : ℕ) : Type 0 where
   pub dependencies : length dependency ≡ length dependencyModule
-  pub fewDependencies : length dependencyModule ≤ 16384
   pub candidate : length candidates ≡ n
-  pub lead : length leads ≡ n
 
 -- (iv) a symbol's owner is planned, or a link owner in its chain
 abbrev pub ChainTouch : List ℕ → List ℕ → List ℕ → List ℕ → ℕ → Type 0

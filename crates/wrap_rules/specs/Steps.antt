@@ -8,6 +8,7 @@ use Prim.Native.Nat.{ℕ, _≤_, _<_}
 use lib.ListN.{length, getD}
 use Rattle.lists.specs.Words.{upTo, has, zeros}
 use Rattle.walk.specs.Close.{Within, Bits}
+use Rattle.tables.specs.Lookups.{Greater}
 use Rattle.tables.specs.Project.{missing}
 use Rattle.tables.specs.Readings.{isImport}
 
@@ -19,10 +20,16 @@ looked other table column = map (λ (row : ℕ). getD table (getD column row 0) 
 unfoldable pub importTargets : List ℕ → List ℕ → List ℕ
 importTargets kind target = map (λ (row : ℕ). cond (isImport (getD kind row 0)) (getD target row 0) missing) (upTo (length target))
 
+-- t is s with at least x at place m, where it has one
+pub record Raised (m x : ℕ) (s t : List ℕ) : Type 0 where
+  pub len : length t ≡ length s
+  pub there : m < length s → Greater x (getD s m 0) (getD t m 0)
+  pub other : (i : ℕ) → (i ≡ m → ⊥) → getD t i 0 ≡ getD s i 0
+
 -- t is s with the owners of the first `count` rows that are marked, where they have a place
 pub record Owners (owner rows : List ℕ) (count : ℕ) (s t : List ℕ) : Type 0 where
   pub len : length t ≡ length s
-  pub bits : Bits s → Bits t
+  pub bits : Bits rows → Bits s → Bits t
   pub old : Within s t
   pub new : (row : ℕ) → row < count → has rows row ≡ true → getD owner row 0 < length s → has t (getD owner row 0) ≡ true
   pub only : (m : ℕ) → has t m ≡ true → (has s m ≡ true) ⊎ ((row : ℕ) × (row < count) × (has rows row ≡ true) × (getD owner row 0 ≡ m))

@@ -5,5 +5,5 @@ mod marks;
 pub mod reads;
 pub mod roots;
 pub mod seeds;
-mod spread;
+pub mod spread;
 pub mod suffixes;

@@ -1,10 +1,34 @@
 // Steps over one table: values looked up, owners of rows marked, marks added to a set.
 ghost use mathlib.Core.Path.{_≡_};
 ghost use mathlib.Core.Bool.{true};
-ghost use Prim.Native.Nat.{ℕ, _≤_};
-ghost use lib.ListN.{length};
+ghost use lib.ListN.{length, getD};
 ghost use Rattle.lists.specs.Words.{has};
-ghost use Rattle.wrap_rules.specs.Steps.{looked, Owners, Added, InAll};
+ghost use Rattle.tables.specs.Project.{missing};
+ghost use Rattle.wrap_rules.specs.Steps.{looked, Raised, Owners, Added, InAll};
+use tables::ModuleIdx;
+use tables::core::greater;
+
+// The value at a place of a table, `other` where the table has no such place.
+pub fn value_at(table: &[u32], at: u32, other: u32) -> u32
+    ensures { λ r. ⌜ r ≡ getD (now (table .entry)) at other ⌝ }
+{
+    let i = at as usize;
+    if table.len() <= i {
+        return other;
+    }
+    table[i]
+}
+
+// Raises the mark at a place, where there is one, to no less than `mark`. With no branch on the mark, which can't be foretold.
+fn raise(marks: &mut [u32], at: u32, mark: u32)
+    ensures { λ _. ⌜ Raised at mark (now (marks .entry)) (now (marks .exit)) ⌝ }
+{
+    let m = at as usize;
+    if marks.len() <= m {
+        return;
+    }
+    marks[m] = greater(mark, marks[m]);
+}
 
 // Writes each row's value in a table, `other` where the table has no such place.
 pub fn look_up(column: &[u32], table: &[u32], out: &mut [u32], other: u32)
@@ -12,42 +36,48 @@ pub fn look_up(column: &[u32], table: &[u32], out: &mut [u32], other: u32)
     ensures { λ _. ⌜ now (out .exit) ≡ looked other (now (table .entry)) (now (column .entry)) ⌝ }
 {
     for row in 0..column.len() {
-        let at = column[row] as usize;
-        if table.len() <= at {
-            out[row] = other;
-            continue;
-        }
-        out[row] = table[at];
+        out[row] = value_at(table, column[row], other);
     }
 }
 
-// Marks the owners of the marked rows, where they have a place.
-pub fn mark_rows(owner: &[u32], rows: &[u32], marks: &mut [u32])
-    requires { ⌜ length (now rows) ≡ length (now owner) ⌝ }
-    ensures { λ _. ⌜ Owners (now (owner .entry)) (now (rows .entry)) (length (now (owner .entry))) (now (marks .entry)) (now (marks .exit)) ⌝ }
+// Marks the owners of the marked rows' values, where they have a place.
+pub fn mark_rows(value: &[u32], owner: &[u32], rows: &[u32], marks: &mut [u32])
+    requires { ⌜ length (now rows) ≡ length (now value) ⌝ }
+    ensures { λ _. ⌜ Owners (looked missing (now (owner .entry)) (now (value .entry))) (now (rows .entry)) (length (now (value .entry))) (now (marks .entry)) (now (marks .exit)) ⌝ }
 {
-    for row in 0..owner.len() {
-        if rows[row] == 0 {
-            continue;
-        }
-        let m = owner[row] as usize;
-        if marks.len() <= m {
-            continue;
-        }
-        marks[m] = 1;
+    for row in 0..value.len() {
+        let m = value_at(owner, value[row], ModuleIdx::MISSING);
+        raise(marks, m, rows[row]);
     }
 }
 
 // Marks the owners of the rows whose value is in a set.
 pub fn mark_owners(owner: &[u32], value: &[u32], set: &[u32], marks: &mut [u32])
-    requires lengths { ⌜ length (now value) ≡ length (now owner) ⌝ }
-    requires few { ⌜ length (now owner) ≤ 16384 ⌝ }
+    requires { ⌜ length (now value) ≡ length (now owner) ⌝ }
     ensures { λ _. ⌜ Owners (now (owner .entry)) (looked 0 (now (set .entry)) (now (value .entry))) (length (now (owner .entry))) (now (marks .entry)) (now (marks .exit)) ⌝ }
 {
-    let n = owner.len();
-    let mut rows = [0u32; 16384];
-    look_up(value, set, &mut rows[..n], 0);
-    mark_rows(owner, &rows[..n], marks);
+    for row in 0..owner.len() {
+        let mark = value_at(set, value[row], 0);
+        raise(marks, owner[row], mark);
+    }
+}
+
+// The same with each value looked up in a table first.
+pub fn mark_owners_through(
+    owner: &[u32],
+    value: &[u32],
+    through: &[u32],
+    set: &[u32],
+    marks: &mut [u32],
+)
+    requires { ⌜ length (now value) ≡ length (now owner) ⌝ }
+    ensures { λ _. ⌜ Owners (now (owner .entry)) (looked 0 (now (set .entry)) (looked missing (now (through .entry)) (now (value .entry)))) (length (now (owner .entry))) (now (marks .entry)) (now (marks .exit)) ⌝ }
+{
+    for row in 0..owner.len() {
+        let v = value_at(through, value[row], ModuleIdx::MISSING);
+        let mark = value_at(set, v, 0);
+        raise(marks, owner[row], mark);
+    }
 }
 
 // Adds what is in each of three sets. Whether any was new.
@@ -75,12 +105,4 @@ pub fn add(first: &[u32], second: &[u32], third: &[u32], set: &mut [u32]) -> boo
         changed = true;
     }
     changed
-}
-
-// Adds what is in another set.
-pub fn join(other: &[u32], set: &mut [u32]) -> bool
-    requires { ⌜ length (now other) ≡ length (now set) ⌝ }
-    ensures { λ r. ⌜ Added (λ m. has (now (other .entry)) m ≡ true) (now (set .entry)) (now (set .exit)) r ⌝ }
-{
-    add(other, other, other, set)
 }

@@ -1,17 +1,19 @@
 // Rule (iv): a reached eligible module with `reads` 1 and a statement whose reference touches the plan.
 ghost use mathlib.Core.Path.{_≡_};
-ghost use mathlib.Core.Bool.{true};
-ghost use Prim.Native.Nat.{ℕ, _≤_};
-ghost use lib.ListN.{length};
+ghost use mathlib.Core.Bool.{true, false};
+ghost use mathlib.Core.Logic.{_⊎_};
+ghost use Prim.Native.Nat.{ℕ, _<_};
+ghost use lib.ListN.{length, getD};
 ghost use Rattle.lists.specs.Words.{has};
-ghost use Rattle.wrap_rules.specs.Steps.{Owners, Added};
+ghost use Rattle.wrap_rules.specs.Steps.{Added};
 ghost use Rattle.wrap_rules.specs.Asked.{Marks, ChainTouch, SymbolTouch, ReferenceTouch, Touching, Reader, Symbols, Reading, TopLevelRead};
 use crate::marks::add;
-use crate::marks::join;
 use crate::marks::look_up;
 use crate::marks::mark_owners;
+use crate::marks::mark_owners_through;
 use crate::marks::mark_rows;
-use tables::ModuleIdx;
+use crate::marks::value_at;
+use tables::core::greater;
 
 // Marks the symbols whose owner is planned, or a link owner in whose chain.
 fn mark_chains(
@@ -23,14 +25,21 @@ fn mark_chains(
 )
     requires rows { ⌜ length (now chains) ≡ length (now owner) ⌝ }
     requires links { ⌜ length (now «chain_link») ≡ length (now «chain_symbol») ⌝ }
-    requires few { ⌜ length (now «chain_symbol») ≤ 16384 ⌝ }
     ensures { λ _. ⌜ Marks (ChainTouch (now (owner .entry)) (now («chain_symbol» .entry)) (now («chain_link» .entry)) (now (plan .entry))) (now (chains .exit)) ⌝ }
 {
     look_up(owner, plan, chains, 0);
-    let n = chain_symbol.len();
-    let mut owners = [0u32; 16384];
-    look_up(chain_link, owner, &mut owners[..n], ModuleIdx::MISSING);
-    mark_owners(chain_symbol, &owners[..n], plan, chains);
+    mark_owners_through(chain_symbol, chain_link, owner, plan, chains);
+}
+
+// Marks the symbols that are in a set or have their canonical there.
+fn mark_canonicals(canonical: &[u32], chains: &[u32], symbols: &mut [u32])
+    requires rows { ⌜ length (now chains) ≡ length (now symbols) ⌝ }
+    requires canonicals { ⌜ length (now canonical) ≡ length (now symbols) ⌝ }
+    ensures { λ _. ⌜ Marks (λ y. (has (now (chains .entry)) y ≡ true) ⊎ (has (now (chains .entry)) (getD (now (canonical .entry)) y 0) ≡ true)) (now (symbols .exit)) ⌝ }
+{
+    for y in 0..symbols.len() {
+        symbols[y] = greater(chains[y], value_at(chains, canonical[y], 0));
+    }
 }
 
 // Marks the symbols that touch the plan, by themselves or by their canonical.
@@ -49,8 +58,7 @@ fn mark_symbols(
     let n = owner.len();
     let mut chains = [0u32; 16384];
     mark_chains(owner, chain_symbol, chain_link, plan, &mut chains[..n]);
-    look_up(canonical, &chains[..n], symbols, 0);
-    join(&chains[..n], symbols);
+    mark_canonicals(canonical, &chains[..n], symbols);
 }
 
 // Marks the references to a symbol that touches the plan, or with a depended one.
@@ -63,7 +71,6 @@ fn mark_references(
 )
     requires rows { ⌜ length (now references) ≡ length (now «reference_symbol») ⌝ }
     requires depends { ⌜ length (now depended) ≡ length (now «depended_reference») ⌝ }
-    requires few { ⌜ length (now «depended_reference») ≤ 16384 ⌝ }
     ensures { λ _. ⌜ Marks (ReferenceTouch (now («reference_symbol» .entry)) (now («depended_reference» .entry)) (now (depended .entry)) (now (symbols .entry))) (now (references .exit)) ⌝ }
 {
     look_up(reference_symbol, symbols, references, 0);
@@ -78,19 +85,10 @@ fn mark_readers(
     readers: &mut [u32],
 )
     requires rows { ⌜ length (now references) ≡ length (now «reference_statement») ⌝ }
-    requires few { ⌜ length (now «reference_statement») ≤ 16384 ⌝ }
     requires none { ⌜ ((m : ℕ) → has (now readers) m ≡ true → ⊥) ⌝ }
     ensures { λ _. ⌜ Marks (Reader (now («statement_module» .entry)) (now («reference_statement» .entry)) (now (references .entry))) (now (readers .exit)) ⌝ }
 {
-    let n = reference_statement.len();
-    let mut owners = [0u32; 16384];
-    look_up(
-        reference_statement,
-        statement_module,
-        &mut owners[..n],
-        ModuleIdx::MISSING,
-    );
-    mark_rows(&owners[..n], references, readers);
+    mark_rows(reference_statement, statement_module, references, readers);
 }
 
 // Marks the references that touch the plan.
@@ -108,7 +106,6 @@ fn mark_touching(
     requires columns { ⌜ Symbols (now owner) (now canonical) (now «chain_symbol») (now «chain_link») ⌝ }
     requires rows { ⌜ length (now references) ≡ length (now «reference_symbol») ⌝ }
     requires depends { ⌜ length (now depended) ≡ length (now «depended_reference») ⌝ }
-    requires few { ⌜ length (now «depended_reference») ≤ 16384 ⌝ }
     ensures { λ _. ⌜ Marks (Touching (now (owner .entry)) (now (canonical .entry)) (now («chain_symbol» .entry)) (now («chain_link» .entry)) (now («reference_symbol» .entry)) (now («depended_reference» .entry)) (now (depended .entry)) (now (plan .entry))) (now (references .exit)) ⌝ }
 {
     let n = owner.len();
@@ -130,6 +127,26 @@ fn mark_touching(
     );
 }
 
+// Whether a member of two sets is out of a third.
+fn any_open(first: &[u32], second: &[u32], set: &[u32]) -> bool
+    requires one { ⌜ length (now first) ≡ length (now set) ⌝ }
+    requires two { ⌜ length (now second) ≡ length (now set) ⌝ }
+    ensures { λ r. ⌜ (r ≡ false → (m : ℕ) → m < length (now (set .entry)) → has (now (first .entry)) m ≡ true → has (now (second .entry)) m ≡ true → has (now (set .entry)) m ≡ true) ⌝ }
+{
+    for m in 0..set.len() {
+        if second[m] == 0 {
+            continue;
+        }
+        if set[m] != 0 {
+            continue;
+        }
+        if first[m] != 0 {
+            return true;
+        }
+    }
+    false
+}
+
 // One pass of rule (iv) over the candidates, the reached eligible modules. Whether any module was added.
 pub fn close_top_level_readers(
     reads: &[u32],
@@ -149,6 +166,9 @@ pub fn close_top_level_readers(
     requires columns { ⌜ Reading (now reads) (now «reference_statement») (now «reference_symbol») (now «depended_reference») (now depended) (now candidates) (length (now plan)) ⌝ }
     ensures { λ r. ⌜ Added (TopLevelRead (now (reads .entry)) (now («statement_module» .entry)) (now (owner .entry)) (now (canonical .entry)) (now («chain_symbol» .entry)) (now («chain_link» .entry)) (now («reference_statement» .entry)) (now («reference_symbol» .entry)) (now («depended_reference» .entry)) (now (depended .entry)) (now (candidates .entry)) (now (plan .entry))) (now (plan .entry)) (now (plan .exit)) r ⌝ }
 {
+    if !any_open(reads, candidates, plan) {
+        return false;
+    }
     let rows = reference_statement.len();
     let mut references = [0u32; 16384];
     mark_touching(

@@ -5,12 +5,12 @@ ghost use Prim.Native.Nat.{ℕ, _≤_};
 ghost use lib.ListN.{length};
 ghost use Rattle.lists.specs.Words.{has};
 ghost use Rattle.tables.specs.Accepted.{Below};
-ghost use Rattle.wrap_rules.specs.Steps.{importTargets};
+ghost use Rattle.wrap_rules.specs.Spread.{ModuleGraph};
 ghost use Rattle.wrap_rules.specs.Roots.{rootsOver, Written, Reaching, Chosen};
 use crate::marks::add;
 use crate::marks::mark_owners;
-use crate::spread::import_targets;
 use crate::spread::spread;
+use chunk_cycles::core::thread;
 use tables::ModuleIdx;
 
 // Lists the modules of the analysed entries. How many there are.
@@ -35,54 +35,44 @@ pub fn list_roots(included: &[u32], entry: &[u32], entry_chunk: &[u32], roots: &
     count
 }
 
-// Marks the modules that the roots reach by kind 0 records, themselves counted.
+// Marks the modules that the roots reach along the edges, themselves counted.
 fn source_reachable_modules(
     included: &[u32],
-    record_module: &[u32],
-    record_kind: &[u32],
-    record_target: &[u32],
+    importers: &[u32],
+    targets: &[u32],
     roots: &[u32],
     reached: &mut [u32],
 )
-    requires kinds { ⌜ length (now «record_kind») ≡ length (now «record_module») ⌝ }
-    requires targets { ⌜ length (now «record_target») ≡ length (now «record_module») ⌝ }
-    requires few { ⌜ (length (now «record_module») ≤ 16384) × (length (now roots) ≤ 16384) ⌝ }
+    requires edges { ⌜ ModuleGraph (now importers) (now targets) (length (now reached)) ⌝ }
     requires none { ⌜ ((m : ℕ) → has (now reached) m ≡ true → ⊥) ⌝ }
-    ensures { λ _. ⌜ Reaching (now (included .entry)) (now (roots .entry)) (now («record_module» .entry)) (importTargets (now («record_kind» .entry)) (now («record_target» .entry))) (length (now (reached .entry))) (now (reached .exit)) ⌝ }
+    ensures { λ _. ⌜ Reaching (now (included .entry)) (now (roots .entry)) (now (importers .entry)) (now (targets .entry)) (length (now (reached .entry))) (now (reached .exit)) ⌝ }
 {
-    mark_owners(roots, roots, included, reached);
-    let n = record_module.len();
-    let mut targets = [0u32; 16384];
-    import_targets(record_kind, record_target, &mut targets[..n]);
-    spread(record_module, &targets[..n], reached);
+    let n = reached.len();
+    let rows = importers.len();
+    let mut start = [0u32; 4096];
+    mark_owners(roots, roots, included, &mut start[..n]);
+    let mut heads = [0u32; 4096];
+    let mut nexts = [0u32; 16384];
+    thread(importers, &mut heads[..n], &mut nexts[..rows]);
+    spread(importers, targets, &heads[..n], &nexts[..rows], &start[..n], reached);
 }
 
 // Marks the reached eligible modules.
 pub fn mark_candidates(
     included: &[u32],
-    record_module: &[u32],
-    record_kind: &[u32],
-    record_target: &[u32],
+    importers: &[u32],
+    targets: &[u32],
     roots: &[u32],
     eligible: &[u32],
     candidates: &mut [u32],
 )
-    requires kinds { ⌜ length (now «record_kind») ≡ length (now «record_module») ⌝ }
-    requires targets { ⌜ length (now «record_target») ≡ length (now «record_module») ⌝ }
-    requires few { ⌜ (length (now «record_module») ≤ 16384) × (length (now roots) ≤ 16384) ⌝ }
-    requires modules { ⌜ (length (now candidates) ≤ 4096) × (length (now eligible) ≡ length (now candidates)) ⌝ }
+    requires edges { ⌜ ModuleGraph (now importers) (now targets) (length (now candidates)) ⌝ }
+    requires modules { ⌜ length (now eligible) ≡ length (now candidates) ⌝ }
     requires none { ⌜ ((m : ℕ) → has (now candidates) m ≡ true → ⊥) ⌝ }
-    ensures { λ _. ⌜ Chosen (now (included .entry)) (now (roots .entry)) (now («record_module» .entry)) (importTargets (now («record_kind» .entry)) (now («record_target» .entry))) (now (eligible .entry)) (now (candidates .entry)) (now (candidates .exit)) ⌝ }
+    ensures { λ _. ⌜ Chosen (now (included .entry)) (now (roots .entry)) (now (importers .entry)) (now (targets .entry)) (now (eligible .entry)) (now (candidates .entry)) (now (candidates .exit)) ⌝ }
 {
     let n = candidates.len();
     let mut reached = [0u32; 4096];
-    source_reachable_modules(
-        included,
-        record_module,
-        record_kind,
-        record_target,
-        roots,
-        &mut reached[..n],
-    );
+    source_reachable_modules(included, importers, targets, roots, &mut reached[..n]);
     add(&reached[..n], eligible, eligible, candidates);
 }

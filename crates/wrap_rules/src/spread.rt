@@ -1,74 +1,60 @@
-// Closing a set along rows: by passes over the rows, from either end in turn, until nothing changes.
+// The kind 0 records as edges, and closing a set along edges: by visits from what isn't in yet.
 ghost use mathlib.Core.Path.{_≡_};
-ghost use Prim.Native.Nat.{ℕ, _<_, _≤_};
+ghost use Prim.Native.Nat.{_≤_};
 ghost use lib.ListN.{length};
 ghost use Rattle.wrap_rules.specs.Steps.{importTargets};
-ghost use Rattle.wrap_rules.specs.Spread.{turned, Grew, Spreads};
+ghost use Rattle.wrap_rules.specs.Spread.{Spreads, Spreadable, Edges};
+use chunk_cycles::core::visit;
 use tables::ModuleIdx;
 
-// Writes the targets of the kind 0 records, the mark in the other rows.
-pub fn import_targets(record_kind: &[u32], record_target: &[u32], targets: &mut [u32])
-    requires kinds { ⌜ length (now «record_kind») ≡ length (now targets) ⌝ }
-    requires rows { ⌜ length (now «record_target») ≡ length (now targets) ⌝ }
-    ensures { λ _. ⌜ now (targets .exit) ≡ importTargets (now («record_kind» .entry)) (now («record_target» .entry)) ⌝ }
+// Writes the importer and the target of each kind 0 record that has a target. How many there are.
+pub fn import_edges(
+    record_module: &[u32],
+    record_kind: &[u32],
+    record_target: &[u32],
+    importers: &mut [u32],
+    targets: &mut [u32],
+) -> usize
+    requires kinds { ⌜ length (now «record_kind») ≡ length (now «record_module») ⌝ }
+    requires rows { ⌜ length (now «record_target») ≡ length (now «record_module») ⌝ }
+    requires room { ⌜ (length (now «record_module») ≤ length (now importers)) × (length (now «record_module») ≤ length (now targets)) ⌝ }
+    ensures { λ r. ⌜ Edges (now («record_module» .entry)) (importTargets (now («record_kind» .entry)) (now («record_target» .entry))) (now (importers .exit)) (now (targets .exit)) r ⌝ }
 {
-    for row in 0..targets.len() {
+    let mut count = 0;
+    for row in 0..record_module.len() {
         if record_kind[row] != 0 {
-            targets[row] = ModuleIdx::MISSING;
             continue;
         }
-        targets[row] = record_target[row];
+        let target = record_target[row];
+        if target == ModuleIdx::MISSING {
+            continue;
+        }
+        importers[count] = record_module[row];
+        targets[count] = target;
+        count += 1;
     }
+    count
 }
 
-// The row of a turn, from either end.
-fn turn(i: usize, n: usize, down: bool) -> usize
-    requires { ⌜ i < n ⌝ }
-    ensures { λ r. ⌜ r ≡ turned down n i ⌝ }
+// Marks what a set leads to along the edges, itself counted. `marks` has what an earlier, smaller set leads to.
+pub fn spread(
+    from: &[u32],
+    to: &[u32],
+    heads: &[u32],
+    nexts: &[u32],
+    set: &[u32],
+    marks: &mut [u32],
+)
+    requires { ⌜ Spreadable (now from) (now to) (now heads) (now nexts) (now set) (now marks) ⌝ }
+    ensures { λ _. ⌜ Spreads (now (from .entry)) (now (to .entry)) (now (set .entry)) (now (marks .exit)) ⌝ }
 {
-    if down {
-        return n - 1 - i;
-    }
-    i
-}
-
-// One pass: where a row's value in one column is in, its value in the other comes in. Whether any did.
-fn grow(from: &[u32], to: &[u32], marks: &mut [u32], down: bool) -> bool
-    requires { ⌜ length (now to) ≡ length (now from) ⌝ }
-    ensures { λ r. ⌜ Grew (now (from .entry)) (now (to .entry)) (now (marks .entry)) (now (marks .exit)) r ⌝ }
-{
-    let mut changed = false;
-    for i in 0..from.len() {
-        let row = turn(i, from.len(), down);
-        let a = from[row] as usize;
-        if marks.len() <= a {
+    for m in 0..set.len() {
+        if set[m] == 0 {
             continue;
         }
-        if marks[a] == 0 {
+        if marks[m] != 0 {
             continue;
         }
-        let b = to[row] as usize;
-        if marks.len() <= b {
-            continue;
-        }
-        if marks[b] != 0 {
-            continue;
-        }
-        marks[b] = 1;
-        changed = true;
-    }
-    changed
-}
-
-// Closes a set along the rows.
-pub fn spread(from: &[u32], to: &[u32], marks: &mut [u32])
-    requires { ⌜ length (now to) ≡ length (now from) ⌝ }
-    ensures { λ _. ⌜ Spreads (now (from .entry)) (now (to .entry)) (now (marks .entry)) (now (marks .exit)) ⌝ }
-{
-    let mut more = true;
-    let mut down = true;
-    while more {
-        more = grow(from, to, marks, down);
-        down = !down;
+        visit(from, to, heads, nexts, m as u32, marks);
     }
 }

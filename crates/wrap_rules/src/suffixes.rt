@@ -49,7 +49,6 @@ fn is_whole(order: &[u32], sensitive: &[u32], plan: &[u32]) -> bool
 fn mark_suffix(order: &[u32], sensitive: &[u32], plan: &[u32], marks: &mut [u32])
     requires members { ⌜ Below (length (now sensitive)) (now order) ⌝ }
     requires rows { ⌜ length (now plan) ≡ length (now sensitive) ⌝ }
-    requires few { ⌜ length (now order) ≤ 4096 ⌝ }
     requires none { ⌜ ((m : ℕ) → has (now marks) m ≡ true → ⊥) ⌝ }
     ensures { λ _. ⌜ Marks (InSuffix (now (order .entry)) (now (sensitive .entry)) (now (plan .entry))) (now (marks .exit)) ⌝ }
 {
@@ -63,7 +62,7 @@ fn add_suffix(order: &[u32], sensitive: &[u32], eligible: &[u32], plan: &mut [u3
     requires members { ⌜ Below (length (now plan)) (now order) ⌝ }
     requires sensitive { ⌜ length (now sensitive) ≡ length (now plan) ⌝ }
     requires eligible { ⌜ length (now eligible) ≡ length (now plan) ⌝ }
-    requires few { ⌜ (length (now plan) ≤ 4096) × (length (now order) ≤ 4096) ⌝ }
+    requires few { ⌜ length (now plan) ≤ 4096 ⌝ }
     ensures { λ r. ⌜ Added (λ m. InSuffix (now (order .entry)) (now (sensitive .entry)) (now (plan .entry)) m × (has (now (eligible .entry)) m ≡ true)) (now (plan .entry)) (now (plan .exit)) r ⌝ }
 {
     let n = plan.len();
@@ -84,7 +83,7 @@ fn extend_order(
     requires members { ⌜ Below (length (now plan)) (now order) ⌝ }
     requires sensitive { ⌜ length (now sensitive) ≡ length (now plan) ⌝ }
     requires eligible { ⌜ length (now eligible) ≡ length (now plan) ⌝ }
-    requires few { ⌜ (length (now plan) ≤ 4096) × (length (now order) ≤ 4096) ⌝ }
+    requires few { ⌜ length (now plan) ≤ 4096 ⌝ }
     requires entry { ⌜ k < length (now settled) ⌝ }
     ensures { λ r. ⌜ Extended (now (order .entry)) (now (sensitive .entry)) (now (eligible .entry)) k (now (settled .entry)) (now (settled .exit)) (now (plan .entry)) (now (plan .exit)) r ⌝ }
 {

@@ -19,7 +19,7 @@ use Rattle.wrap_plan.specs.Closing.{Rest, whole, Made, Kept, Ready, Once
 use Rattle.lists.proofs.Laws.{or-left, or-right}
 use Rattle.wrap_rules.proofs.Lists.{or-skip}
 use Rattle.wrap_plan.proofs.AtProject.{symbols-fit}
-use Rattle.wrap_plan.proofs.Rounds.{under-more, suffixes-ready, roots-ready, members-ready, importing-ready, reading-ready, once}
+use Rattle.wrap_plan.proofs.Rounds.{under-more, suffixes-ready, roots-ready, members-ready, importing-ready, leads-ready, reading-ready, once}
 use borrow.Author.Needs.{needs}
 use Rattle.wrap_plan.proofs.core.close_once.Statement.{statement}
 use Rattle.wrap_plan.proofs.core.close_once.Tie as tie
@@ -36,7 +36,7 @@ abbrev of : tie.Start → Rest → Project
 of e rest = let a = e .args in whole rest (a .normal .now) (a .included .now) (a .reads .now) (a .chunk .now) (a .record-module .now) (a .record-kind .now) (a .record-target .now) (a .dependency-module .now) (a .dependency .now) (a .statement-module .now) (a .owner .now) (a .canonical .now) (a .chain-symbol .now) (a .chain-link .now) (a .reference-statement .now) (a .reference-symbol .now) (a .depended-reference .now) (a .depended .now) (a .member-chunk .now) (a .member .now)
 
 abbrev MadeOf : tie.Start → Rest → Type 0
-MadeOf e rest = let a = e .args in Made (of e rest) (a .labels .now) (a .roots .now) (a .sensitive .now) (a .eligible .now) (a .candidates .now)
+MadeOf e rest = let a = e .args in Made (of e rest) (a .labels .now) (a .roots .now) (a .sensitive .now) (a .eligible .now) (a .candidates .now) (a .importers .now) (a .targets .now) (a .heads .now) (a .nexts .now)
 
 abbrev KeptOf : tie.Start → Rest → List ℕ → List ℕ → List ℕ → Type 0
 KeptOf e rest settled leads plan = let a = e .args in Kept (of e rest) (a .roots .now) (a .sensitive .now) (a .eligible .now) settled leads plan
@@ -54,65 +54,65 @@ abbrev plan2 : tie.After-close-cyclic-chunk-members → List ℕ
 plan2 k = k .close-cyclic-chunk-members .last .1 .1 .1 .1 .1 .1 .0
 
 abbrev plan3 : tie.After-close-static-importers → List ℕ
-plan3 k = k .close-static-importers .last .1 .1 .1 .1 .1 .1 .1 .0
+plan3 k = k .close-static-importers .last .1 .1 .1 .1 .1 .1 .1 .1 .0
 
 abbrev plan4 : tie.After-close-top-level-readers → List ℕ
 plan4 k = k .close-top-level-readers .last .1 .1 .1 .1 .1 .1 .1 .1 .1 .1 .1 .0
 
-size1 : (k : tie.After-close-expected-sensitive-suffixes) → length (plan1 k) ≡ modules (of (k .before .before .before .before .before .before .before .before .before .before .before .before .before .before .before .before .before .before .before .before .before .before .before .before .before .before .before .before .before .before .before) (ready (k .before .before .before .before .before .before .before .before .before .before .before .before .before .before .before .before .before .before .before .before .before .before .before .before .before .before .before .before .before .before .before) .0))
-size1 k = k .close-expected-sensitive-suffixes .kept .1 .1 .1 .1 .1 .1 .1 .1 .1 .0 ∙ ready (k .before .before .before .before .before .before .before .before .before .before .before .before .before .before .before .before .before .before .before .before .before .before .before .before .before .before .before .before .before .before .before) .2 .size
+size1 : (k : tie.After-close-expected-sensitive-suffixes) → length (plan1 k) ≡ modules (of (k .before .before .before .before .before .before .before .before .before .before .before .before .before .before .before .before .before .before .before .before .before .before .before .before .before .before .before .before .before .before .before .before .before .before .before) (ready (k .before .before .before .before .before .before .before .before .before .before .before .before .before .before .before .before .before .before .before .before .before .before .before .before .before .before .before .before .before .before .before .before .before .before .before) .0))
+size1 k = k .close-expected-sensitive-suffixes .kept .1 .1 .1 .1 .1 .1 .1 .1 .1 .0 ∙ ready (k .before .before .before .before .before .before .before .before .before .before .before .before .before .before .before .before .before .before .before .before .before .before .before .before .before .before .before .before .before .before .before .before .before .before .before) .2 .size
 
-size2 : (k : tie.After-close-cyclic-chunk-members) → length (plan2 k) ≡ modules (of (k .before .before .before .before .before .before .before .before .before .before .before .before .before .before .before .before .before .before .before .before .before .before .before .before .before .before .before .before .before .before .before .before .before .before .before .before .before) (ready (k .before .before .before .before .before .before .before .before .before .before .before .before .before .before .before .before .before .before .before .before .before .before .before .before .before .before .before .before .before .before .before .before .before .before .before .before .before) .0))
+size2 : (k : tie.After-close-cyclic-chunk-members) → length (plan2 k) ≡ modules (of (k .before .before .before .before .before .before .before .before .before .before .before .before .before .before .before .before .before .before .before .before .before .before .before .before .before .before .before .before .before .before .before .before .before .before .before .before .before .before .before .before .before) (ready (k .before .before .before .before .before .before .before .before .before .before .before .before .before .before .before .before .before .before .before .before .before .before .before .before .before .before .before .before .before .before .before .before .before .before .before .before .before .before .before .before .before) .0))
 size2 k = k .close-cyclic-chunk-members .kept .1 .1 .1 .1 .1 .1 .0 ∙ size1 (k .before .before .before .before .before .before)
 
-size3 : (k : tie.After-close-static-importers) → length (plan3 k) ≡ modules (of (k .before .before .before .before .before .before .before .before .before .before .before .before .before .before .before .before .before .before .before .before .before .before .before .before .before .before .before .before .before .before .before .before .before .before .before .before .before .before .before .before .before .before) (ready (k .before .before .before .before .before .before .before .before .before .before .before .before .before .before .before .before .before .before .before .before .before .before .before .before .before .before .before .before .before .before .before .before .before .before .before .before .before .before .before .before .before .before) .0))
-size3 k = k .close-static-importers .kept .1 .1 .1 .1 .1 .1 .1 .0 ∙ size2 (k .before .before .before .before .before)
+size3 : (k : tie.After-close-static-importers) → length (plan3 k) ≡ modules (of (k .before .before .before .before .before .before .before .before .before .before .before .before .before .before .before .before .before .before .before .before .before .before .before .before .before .before .before .before .before .before .before .before .before .before .before .before .before .before .before .before .before .before .before .before .before .before) (ready (k .before .before .before .before .before .before .before .before .before .before .before .before .before .before .before .before .before .before .before .before .before .before .before .before .before .before .before .before .before .before .before .before .before .before .before .before .before .before .before .before .before .before .before .before .before .before) .0))
+size3 k = k .close-static-importers .kept .1 .1 .1 .1 .1 .1 .1 .1 .0 ∙ size2 (k .before .before .before .before .before)
 
-grown : (k : tie.After-close-cyclic-chunk-members) → Within (k .before .before .before .before .before .before .before .before .before .before .before .before .before .before .before .before .before .before .before .before .before .before .before .before .before .before .before .before .before .before .before .before .before .before .before .before .before .args .plan .now) (plan2 k)
+grown : (k : tie.After-close-cyclic-chunk-members) → Within (k .before .before .before .before .before .before .before .before .before .before .before .before .before .before .before .before .before .before .before .before .before .before .before .before .before .before .before .before .before .before .before .before .before .before .before .before .before .before .before .before .before .args .plan .now) (plan2 k)
 unfolding Within
 grown k m e = k .close-cyclic-chunk-members .ensures .old m (k .before .before .before .before .before .before .close-expected-sensitive-suffixes .ensures .1 .grows m e)
 
 -- the four passes together
-done : (k : tie.After-close-top-level-readers) → let e = k .before .before .before .before .before .before .before .before .before .before .before .before .before .before .before .before .before .before .before .before .before .before .before .before .before .before .before .before .before .before .before .before .before .before .before .before .before .before .before .before .before .before .before .before .before .before .before .before in let a = e .args in (rest : Rest) → MadeOf e rest → KeptOf e rest (a .settled .now) (a .leads .now) (a .plan .now) → (r : Bool)
+done : (k : tie.After-close-top-level-readers) → let e = k .before .before .before .before .before .before .before .before .before .before .before .before .before .before .before .before .before .before .before .before .before .before .before .before .before .before .before .before .before .before .before .before .before .before .before .before .before .before .before .before .before .before .before .before .before .before .before .before .before .before .before .before in let a = e .args in (rest : Rest) → MadeOf e rest → KeptOf e rest (a .settled .now) (a .leads .now) (a .plan .now) → (r : Bool)
     → (k .before .before .before .before .before .before .before .before .before .before .before .before .before .before .before .before .before .close-expected-sensitive-suffixes .result || (k .before .before .before .before .before .before .before .before .before .before .before .close-cyclic-chunk-members .result || (k .before .before .before .before .before .before .close-static-importers .result || k .close-top-level-readers .result))) ≡ r
-    → KeptOf e rest (k .before .before .before .before .before .before .before .before .before .before .before .before .before .before .before .before .before .close-expected-sensitive-suffixes .last .1 .1 .1 .1 .1 .1 .1 .1 .0) (k .before .before .before .before .before .before .close-static-importers .last .1 .1 .1 .1 .1 .1 .0) (plan4 k) × Passed (asked (ordersOf (of e rest)) (labelsOf (of e rest)) (of e rest)) (a .plan .now) (plan4 k) r
+    → KeptOf e rest (k .before .before .before .before .before .before .before .before .before .before .before .before .before .before .before .before .before .close-expected-sensitive-suffixes .last .1 .1 .1 .1 .1 .1 .1 .1 .0) (k .before .before .before .before .before .before .close-static-importers .last .1 .1 .1 .1 .1 .1 .1 .0) (plan4 k) × Passed (asked (ordersOf (of e rest)) (labelsOf (of e rest)) (of e rest)) (a .plan .now) (plan4 k) r
 done k rest made kept r e =
-    let a = k .before .before .before .before .before .before .before .before .before .before .before .before .before .before .before .before .before .before .before .before .before .before .before .before .before .before .before .before .before .before .before .before .before .before .before .before .before .before .before .before .before .before .before .before .before .before .before .before .args in
+    let a = k .before .before .before .before .before .before .before .before .before .before .before .before .before .before .before .before .before .before .before .before .before .before .before .before .before .before .before .before .before .before .before .before .before .before .before .before .before .before .before .before .before .before .before .before .before .before .before .before .before .before .before .before .args in
     let one = k .before .before .before .before .before .before .before .before .before .before .before .before .before .before .before .before .before .close-expected-sensitive-suffixes in
     let three = k .before .before .before .before .before .before .close-static-importers in
-    once (of (k .before .before .before .before .before .before .before .before .before .before .before .before .before .before .before .before .before .before .before .before .before .before .before .before .before .before .before .before .before .before .before .before .before .before .before .before .before .before .before .before .before .before .before .before .before .before .before .before) rest) (a .labels .now) (a .roots .now) (a .sensitive .now) (a .eligible .now) (a .candidates .now) made kept (one .kept .1 .1 .1 .1 .1 .1 .1 .1 .0) (one .ensures .0) (one .ensures .1) (k .before .before .before .before .before .before .before .before .before .before .before .close-cyclic-chunk-members .ensures) (three .ensures .0) (three .ensures .1) (k .close-top-level-readers .ensures) e
+    once (of (k .before .before .before .before .before .before .before .before .before .before .before .before .before .before .before .before .before .before .before .before .before .before .before .before .before .before .before .before .before .before .before .before .before .before .before .before .before .before .before .before .before .before .before .before .before .before .before .before .before .before .before .before) rest) (a .labels .now) (a .roots .now) (a .sensitive .now) (a .eligible .now) (a .candidates .now) (a .importers .now) (a .targets .now) (a .heads .now) (a .nexts .now) made kept (one .kept .1 .1 .1 .1 .1 .1 .1 .1 .0) (one .ensures .0) (one .ensures .1) (k .before .before .before .before .before .before .before .before .before .before .before .close-cyclic-chunk-members .ensures) (three .ensures .0) (three .ensures .1) (k .close-top-level-readers .ensures) e
 
 close-expected-sensitive-suffixes-requires : tie.Need-close-expected-sensitive-suffixes-requires
 close-expected-sensitive-suffixes-requires c κs =
-    let e = c .before .before .before .before .before .before .before .before .before .before .before .before .before .before .before .before .before .before .before .before .before .before .before .before .before .before .before .before .before .before in
+    let e = c .before .before .before .before .before .before .before .before .before .before .before .before .before .before .before .before .before .before .before .before .before .before .before .before .before .before .before .before .before .before .before .before .before .before in
     let a = e .args in
     let g = ready e in
     let n = g .2 .size in
-    (suffixes-ready (of e (g .0)) (a .labels .now) (a .roots .now) (a .sensitive .now) (a .eligible .now) (a .candidates .now) (g .1) (length (a .plan .now)) n, (roots-ready (of e (g .0)) (a .labels .now) (a .roots .now) (a .sensitive .now) (a .eligible .now) (a .candidates .now) (g .1) (length (a .plan .now)) n, (g .2 .settledSize, (g .2 .settles, g .2 .bits))))
+    (suffixes-ready (of e (g .0)) (a .labels .now) (a .roots .now) (a .sensitive .now) (a .eligible .now) (a .candidates .now) (a .importers .now) (a .targets .now) (a .heads .now) (a .nexts .now) (g .1) (length (a .plan .now)) n, (roots-ready (of e (g .0)) (a .labels .now) (a .roots .now) (a .sensitive .now) (a .eligible .now) (a .candidates .now) (a .importers .now) (a .targets .now) (a .heads .now) (a .nexts .now) (g .1) (length (a .plan .now)) n, (g .2 .settledSize, (g .2 .settles, g .2 .bits))))
 
 close-cyclic-chunk-members-requires : tie.Need-close-cyclic-chunk-members-requires
 close-cyclic-chunk-members-requires c κs =
-    let e = c .before .before .before .before .before .before .before .before .before .before .before .before .before .before .before .before .before .before .before .before .before .before .before .before .before .before .before .before .before .before .before .before .before .before .before .before in
+    let e = c .before .before .before .before .before .before .before .before .before .before .before .before .before .before .before .before .before .before .before .before .before .before .before .before .before .before .before .before .before .before .before .before .before .before .before .before .before .before .before .before in
     let a = e .args in
     let g = ready e in
     let k = c .before .before .before .before .before in
-    members-ready (of e (g .0)) (a .labels .now) (a .roots .now) (a .sensitive .now) (a .eligible .now) (a .candidates .now) (g .1) (length (plan1 k)) (size1 k)
+    members-ready (of e (g .0)) (a .labels .now) (a .roots .now) (a .sensitive .now) (a .eligible .now) (a .candidates .now) (a .importers .now) (a .targets .now) (a .heads .now) (a .nexts .now) (g .1) (length (plan1 k)) (size1 k)
 
 close-static-importers-requires : tie.Need-close-static-importers-requires
 close-static-importers-requires c κs =
-    let e = c .before .before .before .before .before .before .before .before .before .before .before .before .before .before .before .before .before .before .before .before .before .before .before .before .before .before .before .before .before .before .before .before .before .before .before .before .before .before .before .before .before in
+    let e = c .before .before .before .before .before .before .before .before .before .before .before .before .before .before .before .before .before .before .before .before .before .before .before .before .before .before .before .before .before .before .before .before .before .before .before .before .before .before .before .before .before .before .before .before .before in
     let a = e .args in
     let g = ready e in
     let k = c .before .before .before .before in
-    (importing-ready (of e (g .0)) (a .labels .now) (a .roots .now) (a .sensitive .now) (a .eligible .now) (a .candidates .now) (g .1) (length (plan2 k)) (size2 k) (a .leads .now) (g .2 .leadSize), under-more (importTargets (a .record-kind .now) (a .record-target .now)) (a .record-module .now) (a .plan .now) (plan2 k) (a .leads .now) (size2 k ∙ sym (g .2 .size)) (grown k) (g .2 .under))
+    (importing-ready (of e (g .0)) (a .labels .now) (a .roots .now) (a .sensitive .now) (a .eligible .now) (a .candidates .now) (a .importers .now) (a .targets .now) (a .heads .now) (a .nexts .now) (g .1) (length (plan2 k)) (size2 k), leads-ready (of e (g .0)) (a .labels .now) (a .roots .now) (a .sensitive .now) (a .eligible .now) (a .candidates .now) (a .importers .now) (a .targets .now) (a .heads .now) (a .nexts .now) (g .1) (plan2 k) (a .leads .now) (size2 k) (g .2 .leadSize) (g .2 .along) (under-more (importTargets (a .record-kind .now) (a .record-target .now)) (a .record-module .now) (a .plan .now) (plan2 k) (a .leads .now) (size2 k ∙ sym (g .2 .size)) (grown k) (g .2 .under)))
 
 close-top-level-readers-requires : tie.Need-close-top-level-readers-requires
 close-top-level-readers-requires c κs =
-    let e = c .before .before .before .before .before .before .before .before .before .before .before .before .before .before .before .before .before .before .before .before .before .before .before .before .before .before .before .before .before .before .before .before .before .before .before .before .before .before .before .before .before .before .before .before .before .before .before in
+    let e = c .before .before .before .before .before .before .before .before .before .before .before .before .before .before .before .before .before .before .before .before .before .before .before .before .before .before .before .before .before .before .before .before .before .before .before .before .before .before .before .before .before .before .before .before .before .before .before .before .before .before .before in
     let a = e .args in
     let g = ready e in
     let k = c .before .before .before .before .before in
-    (symbols-fit (of e (g .0)) (g .1 .accepted), reading-ready (of e (g .0)) (a .labels .now) (a .roots .now) (a .sensitive .now) (a .eligible .now) (a .candidates .now) (g .1) (length (plan3 k)) (size3 k))
+    (symbols-fit (of e (g .0)) (g .1 .accepted), reading-ready (of e (g .0)) (a .labels .now) (a .roots .now) (a .sensitive .now) (a .eligible .now) (a .candidates .now) (a .importers .now) (a .targets .now) (a .heads .now) (a .nexts .now) (g .1) (length (plan3 k)) (size3 k))
 
 same-length : tie.Need-same-length
 same-length c = search needs

@@ -104,7 +104,7 @@ mark-sensitive-requires c κs =
     let e = c .before .before .before .before .before .before .before .before .before .before .before .before .before .before .before .before .before .before .before .before .before .before .before .before .before .before .before .before .before .before .before .before .before .before .before .before .before in
     let g = ready e in
     let p = of e (g .0) in
-    (flags-fit p (g .1), (records-fit p (g .1), (uses-fit p (g .1), (statements-fit p (g .1), part-length 4096 (size e) (few e) ∙ g .2))))
+    (flags-fit p (g .1), (records-fit p (g .1), (uses-fit p (g .1), ((statements-fit p (g .1), part-length 4096 (size e) (few e) ∙ g .2), omega (arith, part-length 4096 (size e) (few e), few e)))))
 
 array-borrow-prefix-eligibles : tie.Need-array-borrow-prefix-eligibles
 array-borrow-prefix-eligibles c = few (c .before .before .before .before .before .before .before .before .before .before .before .before .before .before .before .before .before .before .before .before .before .before .before .before .before .before .before .before .before .before .before .before .before .before .before .before .before .before .before)

@@ -1,82 +1,89 @@
--- `wrap_rules::marks::mark_owners` meets its contract: the values are looked up in the set, then the owners are marked.
+-- `wrap_rules::marks::mark_owners` meets its contract: the owners of the rows below `row` are marked.
 -- Assumes nothing.
-use Prim.Native.Nat.{ℕ, _<_}
-use mathlib.Core.Path.{_≡_, refl, sym, ap, subst, _∙_}
-use mathlib.Core.List.{List, _++_}
-use lib.ListN.{length, take, drop, replicate}
-use lib.Seq.{length-take-le, take-at}
-use Rattle.chunk_cycles.proofs.Lists.{front-room, front-length}
-use Rattle.wrap_rules.specs.Steps.{looked, Owners}
+use Prim.Native.Nat.{ℕ, _-_, _≤_, _<_}
+use mathlib.Core.Path.{_≡_, refl, sym, subst, _∙_}
+use native.Mathlib.Omega.{arith}
+use lib.ListN.{length}
 use borrow.Author.Needs.{needs}
+use Rattle.wrap_rules.specs.Steps.{looked, Owners}
+use Rattle.wrap_rules.proofs.Steps.{looked-at, owners-start, owners-put}
 use Rattle.wrap_rules.proofs.marks.mark_owners.Statement.{statement}
 use Rattle.wrap_rules.proofs.marks.mark_owners.Tie as tie
 use Rattle.wrap_rules.proofs.marks.mark_owners.Reads as reads
 use Rattle.wrap_rules.proofs.marks.mark_owners.Lts as lts
-use Rattle.wrap_rules.proofs.marks.look_up.Reads as look-up-reads
-use Rattle.wrap_rules.proofs.marks.mark_rows.Reads as mark-rows-reads
+use Rattle.wrap_rules.proofs.marks.raise.Reads as raise-reads
+use Rattle.wrap_rules.proofs.marks.value_at.Reads as value-at-reads
 
--- the entry, seen from where the array is lent
-abbrev entry : tie.After-rows → tie.Start
-entry c = c .before .before .before .before .before
+abbrev Inv-loop : tie.InvT-loop
+Inv-loop owner value set marks₀ row₀ row-end marks row = (row-end ≡ length owner) × (row ≤ row-end) × Owners owner (looked 0 set value) row marks₀ marks
 
-abbrev room : List ℕ
-room = replicate 16384 0
+abbrev μ-loop : tie.MeasureT-loop
+μ-loop owner value set marks₀ row₀ row-end marks row = row-end - row
 
-part : (c : tie.After-rows) → length (take (length (entry c .args .owner .now)) room) ≡ length (entry c .args .owner .now)
-part c = length-take-le (length (entry c .args .owner .now)) room (entry c .pre .1)
+abbrev Loop : Type 0
+Loop = tie.At-loop Inv-loop μ-loop
 
--- the rows' marks, and the part of the array that they are read from
-abbrev made : tie.After-look-up → List ℕ
-made k = k .look-up .last .1 .1 .0
+loop-holds : tie.Need-loop-holds Inv-loop μ-loop
+loop-holds c = (refl, omega arith, owners-start _ _ _)
 
-made-length : (k : tie.After-look-up) → length (made k) ≡ length (entry (k .before) .args .owner .now)
-made-length k = k .look-up .kept .1 .1 .0 ∙ part (k .before)
+mul-value-at : tie.Need-mul-value-at Inv-loop μ-loop
+mul-value-at c = search needs
 
-abbrev view : tie.After-look-up → List ℕ
-view k = let n = length (entry (k .before) .args .owner .now) in take n (made k ++ drop n room)
+shared-slice-read-value-at : tie.Need-shared-slice-read-value-at Inv-loop μ-loop
+shared-slice-read-value-at c = search needs
 
-view-is : (k : tie.After-look-up) → let a = entry (k .before) .args in view k ≡ looked 0 (a .set .now) (a .value .now)
-view-is k = let n = length (entry (k .before) .args .owner .now) in take-at (made k) (drop n room) n (made-length k) ∙ k .look-up .ensures
+value-at-requires : tie.Need-value-at-requires Inv-loop μ-loop
+value-at-requires c κs = search needs
 
-view-length : (k : tie.After-look-up) → length (view k) ≡ length (entry (k .before) .args .owner .now)
-view-length k = let n = length (entry (k .before) .args .owner .now) in front-length (made k) (drop n room) n (made-length k)
+mul-raise : tie.Need-mul-raise Inv-loop μ-loop
+mul-raise c = search needs
 
-array-borrow-prefix-rows : tie.Need-array-borrow-prefix-rows
-array-borrow-prefix-rows c = search needs
+shared-slice-read-raise : tie.Need-shared-slice-read-raise Inv-loop μ-loop
+shared-slice-read-raise c = search needs
 
-slice-aggregate-look-up : tie.Need-slice-aggregate-look-up
-slice-aggregate-look-up c = sym (part c)
+raise-requires : tie.Need-raise-requires Inv-loop μ-loop
+raise-requires c κs = search needs
 
-look-up-requires : tie.Need-look-up-requires
-look-up-requires c κs = part c ∙ sym (entry c .pre .0)
+add-row : tie.Need-add-row Inv-loop μ-loop
+add-row c = search needs
 
-array-share-prefix-rows : tie.Need-array-share-prefix-rows
-array-share-prefix-rows c = front-room (made (c .before)) _ _ (made-length (c .before))
+loop-less : tie.Need-loop-less Inv-loop μ-loop
+loop-less c = search needs
 
-slice-aggregate-mark-rows : tie.Need-slice-aggregate-mark-rows
-slice-aggregate-mark-rows c = sym (view-length (c .before .before))
+loop-again : tie.Need-loop-again Inv-loop μ-loop
+loop-again c =
+    let l = c .before .before .before .before .before .before .before .before in
+    let a = l .before .before .before .before .before .args in
+    let row = l .loop .row in
+    let v = c .before .before .before .before .before .value-at in
+    let b : row < length (a .value .now) = omega (arith, l .before .before .before .before .before .pre, c .before .before .before .before .before .before .before .loop-test .taken) in
+    (refl, omega arith, owners-put (a .owner .now) (looked 0 (a .set .now) (a .value .now)) (a .marks .now) row (l .loop .marks) (c .before .before .raise .last .0) (l .loop .inv .2) refl (looked-at 0 (a .set .now) (a .value .now) row 0 b ∙ sym (v .ensures)) (c .before .before .raise .ensures))
 
-mark-rows-requires : tie.Need-mark-rows-requires
-mark-rows-requires c κs = view-length (c .before .before .before)
+same-length : tie.Need-same-length Inv-loop μ-loop
+same-length c = c .before .loop .inv .2 .len
 
-same-length : tie.Need-same-length
-same-length c = search needs
-
-returns : tie.Need-returns
+returns : tie.Need-returns Inv-loop μ-loop
 returns c =
-    let k = c .before .before .before .before .before .before in
-    let a = entry (k .before) .args in
-    subst (λ (rows : List ℕ). Owners (a .owner .now) rows (length (a .owner .now)) (a .marks .now) (c .before .before .mark-rows .last .1 .1 .0)) (view-is k) (c .before .before .mark-rows .ensures)
+    let l = c .before in
+    let a = l .before .before .before .before .before .args in
+    let e : l .loop .row ≡ length (a .owner .now) = omega (arith, c .loop-test .left, l .loop .inv .0, l .loop .inv .1) in
+    subst (λ (n : ℕ). Owners (a .owner .now) (looked 0 (a .set .now) (a .value .now)) n (a .marks .now) (l .loop .marks)) e (l .loop .inv .2)
 
 pub mark-owners-spec : {M : Type 1} → statement M
 mark-owners-spec =
     tie.close
     (tie.spec
-    array-borrow-prefix-rows
-    slice-aggregate-look-up
-    look-up-requires
-    array-share-prefix-rows
-    slice-aggregate-mark-rows
-    mark-rows-requires
+    Inv-loop
+    μ-loop
+    loop-holds
+    mul-value-at
+    shared-slice-read-value-at
+    value-at-requires
+    mul-raise
+    shared-slice-read-raise
+    raise-requires
+    add-row
+    loop-less
+    loop-again
     same-length
     returns)

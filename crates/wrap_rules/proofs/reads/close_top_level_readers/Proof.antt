@@ -1,14 +1,15 @@
--- `wrap_rules::reads::close_top_level_readers` meets its contract: references that touch, modules that have them, and of these the candidates that read.
+-- `wrap_rules::reads::close_top_level_readers` meets its contract: where a candidate that reads is out, references that touch, modules that have them, and of these the candidates that read.
 -- Assumes nothing.
-use Prim.Native.Nat.{ℕ, _≤_, _<_}
-use mathlib.Core.Path.{_≡_, refl, sym, ap, subst, _∙_}
+use Prim.Native.Nat.{ℕ}
+use mathlib.Core.Path.{_≡_, sym, subst, _∙_}
 use mathlib.Core.List.{List}
 use native.Mathlib.Omega.{arith}
 use lib.ListN.{length}
+use Rattle.lists.proofs.Laws.{not-true}
 use Rattle.wrap_rules.specs.Steps.{Added, InAll}
 use Rattle.wrap_rules.specs.Asked.{Marks, Reader}
-use Rattle.wrap_rules.proofs.Parts.{Lent, view, part-none, part-length, made-length, view-room, view-is, view-length}
-use Rattle.wrap_rules.proofs.Steps.{added-cong}
+use Rattle.wrap_rules.proofs.Parts.{Lent, part-none, part-length, made-length, view-room, view-is, view-length}
+use Rattle.wrap_rules.proofs.Steps.{added-none, added-cong}
 use Rattle.wrap_rules.proofs.Marking.{marked-read, read-marked}
 use borrow.Author.Needs.{needs}
 use Rattle.wrap_rules.proofs.reads.close_top_level_readers.Statement.{statement}
@@ -16,6 +17,7 @@ use Rattle.wrap_rules.proofs.reads.close_top_level_readers.Tie as tie
 use Rattle.wrap_rules.proofs.reads.close_top_level_readers.Reads as reads
 use Rattle.wrap_rules.proofs.reads.close_top_level_readers.Lts as lts
 use Rattle.wrap_rules.proofs.marks.add.Reads as add-reads
+use Rattle.wrap_rules.proofs.reads.any_open.Reads as any-open-reads
 use Rattle.wrap_rules.proofs.reads.mark_readers.Reads as mark-readers-reads
 use Rattle.wrap_rules.proofs.reads.mark_touching.Reads as mark-touching-reads
 
@@ -28,23 +30,32 @@ size e = length (e .args .plan .now)
 abbrev references : tie.After-mark-touching → List ℕ
 references k = k .mark-touching .last .1 .1 .1 .1 .1 .1 .1 .1 .0
 
-references-lent : (k : tie.After-mark-touching) → Lent 16384 (rows (k .before .before .before .before .before .before .before .before .before .before .before .before .before .before .before)) (references k)
-references-lent k = record { fits = k .before .before .before .before .before .before .before .before .before .before .before .before .before .before .before .pre .1 .fewReferences; kept = k .mark-touching .kept .1 .1 .1 .1 .1 .1 .1 .1 .0 }
+references-lent : (k : tie.After-mark-touching) → Lent 16384 (rows (k .before .before .before .before .before .before .before .before .before .before .before .before .before .before .before .before .before .before)) (references k)
+references-lent k = record { fits = k .before .before .before .before .before .before .before .before .before .before .before .before .before .before .before .before .before .before .pre .1 .fewReferences; kept = k .mark-touching .kept .1 .1 .1 .1 .1 .1 .1 .1 .0 }
 
 abbrev readers : tie.After-mark-readers → List ℕ
 readers k = k .mark-readers .last .1 .1 .1 .0
 
-readers-lent : (k : tie.After-mark-readers) → Lent 4096 (size (k .before .before .before .before .before .before .before .before .before .before .before .before .before .before .before .before .before .before .before)) (readers k)
-readers-lent k = record { fits = k .before .before .before .before .before .before .before .before .before .before .before .before .before .before .before .before .before .before .before .pre .1 .few; kept = k .mark-readers .kept .1 .1 .1 .0 }
+readers-lent : (k : tie.After-mark-readers) → Lent 4096 (size (k .before .before .before .before .before .before .before .before .before .before .before .before .before .before .before .before .before .before .before .before .before .before)) (readers k)
+readers-lent k = record { fits = k .before .before .before .before .before .before .before .before .before .before .before .before .before .before .before .before .before .before .before .before .before .before .pre .1 .few; kept = k .mark-readers .kept .1 .1 .1 .0 }
+
+any-open-requires : tie.Need-any-open-requires
+any-open-requires c κs = let e = c .before .before .before .before .before .before .before .before .before .before .before .before .before in (e .pre .1 .read, e .pre .1 .candidate)
+
+same-length : tie.Need-same-length
+same-length c = search needs
+
+returns : tie.Need-returns
+returns c = let a = c .before .before .before .before .before .before .before .before .before .before .before .before .before .before .before .args in added-none _ (a .plan .now) (λ m l r. c .before .any-open .ensures (not-true (c .before .any-open .result) (c .if1 .taken)) m l (r .reading) (r .candidate))
 
 array-borrow-prefix-references : tie.Need-array-borrow-prefix-references
-array-borrow-prefix-references c = c .before .before .before .before .before .before .before .before .before .before .before .before .before .pre .1 .fewReferences
+array-borrow-prefix-references c = c .before .before .before .before .before .before .before .before .before .before .before .before .before .before .before .before .pre .1 .fewReferences
 
 slice-aggregate-mark-touching : tie.Need-slice-aggregate-mark-touching
-slice-aggregate-mark-touching c = let e = c .before .before .before .before .before .before .before .before .before .before .before .before .before .before in sym (part-length 16384 (rows e) (e .pre .1 .fewReferences))
+slice-aggregate-mark-touching c = let e = c .before .before .before .before .before .before .before .before .before .before .before .before .before .before .before .before .before in sym (part-length 16384 (rows e) (e .pre .1 .fewReferences))
 
 mark-touching-requires : tie.Need-mark-touching-requires
-mark-touching-requires c κs = let e = c .before .before .before .before .before .before .before .before .before .before .before .before .before .before in (e .pre .0, (part-length 16384 (rows e) (e .pre .1 .fewReferences) ∙ sym (e .pre .1 .symbols), (e .pre .1 .depends, e .pre .1 .fewDepended)))
+mark-touching-requires c κs = let e = c .before .before .before .before .before .before .before .before .before .before .before .before .before .before .before .before .before in (e .pre .0, (part-length 16384 (rows e) (e .pre .1 .fewReferences) ∙ sym (e .pre .1 .symbols), e .pre .1 .depends))
 
 array-share-prefix-references : tie.Need-array-share-prefix-references
 array-share-prefix-references c = view-room (references-lent (c .before))
@@ -53,13 +64,13 @@ slice-aggregate-mark-readers : tie.Need-slice-aggregate-mark-readers
 slice-aggregate-mark-readers c = sym (view-length (references-lent (c .before .before)))
 
 array-borrow-prefix-readers : tie.Need-array-borrow-prefix-readers
-array-borrow-prefix-readers c = c .before .before .before .before .before .before .before .before .before .before .before .before .before .before .before .before .before .pre .1 .few
+array-borrow-prefix-readers c = c .before .before .before .before .before .before .before .before .before .before .before .before .before .before .before .before .before .before .before .before .pre .1 .few
 
 slice-aggregate-mark-readers-2 : tie.Need-slice-aggregate-mark-readers-2
-slice-aggregate-mark-readers-2 c = let e = c .before .before .before .before .before .before .before .before .before .before .before .before .before .before .before .before .before .before in sym (part-length 4096 (size e) (e .pre .1 .few))
+slice-aggregate-mark-readers-2 c = let e = c .before .before .before .before .before .before .before .before .before .before .before .before .before .before .before .before .before .before .before .before .before in sym (part-length 4096 (size e) (e .pre .1 .few))
 
 mark-readers-requires : tie.Need-mark-readers-requires
-mark-readers-requires c κs = let e = c .before .before .before .before .before .before .before .before .before .before .before .before .before .before .before .before .before .before in (view-length (references-lent (c .before .before .before)), (e .pre .1 .fewReferences, part-none 4096 (size e)))
+mark-readers-requires c κs = let e = c .before .before .before .before .before .before .before .before .before .before .before .before .before .before .before .before .before .before .before .before .before in (view-length (references-lent (c .before .before .before)), part-none 4096 (size e))
 
 array-share-prefix-readers : tie.Need-array-share-prefix-readers
 array-share-prefix-readers c = view-room (readers-lent (c .before))
@@ -68,14 +79,14 @@ slice-aggregate-add : tie.Need-slice-aggregate-add
 slice-aggregate-add c = sym (view-length (readers-lent (c .before .before)))
 
 add-requires : tie.Need-add-requires
-add-requires c κs = (view-length (readers-lent (c .before .before .before)), (c .before .before .before .before .before .before .before .before .before .before .before .before .before .before .before .before .before .before .before .before .before .before .pre .1 .read, c .before .before .before .before .before .before .before .before .before .before .before .before .before .before .before .before .before .before .before .before .before .before .pre .1 .candidate))
+add-requires c κs = (view-length (readers-lent (c .before .before .before)), (c .before .before .before .before .before .before .before .before .before .before .before .before .before .before .before .before .before .before .before .before .before .before .before .before .before .pre .1 .read, c .before .before .before .before .before .before .before .before .before .before .before .before .before .before .before .before .before .before .before .before .before .before .before .before .before .pre .1 .candidate))
 
-same-length : tie.Need-same-length
-same-length c = search needs
+same-length-2 : tie.Need-same-length-2
+same-length-2 c = search needs
 
-returns : tie.Need-returns
-returns c =
-    let e = c .before .before .before .before .before .before .before .before .before .before .before .before .before .before .before .before .before .before .before .before .before .before .before .before .before in
+returns-2 : tie.Need-returns-2
+returns-2 c =
+    let e = c .before .before .before .before .before .before .before .before .before .before .before .before .before .before .before .before .before .before .before .before .before .before .before .before .before .before .before .before in
     let a = e .args in
     let k = c .before .before .before .before .before .before .before .before .before .before in
     let r = c .before .before .before .before .before .before in
@@ -93,6 +104,9 @@ pub close-top-level-readers-spec : {M : Type 1} → statement M
 close-top-level-readers-spec =
     tie.close
     (tie.spec
+    any-open-requires
+    same-length
+    returns
     array-borrow-prefix-references
     slice-aggregate-mark-touching
     mark-touching-requires
@@ -104,5 +118,5 @@ close-top-level-readers-spec =
     array-share-prefix-readers
     slice-aggregate-add
     add-requires
-    same-length
-    returns)
+    same-length-2
+    returns-2)

@@ -1,6 +1,5 @@
 -- `wrap_rules::reads::mark_references` meets its contract: symbols first, then depended ones.
 -- Assumes nothing.
-use mathlib.Core.List.{List}
 use Rattle.wrap_rules.proofs.Marking.{references-marked}
 use borrow.Author.Needs.{needs}
 use Rattle.wrap_rules.proofs.reads.mark_references.Statement.{statement}
@@ -14,7 +13,7 @@ look-up-requires : tie.Need-look-up-requires
 look-up-requires c κs = c .before .before .before .before .before .before .pre .0
 
 mark-owners-requires : tie.Need-mark-owners-requires
-mark-owners-requires c κs = (c .before .before .before .before .before .before .before .before .before .before .pre .1 .0, c .before .before .before .before .before .before .before .before .before .before .pre .1 .1)
+mark-owners-requires c κs = c .before .before .before .before .before .before .before .before .before .before .pre .1
 
 same-length : tie.Need-same-length
 same-length c = search needs
@@ -25,7 +24,7 @@ returns c =
     let a = e .args in
     let o = c .before .before .mark-owners in
     let first = c .before .before .before .before .before .before .look-up in
-    references-marked (a .reference-symbol .now) (a .depended-reference .now) (a .depended .now) (a .symbols .now) (first .last .1 .1 .0) (o .last .1 .1 .1 .0) (e .pre .1 .0) (first .ensures) (o .ensures)
+    references-marked (a .reference-symbol .now) (a .depended-reference .now) (a .depended .now) (a .symbols .now) (first .last .1 .1 .0) (o .last .1 .1 .1 .0) (e .pre .1) (first .ensures) (o .ensures)
 
 pub mark-references-spec : {M : Type 1} → statement M
 mark-references-spec =

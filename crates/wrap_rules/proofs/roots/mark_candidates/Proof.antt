@@ -5,7 +5,8 @@ use mathlib.Core.Path.{_≡_, refl, sym, ap, subst, _∙_}
 use mathlib.Core.Logic.{⊎-elim}
 use mathlib.Core.List.{List}
 use lib.ListN.{length}
-use Rattle.wrap_rules.specs.Steps.{importTargets, Added, InAll}
+use Rattle.wrap_rules.specs.Steps.{Added, InAll}
+use Rattle.wrap_rules.specs.Spread.{ModuleGraph}
 use Rattle.wrap_rules.specs.Roots.{Reaching}
 use Rattle.wrap_rules.proofs.Parts.{Lent, view, part-none, part-length, view-room, view-is, view-length}
 use borrow.Author.Needs.{needs}
@@ -19,20 +20,25 @@ use Rattle.wrap_rules.proofs.roots.source_reachable_modules.Reads as so
 abbrev size : tie.Start → ℕ
 size e = length (e .args .candidates .now)
 
-abbrev marks : tie.After-source-reachable-modules → List ℕ
-marks k = k .source-reachable-modules .last .1 .1 .1 .1 .1 .0
+abbrev entry : tie.After-source-reachable-modules → tie.Start
+entry k = k .before .before .before .before .before .before .before .before
 
-lent : (k : tie.After-source-reachable-modules) → Lent 4096 (size (k .before .before .before .before .before .before .before .before .before)) (marks k)
-lent k = record { fits = k .before .before .before .before .before .before .before .before .before .pre .1 .1 .1 .0 .0; kept = k .source-reachable-modules .kept .1 .1 .1 .1 .1 .0 }
+abbrev marks : tie.After-source-reachable-modules → List ℕ
+marks k = k .source-reachable-modules .last .1 .1 .1 .1 .0
+
+lent : (k : tie.After-source-reachable-modules) → Lent 4096 (size (entry k)) (marks k)
+lent k = record { fits = entry k .pre .0 .few; kept = k .source-reachable-modules .kept .1 .1 .1 .1 .0 }
 
 array-borrow-prefix-reached : tie.Need-array-borrow-prefix-reached
-array-borrow-prefix-reached c = c .before .before .before .before .before .before .before .pre .1 .1 .1 .0 .0
+array-borrow-prefix-reached c = search needs
 
 slice-aggregate-source-reachable-modules : tie.Need-slice-aggregate-source-reachable-modules
-slice-aggregate-source-reachable-modules c = let e = c .before .before .before .before .before .before .before .before in sym (part-length 4096 (size e) (e .pre .1 .1 .1 .0 .0))
+slice-aggregate-source-reachable-modules c = let e = c .before .before .before .before .before .before .before in sym (part-length 4096 (size e) (e .pre .0 .few))
 
 source-reachable-modules-requires : tie.Need-source-reachable-modules-requires
-source-reachable-modules-requires c κs = let e = c .before .before .before .before .before .before .before .before in (e .pre .0, (e .pre .1 .0, (e .pre .1 .1 .0, part-none 4096 (size e))))
+source-reachable-modules-requires c κs =
+    let e = c .before .before .before .before .before .before .before in
+    (subst (ModuleGraph (e .args .importers .now) (e .args .targets .now)) (sym (part-length 4096 (size e) (e .pre .0 .few))) (e .pre .0), part-none 4096 (size e))
 
 array-share-prefix-reached : tie.Need-array-share-prefix-reached
 array-share-prefix-reached c = view-room (lent (c .before))
@@ -41,27 +47,27 @@ slice-aggregate-add : tie.Need-slice-aggregate-add
 slice-aggregate-add c = sym (view-length (lent (c .before .before)))
 
 add-requires : tie.Need-add-requires
-add-requires c κs = let e = c .before .before .before .before .before .before .before .before .before .before .before .before in (view-length (lent (c .before .before .before)), (e .pre .1 .1 .1 .0 .1, e .pre .1 .1 .1 .0 .1))
+add-requires c κs = let k = c .before .before .before in let e = entry k in (view-length (lent k), (e .pre .1 .0, e .pre .1 .0))
 
 same-length : tie.Need-same-length
 same-length c = search needs
 
 returns : tie.Need-returns
 returns c =
-    let e = c .before .before .before .before .before .before .before .before .before .before .before .before .before .before .before in
-    let a = e .args in
     let k = c .before .before .before .before .before .before in
+    let e = entry k in
+    let a = e .args in
     let o = c .before .before .add in
     let added : Added (InAll (marks k) (a .eligible .now) (a .eligible .now)) (a .candidates .now) (o .last .1 .1 .1 .0) (o .result) =
     subst (λ (s : List ℕ). Added (InAll s (a .eligible .now) (a .eligible .now)) (a .candidates .now) (o .last .1 .1 .1 .0) (o .result)) (view-is (lent k)) (o .ensures)
     in
     record {
       reachedSet = marks k;
-      reaching = subst (λ (n : ℕ). Reaching (a .included .now) (a .roots .now) (a .record-module .now) (importTargets (a .record-kind .now) (a .record-target .now)) n (marks k)) (part-length 4096 (size e) (e .pre .1 .1 .1 .0 .0)) (k .source-reachable-modules .ensures);
+      reaching = subst (λ (n : ℕ). Reaching (a .included .now) (a .roots .now) (a .importers .now) (a .targets .now) n (marks k)) (part-length 4096 (size e) (e .pre .0 .few)) (k .source-reachable-modules .ensures);
       len = added .len;
       bits = added .bits;
       all = λ m l h g. added .all m l (h, g, g);
-      only = λ m h. ⊎-elim (λ q. absurd (e .pre .1 .1 .1 .1 m q)) (λ q. (q .0, q .1)) (added .only m h);
+      only = λ m h. ⊎-elim (λ q. absurd (e .pre .1 .1 m q)) (λ q. (q .0, q .1)) (added .only m h);
     }
 
 pub mark-candidates-spec : {M : Type 1} → statement M

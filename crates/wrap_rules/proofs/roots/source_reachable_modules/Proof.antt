@@ -1,75 +1,145 @@
--- `wrap_rules::roots::source_reachable_modules` meets its contract: the roots are marked, then the set is closed along the records.
+-- `wrap_rules::roots::source_reachable_modules` meets its contract: the roots are marked, and then spread along the edges.
 -- Assumes nothing.
 use Prim.Native.Nat.{ℕ, _≤_}
 use mathlib.Core.Path.{_≡_, refl, sym, ap, subst, _∙_}
 use mathlib.Core.List.{List}
-use lib.ListN.{length}
-use Rattle.wrap_rules.specs.Steps.{importTargets}
-use Rattle.wrap_rules.specs.Spread.{Spreads}
-use Rattle.wrap_rules.proofs.Parts.{Lent, view, part-length, view-room, view-is, view-length}
-use Rattle.wrap_rules.proofs.Listing.{reaching}
+use native.Mathlib.Omega.{arith}
+use lib.ListN.{length, take, replicate}
 use borrow.Author.Needs.{needs}
+use Rattle.chunk_cycles.specs.Threads.{Threads}
+use Rattle.wrap_rules.specs.Spread.{Spreads}
+use Rattle.wrap_rules.specs.Roots.{Reaching}
+use Rattle.wrap_rules.proofs.Parts.{Lent, view, part-none, part-length, view-room, view-is, view-length}
+use Rattle.wrap_rules.proofs.Edging.{graph-threadable, spreadable-none}
+use Rattle.wrap_rules.proofs.Listing.{reaching}
 use Rattle.wrap_rules.proofs.roots.source_reachable_modules.Statement.{statement}
 use Rattle.wrap_rules.proofs.roots.source_reachable_modules.Tie as tie
 use Rattle.wrap_rules.proofs.roots.source_reachable_modules.Reads as reads
 use Rattle.wrap_rules.proofs.roots.source_reachable_modules.Lts as lts
+use Rattle.chunk_cycles.proofs.core.thread.Reads as thread-reads
 use Rattle.wrap_rules.proofs.marks.mark_owners.Reads as mark-owners-reads
-use Rattle.wrap_rules.proofs.spread.import_targets.Reads as import-targets-reads
 use Rattle.wrap_rules.proofs.spread.spread.Reads as spread-reads
 
 abbrev size : tie.Start → ℕ
-size e = length (e .args .record-module .now)
+size e = length (e .args .reached .now)
 
-abbrev targets : tie.After-import-targets → List ℕ
-targets k = k .import-targets .last .1 .1 .0
+abbrev rows : tie.Start → ℕ
+rows e = length (e .args .importers .now)
 
-lent : (k : tie.After-import-targets) → Lent 16384 (size (k .before .before .before .before .before .before .before .before .before .before .before .before)) (targets k)
-lent k = record { fits = k .before .before .before .before .before .before .before .before .before .before .before .before .pre .1 .1 .0 .0; kept = k .import-targets .kept .1 .1 .0 }
+-- the roots' marks
+abbrev marked : tie.After-mark-owners → tie.Start
+marked k = k .before .before .before .before .before .before .before
+
+abbrev start : tie.After-mark-owners → List ℕ
+start k = k .mark-owners .last .1 .1 .1 .0
+
+start-lent : (k : tie.After-mark-owners) → Lent 4096 (size (marked k)) (start k)
+start-lent k = record { fits = marked k .pre .0 .few; kept = k .mark-owners .kept .1 .1 .1 .0 }
+
+-- the threads
+abbrev threaded : tie.After-thread → tie.Start
+threaded k = k .before .before .before .before .before .before .before .before .before .before .before
+
+abbrev heads : tie.After-thread → List ℕ
+heads k = k .thread .last .1 .0
+
+abbrev nexts : tie.After-thread → List ℕ
+nexts k = k .thread .last .1 .1 .0
+
+heads-lent : (k : tie.After-thread) → Lent 4096 (size (threaded k)) (heads k)
+heads-lent k = record { fits = threaded k .pre .0 .few; kept = k .thread .kept .1 .0 }
+
+nexts-lent : (k : tie.After-thread) → Lent 16384 (rows (threaded k)) (nexts k)
+nexts-lent k = record { fits = threaded k .pre .0 .rows; kept = k .thread .kept .1 .1 .0 }
+
+threads : (k : tie.After-thread) → let e = threaded k in Threads (e .args .importers .now) (view 4096 (size e) (heads k)) (view 16384 (rows e) (nexts k))
+threads k =
+    let e = threaded k in
+    subst (λ (h : List ℕ). Threads (e .args .importers .now) h (view 16384 (rows e) (nexts k))) (sym (view-is (heads-lent k)))
+    (subst (Threads (e .args .importers .now) (heads k)) (sym (view-is (nexts-lent k))) (k .thread .ensures))
+
+array-borrow-prefix-start : tie.Need-array-borrow-prefix-start
+array-borrow-prefix-start c = search needs
+
+slice-aggregate-mark-owners : tie.Need-slice-aggregate-mark-owners
+slice-aggregate-mark-owners c = let e = c .before .before .before .before .before .before in sym (part-length 4096 (size e) (e .pre .0 .few))
 
 mark-owners-requires : tie.Need-mark-owners-requires
-mark-owners-requires c κs = (refl, c .before .before .before .before .before .before .before .pre .1 .1 .0 .1)
+mark-owners-requires c κs = search needs
 
-array-borrow-prefix-targets : tie.Need-array-borrow-prefix-targets
-array-borrow-prefix-targets c = c .before .before .before .before .before .before .before .before .before .before .pre .1 .1 .0 .0
+array-borrow-prefix-heads : tie.Need-array-borrow-prefix-heads
+array-borrow-prefix-heads c = search needs
 
-slice-aggregate-import-targets : tie.Need-slice-aggregate-import-targets
-slice-aggregate-import-targets c = let e = c .before .before .before .before .before .before .before .before .before .before .before in sym (part-length 16384 (size e) (e .pre .1 .1 .0 .0))
+slice-aggregate-thread : tie.Need-slice-aggregate-thread
+slice-aggregate-thread c = let e = c .before .before .before .before .before .before .before .before .before in sym (part-length 4096 (size e) (e .pre .0 .few))
 
-import-targets-requires : tie.Need-import-targets-requires
-import-targets-requires c κs = let e = c .before .before .before .before .before .before .before .before .before .before .before in let n = part-length 16384 (size e) (e .pre .1 .1 .0 .0) in (e .pre .0 ∙ sym n, e .pre .1 .0 ∙ sym n)
+array-borrow-prefix-nexts : tie.Need-array-borrow-prefix-nexts
+array-borrow-prefix-nexts c = search needs
 
-array-share-prefix-targets : tie.Need-array-share-prefix-targets
-array-share-prefix-targets c = view-room (lent (c .before))
+slice-aggregate-thread-2 : tie.Need-slice-aggregate-thread-2
+slice-aggregate-thread-2 c = let e = c .before .before .before .before .before .before .before .before .before .before in sym (part-length 16384 (rows e) (e .pre .0 .rows))
+
+thread-requires : tie.Need-thread-requires
+thread-requires c κs =
+    let e = c .before .before .before .before .before .before .before .before .before .before in
+    graph-threadable (e .pre .0) (part-length 4096 (size e) (e .pre .0 .few)) (omega (arith, part-length 16384 (rows e) (e .pre .0 .rows)))
+
+array-share-prefix-heads : tie.Need-array-share-prefix-heads
+array-share-prefix-heads c = view-room (heads-lent (c .before .before))
 
 slice-aggregate-spread : tie.Need-slice-aggregate-spread
-slice-aggregate-spread c = sym (view-length (lent (c .before .before)))
+slice-aggregate-spread c = sym (view-length (heads-lent (c .before .before .before)))
+
+array-share-prefix-nexts : tie.Need-array-share-prefix-nexts
+array-share-prefix-nexts c = view-room (nexts-lent (c .before .before .before))
+
+slice-aggregate-spread-2 : tie.Need-slice-aggregate-spread-2
+slice-aggregate-spread-2 c = sym (view-length (nexts-lent (c .before .before .before .before)))
+
+array-share-prefix-start : tie.Need-array-share-prefix-start
+array-share-prefix-start c = view-room (start-lent (c .before .before .before .before .before .before .before .before))
+
+slice-aggregate-spread-3 : tie.Need-slice-aggregate-spread-3
+slice-aggregate-spread-3 c = sym (view-length (start-lent (c .before .before .before .before .before .before .before .before .before)))
 
 spread-requires : tie.Need-spread-requires
-spread-requires c κs = view-length (lent (c .before .before .before))
+spread-requires c κs =
+    let e = c .before .before .before .before .before .before .before .before .before .before .before .before .before .before .before .before .before in
+    let k = c .before .before .before .before .before .before in
+    spreadable-none (e .pre .0) (threads k) (view-length (heads-lent k)) (view-length (start-lent (c .before .before .before .before .before .before .before .before .before .before))) refl (e .pre .1)
 
 same-length : tie.Need-same-length
 same-length c = search needs
 
 returns : tie.Need-returns
 returns c =
-    let e = c .before .before .before .before .before .before .before .before .before .before .before .before .before .before .before .before .before .before in
+    let e = c .before .before .before .before .before .before .before .before .before .before .before .before .before .before .before .before .before .before .before .before in
     let a = e .args in
-    let k = c .before .before .before .before .before .before in
-    let o = c .before .before .before .before .before .before .before .before .before .before .mark-owners in
+    let k = c .before .before .before .before .before .before .before .before .before .before .before .before .before in
     let s = c .before .before .spread in
-    reaching (a .included .now) (a .roots .now) (a .record-module .now) (importTargets (a .record-kind .now) (a .record-target .now)) (a .reached .now) (o .last .1 .1 .1 .0) (s .last .1 .1 .0) (e .pre .1 .1 .1) (o .ensures)
-    (subst (λ (t : List ℕ). Spreads (a .record-module .now) t (o .last .1 .1 .1 .0) (s .last .1 .1 .0)) (view-is (lent k) ∙ k .import-targets .ensures) (s .ensures))
+    let reached = s .last .1 .1 .1 .1 .1 .0 in
+    subst (λ (n : ℕ). Reaching (a .included .now) (a .roots .now) (a .importers .now) (a .targets .now) n reached) (part-length 4096 (size e) (e .pre .0 .few))
+    (reaching (a .included .now) (a .roots .now) (a .importers .now) (a .targets .now) (take (size e) (replicate 4096 0)) (start k) reached (part-none 4096 (size e)) (k .mark-owners .ensures)
+    (subst (λ (x : List ℕ). Spreads (a .importers .now) (a .targets .now) x reached) (view-is (start-lent k)) (s .ensures)))
 
 pub source-reachable-modules-spec : {M : Type 1} → statement M
 source-reachable-modules-spec =
     tie.close
     (tie.spec
+    array-borrow-prefix-start
+    slice-aggregate-mark-owners
     mark-owners-requires
-    array-borrow-prefix-targets
-    slice-aggregate-import-targets
-    import-targets-requires
-    array-share-prefix-targets
+    array-borrow-prefix-heads
+    slice-aggregate-thread
+    array-borrow-prefix-nexts
+    slice-aggregate-thread-2
+    thread-requires
+    array-share-prefix-heads
     slice-aggregate-spread
+    array-share-prefix-nexts
+    slice-aggregate-spread-2
+    array-share-prefix-start
+    slice-aggregate-spread-3
     spread-requires
     same-length
     returns)

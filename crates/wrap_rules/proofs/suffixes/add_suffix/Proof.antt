@@ -23,19 +23,19 @@ abbrev marks : tie.After-mark-suffix → List ℕ
 marks k = k .mark-suffix .last .1 .1 .1 .0
 
 lent : (k : tie.After-mark-suffix) → Lent 4096 (size (k .before .before .before .before .before .before .before)) (marks k)
-lent k = record { fits = k .before .before .before .before .before .before .before .pre .1 .1 .1 .0; kept = k .mark-suffix .kept .1 .1 .1 .0 }
+lent k = record { fits = k .before .before .before .before .before .before .before .pre .1 .1 .1; kept = k .mark-suffix .kept .1 .1 .1 .0 }
 
 array-borrow-prefix-marks : tie.Need-array-borrow-prefix-marks
-array-borrow-prefix-marks c = c .before .before .before .before .before .pre .1 .1 .1 .0
+array-borrow-prefix-marks c = c .before .before .before .before .before .pre .1 .1 .1
 
 slice-aggregate-mark-suffix : tie.Need-slice-aggregate-mark-suffix
-slice-aggregate-mark-suffix c = let e = c .before .before .before .before .before .before in sym (part-length 4096 (size e) (e .pre .1 .1 .1 .0))
+slice-aggregate-mark-suffix c = let e = c .before .before .before .before .before .before in sym (part-length 4096 (size e) (e .pre .1 .1 .1))
 
 mark-suffix-requires : tie.Need-mark-suffix-requires
 mark-suffix-requires c κs =
     let e = c .before .before .before .before .before .before in
     let p = e .pre in
-    (λ i l. subst (λ (n : ℕ). getD (e .args .order .now) i 0 < n) (sym (p .1 .0)) (p .0 i l), (sym (p .1 .0), (p .1 .1 .1 .1, part-none 4096 (size e))))
+    (λ i l. subst (λ (n : ℕ). getD (e .args .order .now) i 0 < n) (sym (p .1 .0)) (p .0 i l), (sym (p .1 .0), part-none 4096 (size e)))
 
 array-share-prefix-marks : tie.Need-array-share-prefix-marks
 array-share-prefix-marks c = view-room (lent (c .before))

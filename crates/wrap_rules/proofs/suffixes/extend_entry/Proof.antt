@@ -84,7 +84,7 @@ extend-order-requires : tie.Need-extend-order-requires
 extend-order-requires c κs =
     let k = c .before .before .before .before .before in
     let e = c .before .before .before .before .before .before .before .before .before .before .before .before .before .before .before .before .before in
-    (subst (λ (xs : List ℕ). (i : ℕ) → i < length xs → getD xs i 0 < size e) (sym (read k)) (inside e), (e .pre .0 .sensitives, (e .pre .0 .eligibles, ((e .pre .0 .few, subst (λ (xs : List ℕ). length xs ≤ 4096) (sym (read k)) (omega (arith, short e, e .pre .0 .few))), e .pre .1 .1))))
+    (subst (λ (xs : List ℕ). (i : ℕ) → i < length xs → getD xs i 0 < size e) (sym (read k)) (inside e), (e .pre .0 .sensitives, (e .pre .0 .eligibles, (e .pre .0 .few, e .pre .1 .1))))
 
 same-length : tie.Need-same-length
 same-length c = search needs

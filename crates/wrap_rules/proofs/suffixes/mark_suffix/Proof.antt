@@ -40,7 +40,7 @@ returns c =
     let a = c .before .before .before .before .before .before .before .before .before .before .args in
     let f = c .before .before .before .before .before .first-in in
     let o = c .before .before .mark-owners in
-    suffix-marked (a .order .now) (a .sensitive .now) (a .plan .now) (a .marks .now) (o .last .1 .1 .1 .0) (f .result) (c .before .before .before .before .before .before .before .before .before .before .pre .1 .1 .1) (f .ensures)
+    suffix-marked (a .order .now) (a .sensitive .now) (a .plan .now) (a .marks .now) (o .last .1 .1 .1 .0) (f .result) (c .before .before .before .before .before .before .before .before .before .before .pre .1 .1) (f .ensures)
     (subst (λ (xs : List ℕ). Owners xs (looked 0 (a .sensitive .now) xs) (length xs) (a .marks .now) (o .last .1 .1 .1 .0)) (take-rest (f .result) (a .order .now)) (o .ensures))
 
 pub mark-suffix-spec : {M : Type 1} → statement M

@@ -1,0 +1,48 @@
+-- `wrap_rules::marks::raise` meets its contract.
+-- Assumes nothing.
+use mathlib.Core.Path.{refl}
+use native.Mathlib.Omega.{arith}
+use Rattle.wrap_rules.proofs.Steps.{raised-put}
+use borrow.Author.Needs.{needs}
+use Rattle.wrap_rules.proofs.marks.raise.Statement.{statement}
+use Rattle.wrap_rules.proofs.marks.raise.Tie as tie
+use Rattle.wrap_rules.proofs.marks.raise.Reads as reads
+use Rattle.wrap_rules.proofs.marks.raise.Lts as lts
+use Rattle.tables.proofs.core.greater.Reads as greater-reads
+
+returns : tie.Need-returns
+returns c = record { len = refl; there = λ l. absurd (omega arith); other = λ i n. refl }
+
+mul-greater : tie.Need-mul-greater
+mul-greater c = search needs
+
+slice-read-greater : tie.Need-slice-read-greater
+slice-read-greater c = search needs
+
+greater-requires : tie.Need-greater-requires
+greater-requires c κs = search needs
+
+mul-marks : tie.Need-mul-marks
+mul-marks c = search needs
+
+slice-write-marks : tie.Need-slice-write-marks
+slice-write-marks c = search needs
+
+same-length : tie.Need-same-length
+same-length c = search needs
+
+returns-2 : tie.Need-returns-2
+returns-2 c = let a = c .before .before .before .before .args in raised-put (a .at) (a .mark) (c .greater .result) (a .marks .now) (c .greater .ensures)
+
+pub raise-spec : {M : Type 1} → statement M
+raise-spec =
+    tie.close
+    (tie.spec
+    returns
+    mul-greater
+    slice-read-greater
+    greater-requires
+    mul-marks
+    slice-write-marks
+    same-length
+    returns-2)

@@ -1,0 +1,95 @@
+-- `wrap_rules::reads::mark_canonicals` meets its contract: the symbols below `y` have the greater of their two marks.
+-- Assumes nothing.
+use Prim.Native.Nat.{ℕ, _-_, _≤_}
+use mathlib.Core.Path.{_≡_, refl, subst, _∙_}
+use native.Mathlib.Omega.{arith}
+use lib.ListN.{length, getD, length-set}
+use borrow.Author.Needs.{needs}
+use Rattle.tables.specs.Lookups.{Greater}
+use Rattle.wrap_rules.proofs.Marking.{Joined, joined-put, joined-marks}
+use Rattle.wrap_rules.proofs.reads.mark_canonicals.Statement.{statement}
+use Rattle.wrap_rules.proofs.reads.mark_canonicals.Tie as tie
+use Rattle.wrap_rules.proofs.reads.mark_canonicals.Reads as reads
+use Rattle.wrap_rules.proofs.reads.mark_canonicals.Lts as lts
+use Rattle.tables.proofs.core.greater.Reads as greater-reads
+use Rattle.wrap_rules.proofs.marks.value_at.Reads as value-at-reads
+
+abbrev Inv-loop : tie.InvT-loop
+Inv-loop canonical chains symbols₀ y₀ y-end symbols y = (y-end ≡ length symbols₀) × (y ≤ y-end) × (length symbols ≡ length symbols₀) × Joined canonical chains y symbols
+
+abbrev μ-loop : tie.MeasureT-loop
+μ-loop canonical chains symbols₀ y₀ y-end symbols y = y-end - y
+
+loop-holds : tie.Need-loop-holds Inv-loop μ-loop
+loop-holds c = (refl, omega arith, refl, λ i l. absurd (omega arith))
+
+mul-greater : tie.Need-mul-greater Inv-loop μ-loop
+mul-greater c = search needs
+
+shared-slice-read-greater : tie.Need-shared-slice-read-greater Inv-loop μ-loop
+shared-slice-read-greater c = search needs
+
+mul-value-at : tie.Need-mul-value-at Inv-loop μ-loop
+mul-value-at c = search needs
+
+shared-slice-read-value-at : tie.Need-shared-slice-read-value-at Inv-loop μ-loop
+shared-slice-read-value-at c = search needs
+
+value-at-requires : tie.Need-value-at-requires Inv-loop μ-loop
+value-at-requires c κs = search needs
+
+greater-requires : tie.Need-greater-requires Inv-loop μ-loop
+greater-requires c κs = search needs
+
+mul-symbols : tie.Need-mul-symbols Inv-loop μ-loop
+mul-symbols c = search needs
+
+slice-write-symbols : tie.Need-slice-write-symbols Inv-loop μ-loop
+slice-write-symbols c = search needs
+
+add-y : tie.Need-add-y Inv-loop μ-loop
+add-y c = search needs
+
+loop-less : tie.Need-loop-less Inv-loop μ-loop
+loop-less c = search needs
+
+loop-again : tie.Need-loop-again Inv-loop μ-loop
+loop-again c =
+    let l = c .before .before .before .before .before in
+    let a = l .before .before .before .before .args in
+    let y = l .loop .y in
+    let v = c .greater .result in
+    let g : Greater (getD (a .chains .now) y 0) (getD (a .chains .now) (getD (a .canonical .now) y 0) 0) v =
+    subst (λ (x : ℕ). Greater (getD (a .chains .now) y 0) x v) (c .before .value-at .ensures) (c .greater .ensures)
+    in
+    (refl, omega arith, length-set (l .loop .symbols) y v ∙ l .loop .inv .2, joined-put (a .canonical .now) (a .chains .now) y (l .loop .symbols) v (l .loop .inv .3) (omega (arith, l .loop .inv .2, c .before .before .before .before .loop-test .taken)) g)
+
+same-length : tie.Need-same-length Inv-loop μ-loop
+same-length c = c .before .loop .inv .2
+
+returns : tie.Need-returns Inv-loop μ-loop
+returns c =
+    let l = c .before in
+    let a = l .before .before .before .before .args in
+    joined-marks (a .canonical .now) (a .chains .now) (l .loop .y) (l .loop .symbols) (l .loop .inv .3) (omega (arith, l .loop .inv .0, l .loop .inv .2, c .loop-test .left))
+
+pub mark-canonicals-spec : {M : Type 1} → statement M
+mark-canonicals-spec =
+    tie.close
+    (tie.spec
+    Inv-loop
+    μ-loop
+    loop-holds
+    mul-greater
+    shared-slice-read-greater
+    mul-value-at
+    shared-slice-read-value-at
+    value-at-requires
+    greater-requires
+    mul-symbols
+    slice-write-symbols
+    add-y
+    loop-less
+    loop-again
+    same-length
+    returns)
