@@ -1,8 +1,6 @@
 // Steps over one table: values looked up, owners of rows marked, marks added to a set.
 ghost use mathlib.Core.Path.{_≡_};
-ghost use mathlib.Core.Bool.{true};
 ghost use lib.ListN.{length, getD};
-ghost use Rattle.lists.specs.Words.{has};
 ghost use Rattle.tables.specs.Project.{missing};
 ghost use Rattle.wrap_rules.specs.Steps.{looked, Raised, Owners, Added, InAll};
 use tables::ModuleIdx;

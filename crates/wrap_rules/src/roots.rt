@@ -54,7 +54,14 @@ fn source_reachable_modules(
     let mut heads = [0u32; 4096];
     let mut nexts = [0u32; 16384];
     thread(importers, &mut heads[..n], &mut nexts[..rows]);
-    spread(importers, targets, &heads[..n], &nexts[..rows], &start[..n], reached);
+    spread(
+        importers,
+        targets,
+        &heads[..n],
+        &nexts[..rows],
+        &start[..n],
+        reached,
+    );
 }
 
 // Marks the reached eligible modules.
