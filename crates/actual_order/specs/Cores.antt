@@ -26,11 +26,6 @@ rank order d = getD order d 0 * 1024 + d
 abbrev pub Inside : ℕ → List ℕ → Type 0
 Inside n xs = (d : ℕ) → List·Memᴰ d xs → d < n
 
--- x was put in at a place, and what stood last fell out
-pub record Shifted (at x : ℕ) (old new : List ℕ) : Type 0 where
-  pub out : ℕ
-  pub same : new ++ (out ∷ []) ≡ take at old ++ (x ∷ drop at old)
-
 -- the chunk imports as the tests leave them: by rising chunk, no pair twice, and each between chunks
 pub record Imports (order importChunk imports : List ℕ) : Type 0 where
   pub limit : length order ≤ chunkLimit
