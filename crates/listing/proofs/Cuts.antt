@@ -13,9 +13,9 @@ use lib.Dec.{ltb}
 use borrow.Author.Tests.{ltb-true}
 use Rattle.lists.specs.Words.{upTo, every}
 use Rattle.form.proofs.Lists.{and-true, every-at, count-length}
+use Rattle.form.proofs.Runs.{sets-append, sets-size}
 use Rattle.listing.specs.Cells.{widths, stripe, stripes, cut, Climbs, at-end, step}
 use Rattle.listing.specs.Reading.{tails}
-use Rattle.listing.proofs.Runs.{sets-append, sets-size}
 use Rattle.listing.proofs.Stripes.{stripe-length}
 
 pub flatten-append : {A : Type 0} (xs ys : List (List A)) → flatten (xs ++ ys) ≡ flatten xs ++ flatten ys

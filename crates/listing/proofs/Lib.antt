@@ -1,7 +1,6 @@
--- The laws behind the reader and the line writer.
+-- The laws behind the reader.
 pub mod Positions
 pub mod Cell
-pub mod Runs
 pub mod Turn
 pub mod Line
 pub mod Listed
@@ -11,6 +10,4 @@ pub mod RowCells
 pub mod Tables
 pub mod Projects
 pub mod Parts
-pub mod Printing
-pub mod Members
 pub mod Answered

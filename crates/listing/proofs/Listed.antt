@@ -10,6 +10,7 @@ use Rattle.form.specs.Form.{field}
 use Rattle.form.specs.Parse.{Fit, none, more}
 use Rattle.form.proofs.Fields.{field-pos}
 use Rattle.form.proofs.Rows.{field-not-end, field-once}
+use Rattle.form.proofs.Runs.{sets-append}
 use Rattle.listing.specs.Cells.{ender, following, cells, Whole, body, Head, listed, texts, Wholes, stops}
 use Rattle.listing.specs.Cells as rows
 use Rattle.listing.specs.Steps.{LineIs, RowsIs, RowsRead, ListRead, ListIs, Room, Noted, Step, AllRead, AllIs, Steps}
@@ -17,7 +18,6 @@ use Rattle.listing.specs.declared.rows.Place.the-variants.{At, Differs}
 use Rattle.listing.specs.declared.rows.Rows.the-variants.{Done, Bad}
 use Rattle.listing.specs.declared.rows.Cursor.{Cursor}
 use Rattle.listing.specs.declared.rows.Cursor.the-variants.{On, Off}
-use Rattle.listing.proofs.Runs.{sets-append}
 use Rattle.listing.proofs.Turn.{ender-low}
 
 -- a value has two bytes at least

@@ -1,7 +1,7 @@
 // The rows of a list, a list, and all lists of a text; the values row by row in one array.
 ghost use mathlib.Core.Path.{_≡_};
 ghost use Prim.Native.Nat.{ℕ, _+_, _*_, _≤_, _<_};
-ghost use lib.ListN.{length};
+ghost use lib.ListN.{length, drop};
 ghost use Rattle.listing.specs.Cells.{ender, following, head, heads};
 ghost use Rattle.listing.specs.Steps.{RowsIs, LineIs, ListIs, Room, Step, Steps};
 use crate::fields::Field;
@@ -132,6 +132,32 @@ fn read_noted(
     }
 }
 
+// Reads the lists from the chunks on.
+fn read_chunks(s: &[u8], c: Cursor, out: &mut [u32; 32768], ends: &mut [usize; 15]) -> Cursor
+    requires { ⌜ Room (now s) c ⌝ }
+    ensures { λ r. ⌜ Steps (now (s .entry)) (drop 10 heads) (now (out .entry)) (now (out .exit)) (now (ends .entry)) (now (ends .exit)) 10 c r ⌝ }
+{
+    let c1 = read_noted(s, c, b"order", 0, out, ends, 10);
+    let c2 = read_noted(s, c1, b"chunk member", 1, out, ends, 11);
+    let c3 = read_noted(s, c2, b"chunk imports", 1, out, ends, 12);
+    let c4 = read_noted(s, c3, b"entry chunk", 1, out, ends, 13);
+    read_noted(s, c4, b"seed", 0, out, ends, 14)
+}
+
+// Reads the lists from the statements on.
+fn read_statements(s: &[u8], c: Cursor, out: &mut [u32; 32768], ends: &mut [usize; 15]) -> Cursor
+    requires { ⌜ Room (now s) c ⌝ }
+    ensures { λ r. ⌜ Steps (now (s .entry)) (drop 4 heads) (now (out .entry)) (now (out .exit)) (now (ends .entry)) (now (ends .exit)) 4 c r ⌝ }
+{
+    let c1 = read_noted(s, c, b"module included", 1, out, ends, 4);
+    let c2 = read_noted(s, c1, b"statement record", 1, out, ends, 5);
+    let c3 = read_noted(s, c2, b"owner canonical", 1, out, ends, 6);
+    let c4 = read_noted(s, c3, b"symbol link", 1, out, ends, 7);
+    let c5 = read_noted(s, c4, b"statement form symbol", 2, out, ends, 8);
+    let c6 = read_noted(s, c5, b"reference depended", 1, out, ends, 9);
+    read_chunks(s, c6, out, ends)
+}
+
 // Reads every list of a project from the text's start.
 pub fn read_lists(s: &[u8], out: &mut [u32; 32768], ends: &mut [usize; 15]) -> Cursor
     requires { ⌜ length (now s) ≤ 65536 ⌝ }
@@ -150,15 +176,5 @@ pub fn read_lists(s: &[u8], out: &mut [u32; 32768], ends: &mut [usize; 15]) -> C
     );
     let c3 = read_noted(s, c2, b"module kind target", 2, out, ends, 2);
     let c4 = read_noted(s, c3, b"module dependency", 1, out, ends, 3);
-    let c5 = read_noted(s, c4, b"module included", 1, out, ends, 4);
-    let c6 = read_noted(s, c5, b"statement record", 1, out, ends, 5);
-    let c7 = read_noted(s, c6, b"owner canonical", 1, out, ends, 6);
-    let c8 = read_noted(s, c7, b"symbol link", 1, out, ends, 7);
-    let c9 = read_noted(s, c8, b"statement form symbol", 2, out, ends, 8);
-    let c10 = read_noted(s, c9, b"reference depended", 1, out, ends, 9);
-    let c11 = read_noted(s, c10, b"order", 0, out, ends, 10);
-    let c12 = read_noted(s, c11, b"chunk member", 1, out, ends, 11);
-    let c13 = read_noted(s, c12, b"chunk imports", 1, out, ends, 12);
-    let c14 = read_noted(s, c13, b"entry chunk", 1, out, ends, 13);
-    read_noted(s, c14, b"seed", 0, out, ends, 14)
+    read_statements(s, c4, out, ends)
 }

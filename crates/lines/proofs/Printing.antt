@@ -12,10 +12,10 @@ use borrow.Author.Tests.{lt-ltb, le-ltb, le-leb, lt-leb, eq-eqb, ne-eqb}
 use Rattle.tables.specs.Project.{missing}
 use Rattle.form.specs.Form.{spell, number, field, spaced, line}
 use Rattle.form.proofs.Fields.{split, number-short, number-long}
+use Rattle.form.proofs.Runs.{sets-append, sets-front}
 use Rattle.tables.specs.Answers.{counted, after}
-use Rattle.listing.specs.Steps.{PutAt}
-use Rattle.listing.specs.Lines.{lineOf, lineNumber}
-use Rattle.listing.proofs.Runs.{sets-append, sets-front, put-then}
+use Rattle.lines.specs.Lines.{lineOf, lineNumber, PutAt}
+use Rattle.lines.proofs.Puts.{put-then}
 
 pub long-length : (n : ℕ) → 10 ≤ n → length (number n) ≡ length (number (n / 10)) + 1
 long-length n h = ap length (number-long n h) ∙ length-append (number (n / 10)) ((48 + n % 10) ∷ [])

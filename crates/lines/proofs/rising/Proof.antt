@@ -3,11 +3,11 @@ use native.Mathlib.Omega.{arith}
 use mathlib.Core.Path.{_≡_, refl, sym, ap, _∙_}
 use denote.Ref.{now}
 use lib.ListN.{length}
-use Rattle.listing.specs.Lines.{members}
-use Rattle.listing.proofs.Runs.{sets-front}
-use Rattle.listing.proofs.Members.{Listing, listing, listing-size, listing-passed, listing-more, listing-end, too-many, too-short, fits}
-use Rattle.listing.proofs.rising.Statement.{statement}
-use Rattle.listing.proofs.rising.Tie as tie
+use Rattle.lines.specs.Lines.{members}
+use Rattle.form.proofs.Runs.{sets-front}
+use Rattle.lines.proofs.Members.{Listing, listing, listing-size, listing-passed, listing-more, listing-end, too-many, too-short, fits}
+use Rattle.lines.proofs.rising.Statement.{statement}
+use Rattle.lines.proofs.rising.Tie as tie
 
 abbrev Inv-loop : tie.InvT-loop
 Inv-loop marks out₀ n₀ i₀ out n i = Listing marks out₀ out n i

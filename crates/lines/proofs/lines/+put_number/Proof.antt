@@ -1,16 +1,16 @@
 use native.Mathlib.Omega.{arith}
 use denote.Ref.{now}
 use lib.ListN.{length-set}
-use Rattle.listing.proofs.Printing.{short-length, long-length, put-short, put-long}
+use Rattle.lines.proofs.Printing.{short-length, long-length, put-short, put-long}
 use Prim.Native.Nat.{ℕ, _<_}
 use borrow.Fn.Kinds.{In}
 use borrow.Fn.PlainCycle.{Measures, is, falls, and}
-use Rattle.listing.proofs.lines.put_number.Reads as put-number
-use Rattle.listing.proofs.lines.put_number.Kinds as put-number-kinds
-use Rattle.listing.proofs.lines.+put_number.Lts-put_number as put-number-lts
-use Rattle.listing.proofs.lines.digit.Reads as digit-reads
-use Rattle.listing.proofs.lines.+put_number.{statement}
-use Rattle.listing.proofs.lines.+put_number.Tie.{close}
+use Rattle.lines.proofs.lines.put_number.Reads as put-number
+use Rattle.lines.proofs.lines.put_number.Kinds as put-number-kinds
+use Rattle.lines.proofs.lines.+put_number.Lts-put_number as put-number-lts
+use Rattle.lines.proofs.lines.digit.Reads as digit-reads
+use Rattle.lines.proofs.lines.+put_number.{statement}
+use Rattle.lines.proofs.lines.+put_number.Tie.{close}
 
 abbrev μ-put-number : Measures 1 put-number-kinds.ps ℕ
 μ-put-number κs a = a .1 .1 .0

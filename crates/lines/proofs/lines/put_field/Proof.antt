@@ -1,11 +1,11 @@
 use native.Mathlib.Omega.{arith}
 use mathlib.Core.Path.{sym, ap}
 use lib.ListN.{length}
-use Rattle.listing.proofs.Printing.{field-mark, field-other}
-use Rattle.listing.proofs.Runs.{put-as}
+use Rattle.lines.proofs.Printing.{field-mark, field-other}
+use Rattle.lines.proofs.Puts.{put-as}
 use borrow.Author.Needs.{needs}
-use Rattle.listing.proofs.lines.put_field.Statement.{statement}
-use Rattle.listing.proofs.lines.put_field.Tie as tie
+use Rattle.lines.proofs.lines.put_field.Statement.{statement}
+use Rattle.lines.proofs.lines.put_field.Tie as tie
 
 put-byte-requires : tie.Need-put-byte-requires
 put-byte-requires c κs =

@@ -14,9 +14,9 @@ use Rattle.lists.specs.Words.{isZero, countFrom, upTo, keep, has}
 use Rattle.tables.specs.Answers.{numberOf, countOf, counted, after}
 use Rattle.tables.specs.declared.Answer.{Answer}
 use Rattle.tables.specs.declared.Answer.the-variants.{Refused, Counted}
-use Rattle.listing.specs.Lines.{members, membersNumber}
-use Rattle.listing.proofs.Runs.{sets-front, sets-size}
-use Rattle.listing.proofs.Stripes.{Left, left-more, left-none}
+use Rattle.form.proofs.Lists.{Left, left-more, left-none}
+use Rattle.form.proofs.Runs.{sets-size}
+use Rattle.lines.specs.Lines.{members, membersNumber}
 
 has-not : (marks : List ℕ) (i : ℕ) → getD marks i 0 ≡ 0 → has marks i ≡ false
 has-not marks i e = ap (λ (n : ℕ). not (isZero n)) e

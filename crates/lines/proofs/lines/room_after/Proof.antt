@@ -4,9 +4,9 @@ use mathlib.Core.Path.{_≡_, ap}
 use denote.Ref.{now}
 use lib.ListN.{length, take}
 use Rattle.form.specs.Form.{spaced}
-use Rattle.listing.proofs.Printing.{spaced-none, spaced-size, spaced-room, spaced-all}
-use Rattle.listing.proofs.lines.room_after.Statement.{statement}
-use Rattle.listing.proofs.lines.room_after.Tie as tie
+use Rattle.lines.proofs.Printing.{spaced-none, spaced-size, spaced-room, spaced-all}
+use Rattle.lines.proofs.lines.room_after.Statement.{statement}
+use Rattle.lines.proofs.lines.room_after.Tie as tie
 
 abbrev Inv-loop : tie.InvT-loop
 Inv-loop room numbers left₀ j₀ left j = (j ≤ lib.ListN.length numbers) × (left + lib.ListN.length (spaced (take j numbers)) ≡ room)

@@ -1,9 +1,9 @@
 use mathlib.Core.Path.{sym, ap, _∙_}
 use lib.ListN.{length}
-use Rattle.listing.proofs.Printing.{field-mark, field-other}
+use Rattle.lines.proofs.Printing.{field-mark, field-other}
 use borrow.Author.Needs.{needs}
-use Rattle.listing.proofs.lines.field_len.Statement.{statement}
-use Rattle.listing.proofs.lines.field_len.Tie as tie
+use Rattle.lines.proofs.lines.field_len.Statement.{statement}
+use Rattle.lines.proofs.lines.field_len.Tie as tie
 
 returns : tie.Need-returns
 returns c = ap length (sym (field-mark (c .before .args .v) (c .if1 .taken)))

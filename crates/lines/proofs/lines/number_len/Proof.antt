@@ -3,9 +3,9 @@ use native.Mathlib.Omega.{arith}
 use mathlib.Core.Path.{_≡_}
 use lib.ListN.{length}
 use Rattle.form.specs.Form.{number}
-use Rattle.listing.proofs.Printing.{short-length, long-length, number-length}
-use Rattle.listing.proofs.lines.number_len.Statement.{statement}
-use Rattle.listing.proofs.lines.number_len.Tie as tie
+use Rattle.lines.proofs.Printing.{short-length, long-length, number-length}
+use Rattle.lines.proofs.lines.number_len.Statement.{statement}
+use Rattle.lines.proofs.lines.number_len.Tie as tie
 
 abbrev Inv-loop : tie.InvT-loop
 Inv-loop n left₀ k₀ left k = (k + length (number left) ≡ length (number n) + 1) × (left ≤ n)

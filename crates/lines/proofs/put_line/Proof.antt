@@ -3,12 +3,12 @@ use native.Mathlib.Omega.{arith}
 use mathlib.Core.Path.{refl}
 use denote.Ref.{now}
 use lib.ListN.{length}
-use Rattle.listing.specs.Lines.{RoomIs}
-use Rattle.listing.specs.declared.lines.Room.the-variants.{Left, Short}
-use Rattle.listing.proofs.Printing.{line-length, too-short, put-whole, written}
+use Rattle.lines.specs.Lines.{RoomIs}
+use Rattle.lines.specs.declared.lines.Room.the-variants.{Left, Short}
+use Rattle.lines.proofs.Printing.{line-length, too-short, put-whole, written}
 use borrow.Author.Needs.{needs}
-use Rattle.listing.proofs.put_line.Statement.{statement}
-use Rattle.listing.proofs.put_line.Tie as tie
+use Rattle.lines.proofs.put_line.Statement.{statement}
+use Rattle.lines.proofs.put_line.Tie as tie
 
 returns : tie.Need-returns
 returns c =

@@ -4,9 +4,9 @@ use mathlib.Core.Path.{_≡_, refl, ap, _∙_}
 use denote.Ref.{now}
 use lib.ListN.{length, take}
 use lib.Seq.{sets, length-sets, take-length}
-use Rattle.listing.proofs.Runs.{copy-more}
-use Rattle.listing.proofs.lines.put_bytes.Statement.{statement}
-use Rattle.listing.proofs.lines.put_bytes.Tie as tie
+use Rattle.lines.proofs.Puts.{copy-more}
+use Rattle.lines.proofs.lines.put_bytes.Statement.{statement}
+use Rattle.lines.proofs.lines.put_bytes.Tie as tie
 
 abbrev Inv-loop : tie.InvT-loop
 Inv-loop out₀ at word j₀ out j = (j ≤ lib.ListN.length word) × (out ≡ sets out₀ at (take j word))

@@ -5,11 +5,11 @@ use denote.Ref.{now}
 use lib.ListN.{length, take}
 use lib.Seq.{length-sets}
 use Rattle.form.specs.Form.{spaced}
-use Rattle.listing.specs.Steps.{PutAt}
-use Rattle.listing.proofs.Printing.{spaced-none, spaced-more, spaced-room, spaced-all}
-use Rattle.listing.proofs.Runs.{put-none, put-as, put-then}
-use Rattle.listing.proofs.lines.put_fields.Statement.{statement}
-use Rattle.listing.proofs.lines.put_fields.Tie as tie
+use Rattle.lines.specs.Lines.{PutAt}
+use Rattle.lines.proofs.Printing.{spaced-none, spaced-more, spaced-room, spaced-all}
+use Rattle.lines.proofs.Puts.{put-none, put-as, put-then}
+use Rattle.lines.proofs.lines.put_fields.Statement.{statement}
+use Rattle.lines.proofs.lines.put_fields.Tie as tie
 
 abbrev Inv-loop : tie.InvT-loop
 Inv-loop out₀ at numbers p₀ j₀ out p j = (j ≤ lib.ListN.length numbers) × PutAt out₀ at (spaced (take j numbers)) out p

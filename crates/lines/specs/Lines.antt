@@ -6,12 +6,13 @@ use mathlib.Core.List.{List, _++_}
 use Prim.Native.Nat.{ℕ, _+_, _<_}
 use lib.ListN.{length}
 use lib.Dec.{leb}
+use lib.Seq.{sets}
 use Rattle.lists.specs.Words.{upTo, keep, has}
 use Rattle.tables.specs.Answers.{verdict}
 use Rattle.tables.specs.Refusal.{moduleLimit}
 use Rattle.form.specs.Form.{spaced, line}
-use Rattle.listing.specs.declared.lines.Room.{Room}
-use Rattle.listing.specs.declared.lines.Room.the-variants.{Left, Short}
+use Rattle.lines.specs.declared.lines.Room.{Room}
+use Rattle.lines.specs.declared.lines.Room.the-variants.{Left, Short}
 
 -- a result line: its word, the entry's number where it is an entry's line, the numbers, LF
 abbrev pub lineOf : List ℕ → List ℕ → List ℕ → List ℕ
@@ -33,3 +34,8 @@ membersNumber marks out = verdict (cond (leb (length marks) moduleLimit) 0 1) Bo
 abbrev pub RoomIs : ℕ → List ℕ → Room → Type 0
 RoomIs room numbers (Left m) = m + length (spaced numbers) ≡ room
 RoomIs room numbers Short = room < length (spaced numbers)
+
+-- d′ is d with xs stored from `at` on, and r the position behind them
+pub record PutAt (d : List ℕ) (at : ℕ) (xs d′ : List ℕ) (r : ℕ) : Type 0 where
+  pub next : r ≡ at + length xs
+  pub put : d′ ≡ sets d at xs

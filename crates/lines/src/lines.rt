@@ -4,8 +4,7 @@ ghost use mathlib.Core.List.{[], _∷_};
 ghost use Prim.Native.Nat.{ℕ, _+_, _≤_, _<_};
 ghost use lib.ListN.{length};
 ghost use Rattle.form.specs.Form.{number, field, spaced};
-ghost use Rattle.listing.specs.Steps.{PutAt};
-ghost use Rattle.listing.specs.Lines.{RoomIs};
+ghost use Rattle.lines.specs.Lines.{RoomIs, PutAt};
 use tables::ModuleIdx;
 
 // How many digits n has.
