@@ -51,7 +51,7 @@ total [] = 0
 total (w ∷ ws) = w + total ws
 
 -- every list has a column, and seven at most
-narrow : (l : ℕ) → l < 15 → (0 < getD widths l 0) × (getD widths l 0 < 8)
+pub narrow : (l : ℕ) → l < 15 → (0 < getD widths l 0) × (getD widths l 0 < 8)
 narrow l h =
     let t = and-true _ _ (every-at (λ (w : ℕ). ltb 0 w && ltb w 8) widths 0 l refl h) in
     (ltb-true 0 (getD widths l 0) (t .0), ltb-true (getD widths l 0) 8 (t .1))

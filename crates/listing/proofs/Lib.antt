@@ -4,6 +4,7 @@ pub mod Cell
 pub mod Turn
 pub mod Line
 pub mod Listed
+pub mod Names
 pub mod Stripes
 pub mod Cuts
 pub mod RowCells

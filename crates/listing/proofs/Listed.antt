@@ -150,9 +150,8 @@ all-more s h hs d d₁ d′ e e₁ e′ j (On at k) (On at₁ k₁) (On at′ k�
     }
 
 -- no list more
-pub steps-end : {s : List ℕ} {h : Head} {d d′ e e′ : List ℕ} {j : ℕ} {c r : Cursor} → Step s h d d′ e e′ j c r → Steps s (h ∷ []) d d′ e e′ j c r
-steps-end {s} {h} {d} {d′} {e} {e′} {j} {c} {r} a =
-    record { all = all-more s h [] d d′ d′ e e′ e′ j c r r (a .list) (a .noted) (all-end s d′ e′ (suc j) r (a .room)); room = a .room }
+pub steps-none : (s d e : List ℕ) (j : ℕ) (c : Cursor) → Room s c → Steps s [] d d e e j c c
+steps-none s d e j c r = record { all = all-end s d e j c r; room = r }
 
 -- a list and those behind it
 pub steps-more : {s : List ℕ} {h : Head} {hs : List Head} {d d₁ d′ e e₁ e′ : List ℕ} {j : ℕ} {c c₁ r : Cursor}

@@ -1,58 +1,18 @@
-use Rattle.listing.proofs.Listed.{steps-more}
+use mathlib.Core.Path.{refl}
 use borrow.Author.Needs.{needs}
+use Rattle.listing.specs.Cells.{nameLines}
 use Rattle.listing.proofs.rows.read_lists.Statement.{statement}
 use Rattle.listing.proofs.rows.read_lists.Tie as tie
 
-slice-aggregate-read-noted : tie.Need-slice-aggregate-read-noted
-slice-aggregate-read-noted c = search needs
+slice-aggregate-read-each : tie.Need-slice-aggregate-read-each
+slice-aggregate-read-each c = search needs
 
-read-noted-requires : tie.Need-read-noted-requires
-read-noted-requires c κs = search needs
-
-slice-aggregate-read-noted-2 : tie.Need-slice-aggregate-read-noted-2
-slice-aggregate-read-noted-2 c = search needs
-
-read-noted-requires-2 : tie.Need-read-noted-requires-2
-read-noted-requires-2 c κs = search needs
-
-slice-aggregate-read-noted-3 : tie.Need-slice-aggregate-read-noted-3
-slice-aggregate-read-noted-3 c = search needs
-
-read-noted-requires-3 : tie.Need-read-noted-requires-3
-read-noted-requires-3 c κs = search needs
-
-slice-aggregate-read-noted-4 : tie.Need-slice-aggregate-read-noted-4
-slice-aggregate-read-noted-4 c = search needs
-
-read-noted-requires-4 : tie.Need-read-noted-requires-4
-read-noted-requires-4 c κs = search needs
-
-read-statements-requires : tie.Need-read-statements-requires
-read-statements-requires c κs = search needs
+read-each-requires : tie.Need-read-each-requires
+unfolding nameLines
+read-each-requires c κs = (search needs, refl)
 
 returns : tie.Need-returns
-returns c =
-    let c4 = c .before .before .before in
-    let c3 = c4 .before .before .before .before in
-    let c2 = c3 .before .before .before .before in
-    let c1 = c2 .before .before .before .before in
-    steps-more (c1 .read-noted .ensures)
-    (steps-more (c2 .read-noted2 .ensures)
-    (steps-more (c3 .read-noted3 .ensures)
-    (steps-more (c4 .read-noted4 .ensures)
-    (c .read-statements .ensures))))
+returns c = search needs
 
 pub read-lists-spec : {M : Type 1} → statement M
-read-lists-spec =
-    tie.close
-    (tie.spec
-    slice-aggregate-read-noted
-    read-noted-requires
-    slice-aggregate-read-noted-2
-    read-noted-requires-2
-    slice-aggregate-read-noted-3
-    read-noted-requires-3
-    slice-aggregate-read-noted-4
-    read-noted-requires-4
-    read-statements-requires
-    returns)
+read-lists-spec = tie.close (tie.spec slice-aggregate-read-each read-each-requires returns)
