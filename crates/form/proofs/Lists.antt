@@ -1,7 +1,8 @@
 -- Laws on lists: tests of every member, what stands at each place, and a list of lists turned about.
 -- Assumes nothing.
-use Prim.Native.Nat.{ℕ, zero, suc, _+_, _≤_, _<_}
+use Prim.Native.Nat.{ℕ, zero, suc, _+_, _-_, _≤_, _<_}
 use native.Mathlib.Omega.{arith}
+use native.Mathlib.Numerals.{add-one}
 use mathlib.Core.Path.{_≡_, refl, sym, ap, ap₂, _∙_}
 use mathlib.Core.Bool.{Bool, true, false, cond, _&&_}
 use mathlib.Core.List.{List, [], _∷_, _++_, map, map-map}
@@ -54,6 +55,18 @@ module _ {B : Type 0} where
 pub count-length : (i n : ℕ) → length (countFrom i n) ≡ n
 count-length i zero = refl
 count-length i (suc n) = ap suc (count-length (suc i) n)
+
+-- the numbers from k up to w
+abbrev pub Left : ℕ → ℕ → List ℕ
+Left k w = countFrom k (w - k)
+
+pub left-more : (k w : ℕ) → k < w → Left k w ≡ k ∷ Left (k + 1) w
+left-more k w h =
+    ap (countFrom k) {x = w - k} {y = suc (w - (k + 1))} (omega arith)
+    ∙ ap (λ (i : ℕ). k ∷ countFrom i (w - (k + 1))) (sym (add-one k))
+
+pub left-none : (k w : ℕ) → w ≤ k → Left k w ≡ []
+left-none k w h = ap (countFrom k) {x = w - k} {y = 0} (omega arith)
 
 pub transpose-length : (n : ℕ) (m : List (List ℕ)) → length (transpose n m) ≡ n
 unfolding transpose

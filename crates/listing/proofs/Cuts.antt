@@ -13,9 +13,9 @@ use lib.Dec.{ltb}
 use borrow.Author.Tests.{ltb-true}
 use Rattle.lists.specs.Words.{upTo, every}
 use Rattle.form.proofs.Lists.{and-true, every-at, count-length}
+use Rattle.form.proofs.Runs.{sets-append, sets-size}
 use Rattle.listing.specs.Cells.{widths, stripe, stripes, cut, Climbs, at-end, step}
 use Rattle.listing.specs.Reading.{tails}
-use Rattle.listing.proofs.Runs.{sets-append, sets-size}
 use Rattle.listing.proofs.Stripes.{stripe-length}
 
 pub flatten-append : {A : Type 0} (xs ys : List (List A)) → flatten (xs ++ ys) ≡ flatten xs ++ flatten ys
@@ -51,7 +51,7 @@ total [] = 0
 total (w ∷ ws) = w + total ws
 
 -- every list has a column, and seven at most
-narrow : (l : ℕ) → l < 15 → (0 < getD widths l 0) × (getD widths l 0 < 8)
+pub narrow : (l : ℕ) → l < 15 → (0 < getD widths l 0) × (getD widths l 0 < 8)
 narrow l h =
     let t = and-true _ _ (every-at (λ (w : ℕ). ltb 0 w && ltb w 8) widths 0 l refl h) in
     (ltb-true 0 (getD widths l 0) (t .0), ltb-true (getD widths l 0) 8 (t .1))

@@ -10,6 +10,7 @@ use Rattle.form.specs.Form.{field}
 use Rattle.form.specs.Parse.{Fit, none, more}
 use Rattle.form.proofs.Fields.{field-pos}
 use Rattle.form.proofs.Rows.{field-not-end, field-once}
+use Rattle.form.proofs.Runs.{sets-append}
 use Rattle.listing.specs.Cells.{ender, following, cells, Whole, body, Head, listed, texts, Wholes, stops}
 use Rattle.listing.specs.Cells as rows
 use Rattle.listing.specs.Steps.{LineIs, RowsIs, RowsRead, ListRead, ListIs, Room, Noted, Step, AllRead, AllIs, Steps}
@@ -17,7 +18,6 @@ use Rattle.listing.specs.declared.rows.Place.the-variants.{At, Differs}
 use Rattle.listing.specs.declared.rows.Rows.the-variants.{Done, Bad}
 use Rattle.listing.specs.declared.rows.Cursor.{Cursor}
 use Rattle.listing.specs.declared.rows.Cursor.the-variants.{On, Off}
-use Rattle.listing.proofs.Runs.{sets-append}
 use Rattle.listing.proofs.Turn.{ender-low}
 
 -- a value has two bytes at least
@@ -150,9 +150,8 @@ all-more s h hs d d₁ d′ e e₁ e′ j (On at k) (On at₁ k₁) (On at′ k�
     }
 
 -- no list more
-pub steps-end : {s : List ℕ} {h : Head} {d d′ e e′ : List ℕ} {j : ℕ} {c r : Cursor} → Step s h d d′ e e′ j c r → Steps s (h ∷ []) d d′ e e′ j c r
-steps-end {s} {h} {d} {d′} {e} {e′} {j} {c} {r} a =
-    record { all = all-more s h [] d d′ d′ e e′ e′ j c r r (a .list) (a .noted) (all-end s d′ e′ (suc j) r (a .room)); room = a .room }
+pub steps-none : (s d e : List ℕ) (j : ℕ) (c : Cursor) → Room s c → Steps s [] d d e e j c c
+steps-none s d e j c r = record { all = all-end s d e j c r; room = r }
 
 -- a list and those behind it
 pub steps-more : {s : List ℕ} {h : Head} {hs : List Head} {d d₁ d′ e e₁ e′ : List ℕ} {j : ℕ} {c c₁ r : Cursor}

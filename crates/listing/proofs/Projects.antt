@@ -17,12 +17,12 @@ use Rattle.form.proofs.Lists.{every-head, places, transpose-length}
 use Rattle.form.proofs.Rows.{Rows, column-length, even-rows}
 use Rattle.form.proofs.Injective.{Alike, sections-once, projectOf}
 use Rattle.form.proofs.Injective as form
+use Rattle.form.proofs.Runs.{sets-front}
 use Rattle.listing.specs.Cells.{widths, heads, texts, Wholes, stops, cut, Climbs}
 use Rattle.listing.specs.Steps.{AllRead, AllIs, Room, Steps}
 use Rattle.listing.specs.Reading.{IsText, columns, valuesOf, boundsOf, tails, Reads}
 use Rattle.listing.specs.declared.rows.Cursor.{Cursor}
 use Rattle.listing.specs.declared.rows.Cursor.the-variants.{On, Off}
-use Rattle.listing.proofs.Runs.{sets-front}
 use Rattle.listing.proofs.Cuts.{tails-length, flatten-append}
 use Rattle.listing.proofs.Tables.{rowValues, Shaped, no-list, a-list, Positive, all, over, all-wholes, from-wholes, cut-columns, stops-climb, stops-length, rows-size}
 

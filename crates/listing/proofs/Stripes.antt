@@ -9,9 +9,10 @@ use mathlib.Core.List.{List, [], _∷_, _++_, flatten}
 use lib.ListN.{length, getD, set, length-append}
 use lib.Seq.{sets}
 use Rattle.lists.specs.Words.{countFrom, upTo}
+use Rattle.form.proofs.Lists.{Left, left-more, left-none}
+use Rattle.form.proofs.Runs.{sets-append, store-more, sets-size}
 use Rattle.listing.specs.Cells.{stripe, stripes}
 use Rattle.listing.specs.Reading.{tails}
-use Rattle.listing.proofs.Runs.{sets-append, store-more, sets-size}
 
 pub stripe-length : (w p n : ℕ) (vs : List ℕ) → length (stripe w p n vs) ≡ n
 unfolding stripe
@@ -43,18 +44,6 @@ pub stripe-inside : (first w n k r limit : ℕ) → k < w → r < n → first + 
 stripe-inside first w n k r limit hk hr h =
     let m : suc r * w ≤ n * w = mul-le-mul-right w hr in
     omega (arith, suc-mul r w)
-
--- the numbers from k up to w
-abbrev pub Left : ℕ → ℕ → List ℕ
-Left k w = countFrom k (w - k)
-
-pub left-more : (k w : ℕ) → k < w → Left k w ≡ k ∷ Left (k + 1) w
-left-more k w h =
-    ap (countFrom k) {x = w - k} {y = suc (w - (k + 1))} (omega arith)
-    ∙ ap (λ (i : ℕ). k ∷ countFrom i (w - (k + 1))) (sym (add-one k))
-
-pub left-none : (k w : ℕ) → w ≤ k → Left k w ≡ []
-left-none k w h = ap (countFrom k) {x = w - k} {y = 0} (omega arith)
 
 -- k of the w columns of a list of n rows have been copied: what is left to do gives the whole
 pub record Spreading (rows values₀ bounds₀ : List ℕ) (first w n to j : ℕ) (values bounds : List ℕ) (k at : ℕ) : Type 0 where

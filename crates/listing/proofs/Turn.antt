@@ -16,8 +16,8 @@ use Rattle.listing.specs.Steps.{CellIs, RowsRead, RowsIs}
 use Rattle.listing.specs.declared.fields.Field.the-variants.{Value, Broken}
 use Rattle.listing.specs.declared.rows.Rows.the-variants.{Done, Bad}
 use Rattle.listing.proofs.Positions.{here}
-use Rattle.listing.proofs.Runs.{sets-append}
 use Rattle.form.proofs.Rows.{field-not-end, field-once}
+use Rattle.form.proofs.Runs.{sets-append}
 
 -- both bytes behind a field are below the digits
 pub ender-low : (left : ℕ) → ender left < 48

@@ -63,6 +63,16 @@ headsOf (n ∷ ns) (w ∷ ws) = head (bytes n) (w - 1) ∷ headsOf ns ws
 abbrev pub heads : List Head
 heads = headsOf names widths
 
+-- the lines of names one after the other
+unfoldable pub nameLines : List Head → List ℕ
+nameLines [] = []
+nameLines (h ∷ hs) = h .name ++ 10 ∷ nameLines hs
+
+-- where each begins, where the first does at `at`, and where the last ends
+unfoldable pub startsOf : ℕ → List Head → List ℕ
+startsOf at [] = at ∷ []
+startsOf at (h ∷ hs) = at ∷ startsOf (at + length (h .name) + 1) hs
+
 -- several lists as text
 unfoldable pub texts : List Head → List (List ℕ) → List ℕ
 texts [] vss = []

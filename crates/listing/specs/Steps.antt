@@ -99,8 +99,3 @@ AllIs s hs d d′ e e′ j Off Off = Unit {0}
 pub record Steps (s : List ℕ) (hs : List Head) (d d′ e e′ : List ℕ) (j : ℕ) (c r : Cursor) : Type 0 where
   pub all : AllIs s hs d d′ e e′ j c r
   pub room : Room s r
-
--- d′ is d with xs stored from `at` on, and r the position behind them
-pub record PutAt (d : List ℕ) (at : ℕ) (xs d′ : List ℕ) (r : ℕ) : Type 0 where
-  pub next : r ≡ at + length xs
-  pub put : d′ ≡ sets d at xs

@@ -11,7 +11,7 @@ ghost use Rattle.listing.specs.Reading.{tails};
 // How many columns each list has.
 const WIDTHS: [usize; 15] = [2, 7, 3, 2, 2, 2, 2, 2, 3, 2, 1, 2, 2, 2, 1];
 
-fn width(l: usize) -> usize
+pub fn width(l: usize) -> usize
     requires { ⌜ l < 15 ⌝ }
     ensures { λ r. ⌜ r ≡ getD widths l 0 ⌝ }
 {

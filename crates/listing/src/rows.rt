@@ -1,9 +1,11 @@
 // The rows of a list, a list, and all lists of a text; the values row by row in one array.
 ghost use mathlib.Core.Path.{_≡_};
 ghost use Prim.Native.Nat.{ℕ, _+_, _*_, _≤_, _<_};
-ghost use lib.ListN.{length};
-ghost use Rattle.listing.specs.Cells.{ender, following, head, heads};
+ghost use mathlib.Core.List.{[]};
+ghost use lib.ListN.{length, getD};
+ghost use Rattle.listing.specs.Cells.{ender, following, head, heads, startsOf, nameLines};
 ghost use Rattle.listing.specs.Steps.{RowsIs, LineIs, ListIs, Room, Step, Steps};
+use crate::columns::width;
 use crate::fields::Field;
 use crate::fields::read_cell;
 
@@ -132,33 +134,77 @@ fn read_noted(
     }
 }
 
+// The lines of names of a project's lists.
+const NAMES: [u8; 256] = *b"\
+runtime dynamic\n\
+normal included sensitive reads exports wrap chunk\n\
+module kind target\n\
+module dependency\n\
+module included\n\
+statement record\n\
+owner canonical\n\
+symbol link\n\
+statement form symbol\n\
+reference depended\n\
+order\n\
+chunk member\n\
+chunk imports\n\
+entry chunk\n\
+seed\n";
+
+// Where each begins, and where the last ends.
+const STARTS: [usize; 16] = [
+    0,
+    16,
+    67,
+    86,
+    104,
+    120,
+    137,
+    153,
+    165,
+    187,
+    206,
+    212,
+    225,
+    239,
+    251,
+    256,
+];
+
+fn start(l: usize) -> usize
+    requires { ⌜ l < 16 ⌝ }
+    ensures { λ r. ⌜ r ≡ getD (startsOf 0 heads) l 0 ⌝ }
+{
+    STARTS[l]
+}
+
+// The l-th line of names, without its line end.
+fn name_at<'a>(lines: &'a [u8], l: usize) -> &'a [u8]
+    requires { ⌜ (now lines ≡ nameLines heads) × (l < 15) ⌝ }
+    ensures { λ r. ⌜ now r ≡ getD heads l (head [] 0) .name ⌝ }
+{
+    &lines[start(l)..start(l + 1) - 1]
+}
+
+// Reads every list of a project, with these lines of names, from the text's start.
+fn read_each(s: &[u8], lines: &[u8], out: &mut [u32; 32768], ends: &mut [usize; 15]) -> Cursor
+    requires { ⌜ (length (now s) ≤ 65536) × (now lines ≡ nameLines heads) ⌝ }
+    ensures { λ r. ⌜ Steps (now (s .entry)) heads (now (out .entry)) (now (out .exit)) (now (ends .entry)) (now (ends .exit)) 0 (Cursor.On 0 0) r ⌝ }
+{
+    let mut c = Cursor::On(0, 0);
+    let mut l = 0;
+    while l < 15 {
+        c = read_noted(s, c, name_at(lines, l), width(l) - 1, out, ends, l);
+        l += 1;
+    }
+    c
+}
+
 // Reads every list of a project from the text's start.
 pub fn read_lists(s: &[u8], out: &mut [u32; 32768], ends: &mut [usize; 15]) -> Cursor
     requires { ⌜ length (now s) ≤ 65536 ⌝ }
     ensures { λ r. ⌜ Steps (now (s .entry)) heads (now (out .entry)) (now (out .exit)) (now (ends .entry)) (now (ends .exit)) 0 (Cursor.On 0 0) r ⌝ }
 {
-    let c0 = Cursor::On(0, 0);
-    let c1 = read_noted(s, c0, b"runtime dynamic", 1, out, ends, 0);
-    let c2 = read_noted(
-        s,
-        c1,
-        b"normal included sensitive reads exports wrap chunk",
-        6,
-        out,
-        ends,
-        1,
-    );
-    let c3 = read_noted(s, c2, b"module kind target", 2, out, ends, 2);
-    let c4 = read_noted(s, c3, b"module dependency", 1, out, ends, 3);
-    let c5 = read_noted(s, c4, b"module included", 1, out, ends, 4);
-    let c6 = read_noted(s, c5, b"statement record", 1, out, ends, 5);
-    let c7 = read_noted(s, c6, b"owner canonical", 1, out, ends, 6);
-    let c8 = read_noted(s, c7, b"symbol link", 1, out, ends, 7);
-    let c9 = read_noted(s, c8, b"statement form symbol", 2, out, ends, 8);
-    let c10 = read_noted(s, c9, b"reference depended", 1, out, ends, 9);
-    let c11 = read_noted(s, c10, b"order", 0, out, ends, 10);
-    let c12 = read_noted(s, c11, b"chunk member", 1, out, ends, 11);
-    let c13 = read_noted(s, c12, b"chunk imports", 1, out, ends, 12);
-    let c14 = read_noted(s, c13, b"entry chunk", 1, out, ends, 13);
-    read_noted(s, c14, b"seed", 0, out, ends, 14)
+    read_each(s, &NAMES, out, ends)
 }

@@ -2,10 +2,10 @@
 // A line is: `case`, its number, the list that it changes, the reading's number, the count of values and the number of the project test.
 use libc::STDIN_FILENO;
 use libc::STDOUT_FILENO;
+use lines::put_line;
+use lines::rising;
 use listing::column;
-use listing::put_line;
 use listing::read;
-use listing::rising;
 use tables::Answer;
 
 // Where each list begins in the listing, and where the last ends.

@@ -3,10 +3,10 @@ use flat::Call;
 use flat::call_on;
 use libc::STDIN_FILENO;
 use libc::STDOUT_FILENO;
+use lines::put_line;
+use lines::rising;
 use listing::column;
-use listing::put_line;
 use listing::read;
-use listing::rising;
 use tables::Answer;
 
 // A setting: the one row of its column.

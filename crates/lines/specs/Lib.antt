@@ -1,0 +1,2 @@
+-- What the line writer and the list of members promise.
+pub mod Lines
