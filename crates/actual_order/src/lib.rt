@@ -3,9 +3,9 @@ ghost use Rattle.tables.specs.Project.{project};
 ghost use Rattle.actual_order.specs.Promise.{ActualOrder};
 use core::actual_order_from;
 use core::analysed_chunk;
+use refusal::refusal_number;
 use tables::Answer;
 use tables::ModuleIdx;
-use tables::refusal_number;
 
 pub mod core;
 

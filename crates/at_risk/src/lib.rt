@@ -3,9 +3,9 @@ ghost use Rattle.tables.specs.Project.{project};
 ghost use Rattle.at_risk.specs.Entry.{EntryRisk};
 use actual_order::core::analysed_chunk;
 use entries::entry_risk;
+use refusal::refusal_number;
 use tables::Answer;
 use tables::ModuleIdx;
-use tables::refusal_number;
 
 pub mod core;
 pub mod entries;

@@ -1,6 +1,7 @@
 // Cyclic chunks: labels, and whether a chunk reaches a cyclic one.
 ghost use Rattle.tables.specs.Project.{project};
 ghost use Rattle.chunk_cycles.specs.Operations.{LabelsPromise, ReachPromise};
+use refusal::refusal_number;
 use tables::Answer;
 
 pub mod core;
@@ -46,7 +47,7 @@ pub fn labels<'a>(
 ) -> Answer
     ensures { λ r. ⌜ LabelsPromise (project runtime dynamic (now (normal .entry)) (now (included .entry)) (now (sensitive .entry)) (now (reads .entry)) (now (exports .entry)) (now (wrap .entry)) (now (chunk .entry)) (now («record_module» .entry)) (now («record_kind» .entry)) (now («record_target» .entry)) (now («dependency_module» .entry)) (now (dependency .entry)) (now («statement_module» .entry)) (now («statement_included» .entry)) (now («use_statement» .entry)) (now («use_record» .entry)) (now (owner .entry)) (now (canonical .entry)) (now («chain_symbol» .entry)) (now («chain_link» .entry)) (now («reference_statement» .entry)) (now («reference_form» .entry)) (now («reference_symbol» .entry)) (now («depended_reference» .entry)) (now (depended .entry)) (now (order .entry)) (now («member_chunk» .entry)) (now (member .entry)) (now («import_chunk» .entry)) (now (imports .entry)) (now (entry .entry)) (now («entry_chunk» .entry)) (now (seed .entry))) (now (labels .entry)) (now (labels .exit)) r ⌝ }
 {
-    let number = tables::refusal_number(
+    let number = refusal_number(
         runtime,
         dynamic,
         normal,
@@ -135,7 +136,7 @@ pub fn chunk_reach<'a>(
 ) -> Answer
     ensures { λ r. ⌜ ReachPromise (project runtime dynamic (now (normal .entry)) (now (included .entry)) (now (sensitive .entry)) (now (reads .entry)) (now (exports .entry)) (now (wrap .entry)) (now (chunk .entry)) (now («record_module» .entry)) (now («record_kind» .entry)) (now («record_target» .entry)) (now («dependency_module» .entry)) (now (dependency .entry)) (now («statement_module» .entry)) (now («statement_included» .entry)) (now («use_statement» .entry)) (now («use_record» .entry)) (now (owner .entry)) (now (canonical .entry)) (now («chain_symbol» .entry)) (now («chain_link» .entry)) (now («reference_statement» .entry)) (now («reference_form» .entry)) (now («reference_symbol» .entry)) (now («depended_reference» .entry)) (now (depended .entry)) (now (order .entry)) (now («member_chunk» .entry)) (now (member .entry)) (now («import_chunk» .entry)) (now (imports .entry)) (now (entry .entry)) (now («entry_chunk» .entry)) (now (seed .entry))) c r ⌝ }
 {
-    let number = tables::refusal_number(
+    let number = refusal_number(
         runtime,
         dynamic,
         normal,

@@ -2,8 +2,8 @@
 ghost use Rattle.tables.specs.Project.{project};
 ghost use Rattle.expected_order.specs.OfProject.{ExpectedOrder};
 use core::expected_order_for_root;
+use refusal::refusal_number;
 use tables::Answer;
-use tables::refusal_number;
 
 pub mod core;
 

@@ -4,6 +4,7 @@ ghost use Rattle.tables.specs.Project.{project};
 ghost use Rattle.tables.specs.Answers.{numberOf, countOf};
 ghost use Rattle.flat.specs.Calls.{Promise};
 use crate::Call;
+use refusal::refusal_number;
 use tables::Answer;
 
 // The answer to a test of the tables alone.
@@ -370,7 +371,7 @@ pub fn operate<'a>(
             seed,
             first,
         ),
-        Call::Refusal => tested(tables::refusal_number(
+        Call::Refusal => tested(refusal_number(
             runtime,
             dynamic,
             normal,

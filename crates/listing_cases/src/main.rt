@@ -6,6 +6,7 @@ use lines::put_line;
 use lines::rising;
 use listing::column;
 use listing::read;
+use refusal::refusal_number;
 use tables::Answer;
 
 // Where each list begins in the listing, and where the last ends.
@@ -113,7 +114,7 @@ fn setting(values: &[u32], bounds: &[usize], j: usize) -> u32 {
 
 // The number of the project test.
 fn tested(values: &[u32], bounds: &[usize]) -> u32 {
-    tables::refusal_number(
+    refusal_number(
         setting(values, bounds, 0),
         setting(values, bounds, 1),
         column(values, bounds, 2),

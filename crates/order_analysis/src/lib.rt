@@ -2,8 +2,8 @@
 ghost use Rattle.tables.specs.Project.{project};
 ghost use Rattle.order_analysis.specs.Whole.{WholeAnalysis};
 use core::analyze;
+use refusal::refusal_number;
 use tables::Answer;
-use tables::refusal_number;
 
 mod core;
 

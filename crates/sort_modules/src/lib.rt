@@ -2,8 +2,8 @@
 ghost use Rattle.tables.specs.Project.{project};
 ghost use Rattle.sort_modules.specs.OfProject.{SortModules};
 use core::sort;
+use refusal::refusal_number;
 use tables::Answer;
-use tables::refusal_number;
 
 pub mod core;
 

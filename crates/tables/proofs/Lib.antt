@@ -4,8 +4,5 @@ pub mod Rise
 pub mod Starts
 pub mod Accepted
 pub mod Scan
-pub mod Lengths
-pub mod Chain
-pub mod Once
 pub mod Number
 pub mod Answering

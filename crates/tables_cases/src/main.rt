@@ -1,6 +1,7 @@
 // Runs the project test at every edge: limits, largest and smallest refused values, lengths, and two faults at once.
 use libc::STDERR_FILENO;
 use libc::STDOUT_FILENO;
+use refusal::refusal_number;
 
 // One array holds rows of ones, of twos, of entries, of import pairs, and four rows for each column of a small project.
 const TWOS: usize = 16385;
@@ -596,7 +597,7 @@ fn number<'a>(
     let entry = column(data, starts, lengths, 30);
     let entry_chunk = column(data, starts, lengths, 31);
     let seed = column(data, starts, lengths, 32);
-    tables::refusal_number(
+    refusal_number(
         runtime,
         dynamic,
         normal,

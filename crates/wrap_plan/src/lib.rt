@@ -2,8 +2,8 @@
 ghost use Rattle.tables.specs.Project.{project};
 ghost use Rattle.wrap_plan.specs.Planned.{PlanFromSeeds};
 use core::plan_seeds;
+use refusal::refusal_number;
 use tables::Answer;
-use tables::refusal_number;
 use wrap_rules::seeds::seeds_fit;
 
 pub mod core;

@@ -25,7 +25,7 @@ use Rattle.at_risk.proofs.risk.Reads as reads
 use Rattle.at_risk.proofs.risk.Lts as lts
 use Rattle.actual_order.proofs.core.analysed_chunk.Reads as analysed-chunk-reads
 use Rattle.at_risk.proofs.entries.entry_risk.Reads as entry-risk-reads
-use Rattle.tables.proofs.refusal_number.Reads as refusal-number-reads
+use Rattle.refusal.proofs.refusal_number.Reads as refusal-number-reads
 
 -- the entry and the project, seen from the project's test
 abbrev start : tie.After-refusal-number → tie.Start

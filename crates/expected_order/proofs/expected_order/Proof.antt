@@ -19,7 +19,7 @@ use Rattle.expected_order.proofs.expected_order.Tie as tie
 use Rattle.expected_order.proofs.expected_order.Reads as reads
 use Rattle.expected_order.proofs.expected_order.Lts as lts
 use Rattle.expected_order.proofs.core.expected_order_for_root.Reads as expected-order-for-root-reads
-use Rattle.tables.proofs.refusal_number.Reads as refusal-number-reads
+use Rattle.refusal.proofs.refusal_number.Reads as refusal-number-reads
 
 -- the entry, seen from the test, and its project
 abbrev entry : tie.After-refusal-number → tie.Start

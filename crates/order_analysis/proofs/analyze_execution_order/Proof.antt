@@ -17,7 +17,7 @@ use Rattle.order_analysis.proofs.analyze_execution_order.Tie as tie
 use Rattle.order_analysis.proofs.analyze_execution_order.Reads as reads
 use Rattle.order_analysis.proofs.analyze_execution_order.Lts as lts
 use Rattle.order_analysis.proofs.core.analyze.Reads as analyze-reads
-use Rattle.tables.proofs.refusal_number.Reads as refusal-number-reads
+use Rattle.refusal.proofs.refusal_number.Reads as refusal-number-reads
 
 -- the entry, its project, and the rest of it beside what the core reads
 

@@ -19,7 +19,7 @@ use Rattle.sort_modules.proofs.sort_modules.Tie as tie
 use Rattle.sort_modules.proofs.sort_modules.Reads as reads
 use Rattle.sort_modules.proofs.sort_modules.Lts as lts
 use Rattle.sort_modules.proofs.core.sort.Reads as sort-reads
-use Rattle.tables.proofs.refusal_number.Reads as refusal-number-reads
+use Rattle.refusal.proofs.refusal_number.Reads as refusal-number-reads
 
 -- the entry, seen from the test, and its project
 abbrev entry : tie.After-refusal-number → tie.Start

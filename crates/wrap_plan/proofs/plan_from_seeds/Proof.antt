@@ -21,7 +21,7 @@ use Rattle.wrap_plan.proofs.plan_from_seeds.Statement.{statement}
 use Rattle.wrap_plan.proofs.plan_from_seeds.Tie as tie
 use Rattle.wrap_plan.proofs.plan_from_seeds.Reads as reads
 use Rattle.wrap_plan.proofs.plan_from_seeds.Lts as lts
-use Rattle.tables.proofs.refusal_number.Reads as refusal-number-reads
+use Rattle.refusal.proofs.refusal_number.Reads as refusal-number-reads
 use Rattle.wrap_plan.proofs.core.plan_seeds.Reads as plan-seeds-reads
 use Rattle.wrap_rules.proofs.seeds.seeds_fit.Reads as seeds-fit-reads
 

@@ -1,0 +1,14 @@
+-- `refusal::sizes::one_sized` meets its contract.
+-- Assumes nothing.
+use mathlib.Core.Path.{sym}
+use Rattle.tables.specs.Refusal.{sized}
+use Rattle.refusal.proofs.Chain.{and-true}
+use Rattle.refusal.proofs.sizes.one_sized.Statement.{statement}
+use Rattle.refusal.proofs.sizes.one_sized.Tie as tie
+
+returns : tie.Need-returns
+unfolding sized
+returns c = sym (and-true _)
+
+pub one-sized-spec : {M : Type 1} → statement M
+one-sized-spec = tie.close (tie.spec returns)
