@@ -14,8 +14,9 @@ use borrow.Author.Tests.{eq-eqb, ne-eqb, eqb-true, eqb-false, lt-ltb, le-ltb, lt
 use Rattle.lists.specs.Words.{any, elem, Distinct}
 use Rattle.lists.proofs.Laws.{both}
 use Rattle.tables.proofs.Accepted.{getD-mem}
+use Rattle.tables.specs.Lookups.{greaterOf}
 use Rattle.at_risk.specs.Risk.{place, before, expectedSensitive, actualSensitive, early}
-use Rattle.at_risk.specs.Early.{rank, raise, highest}
+use Rattle.at_risk.specs.Early.{rank, highest}
 
 -- before the member at place k of a list without repeats stand the first k
 pub before-take : (xs : List ℕ) (k : ℕ) → Distinct xs → k < length xs → before (getD xs k 0) xs ≡ take k xs
@@ -27,8 +28,8 @@ before-take (x ∷ xs) (suc k) d l =
     rw (ne-eqb (getD xs k 0) x (λ q. d .0 (subst (λ (z : ℕ). List·Memᴰ z xs) q m)))
     (ap (λ (l : List ℕ). x ∷ l) (before-take xs k (d .1) (omega arith)))
 
-raise-above : (c a b : ℕ) → ltb c (raise a b) ≡ (ltb c a || ltb c b)
-raise-above c a b =
+greater-above : (c a b : ℕ) → ltb c (greaterOf a b) ≡ (ltb c a || ltb c b)
+greater-above c a b =
     ⊎-elim
     (λ e. rw e (⊎-elim (λ q. rw q (lt-ltb c b (omega (arith, ltb-true a b e, ltb-true c a q)))) (λ q. rw q) (both (ltb c a))))
     (λ e. rw e (⊎-elim (λ q. rw q) (λ q. rw q (sym (le-ltb c b (omega (arith, ltb-false a b e, ltb-false c a q))))) (both (ltb c a))))
@@ -48,18 +49,18 @@ highest-above ranks c xs = from zero xs ∙ ap (λ (b : Bool). b || any (λ (x :
     or-cond false true c = refl
     or-cond false false c = refl
 
-    from : (a : ℕ) (xs : List ℕ) → ltb c (foldl (λ (a x : ℕ). raise a (ranks x)) a xs) ≡ (ltb c a || any (λ (x : ℕ). ltb c (ranks x)) xs)
+    from : (a : ℕ) (xs : List ℕ) → ltb c (foldl (λ (a x : ℕ). greaterOf a (ranks x)) a xs) ≡ (ltb c a || any (λ (x : ℕ). ltb c (ranks x)) xs)
     from a [] = or-false (ltb c a)
     from a (x ∷ xs) =
-        from (raise a (ranks x)) xs
-        ∙ ap (λ (b : Bool). b || any (λ (y : ℕ). ltb c (ranks y)) xs) (raise-above c a (ranks x))
+        from (greaterOf a (ranks x)) xs
+        ∙ ap (λ (b : Bool). b || any (λ (y : ℕ). ltb c (ranks y)) xs) (greater-above c a (ranks x))
         ∙ or-cond (ltb c a) (ltb c (ranks x)) (any (λ (y : ℕ). ltb c (ranks y)) xs)
 
 -- one step of the running maximum
-pub highest-step : (ranks : ℕ → ℕ) (xs : List ℕ) (k : ℕ) → k < length xs → highest ranks (take (suc k) xs) ≡ raise (highest ranks (take k xs)) (ranks (getD xs k 0))
+pub highest-step : (ranks : ℕ → ℕ) (xs : List ℕ) (k : ℕ) → k < length xs → highest ranks (take (suc k) xs) ≡ greaterOf (highest ranks (take k xs)) (ranks (getD xs k 0))
 unfolding highest
 highest-step ranks xs k l =
-    ap (foldl (λ (a x : ℕ). raise a (ranks x)) zero) (take-suc xs k 0 l) ∙ foldl-append (λ (a x : ℕ). raise a (ranks x)) zero (take k xs) (getD xs k 0 ∷ [])
+    ap (foldl (λ (a x : ℕ). greaterOf a (ranks x)) zero) (take-suc xs k 0 l) ∙ foldl-append (λ (a x : ℕ). greaterOf a (ranks x)) zero (take k xs) (getD xs k 0 ∷ [])
 
 -- ranks in a list with one more in front, and at the end where it wasn't there
 

@@ -1,27 +1,15 @@
 -- The risk by marks of the sensitive and of the eligible modules, joined to none, is the risk of the entry.
 -- Assumes nothing.
-use mathlib.Core.Path.{_≡_, sym, ap, _∙_}
-use mathlib.Core.Bool.{Bool, true, not, _||_}
+use mathlib.Core.Path.{_≡_, ap, _∙_}
+use mathlib.Core.Bool.{Bool, true, _||_}
 use mathlib.Core.List.{List}
 use Prim.Native.Nat.{ℕ, _<_}
-use lib.ListN.{length, replicate}
-use lib.Dec.{eqb}
+use lib.ListN.{replicate}
 use Rattle.lists.specs.Words.{has, marksOf}
-use Rattle.lists.proofs.Laws.{and-parts}
-use Rattle.tables.specs.Readings.{isNormal, flagged}
-use Rattle.expected_order.proofs.Rows.{normal-in}
-use Rattle.at_risk.specs.Marks.{isSensitive, isEligible}
+use Rattle.sensitivity.proofs.Marks.{marks-test}
 use Rattle.at_risk.specs.Risk.{orderRisk, cycleRisk, riskOf}
 use Rattle.at_risk.specs.Steps.{join, atRisk}
 use Rattle.at_risk.proofs.Joins.{join-zero}
-use Rattle.at_risk.proofs.Marks.{marks-test}
-
-module _ (runtime : ℕ) (normal included : List ℕ) (m : ℕ) where
-  pub is-sensitive-in : (flag : List ℕ) (uses : ℕ → Bool) → isSensitive runtime normal included flag uses m ≡ true → m < length normal
-  is-sensitive-in flag uses e = normal-in normal m (and-parts (isNormal normal m) _ (and-parts (not (eqb m runtime)) _ e .1) .0)
-
-  pub is-eligible-in : (exports wrap : List ℕ) → isEligible runtime normal included exports wrap m ≡ true → m < length normal
-  is-eligible-in exports wrap e = normal-in normal m (and-parts (isNormal normal m) _ (and-parts (flagged included m) _ (and-parts (not (eqb m runtime)) _ e .1) .1) .0)
 
 module _ (f g : ℕ → Bool) (n : ℕ) (inF : (m : ℕ) → f m ≡ true → m < n) (inG : (m : ℕ) → g m ≡ true → m < n) (expected actual hosts : List ℕ) (reaches : Bool) where
   pub marked-risk : (sensitive eligible zeros out : List ℕ) → sensitive ≡ marksOf f n → eligible ≡ marksOf g n → zeros ≡ replicate n 0

@@ -14,8 +14,9 @@ use Rattle.lists.specs.Words.{isZero, keep, any, elem, has, Distinct}
 use Rattle.lists.proofs.Laws.{both, not-true, not-false, and-parts, and-join, or-parts, or-left, or-right, iff-eq, any-mem, mem-any, mem-keep, keep-mem, elem-mem, mem-elem}
 use Rattle.tables.specs.Project.{missing}
 use Rattle.tables.specs.Accepted.{Below}
+use Rattle.tables.specs.Lookups.{greaterOf}
 use Rattle.at_risk.specs.Risk.{before, justOne, early, isFlagged, orderRisk}
-use Rattle.at_risk.specs.Early.{rank, raise, highest}
+use Rattle.at_risk.specs.Early.{rank, highest}
 use Rattle.at_risk.specs.Steps.{join, listed, puts, putsOf, unmet, overtaken, Ranked}
 use Rattle.at_risk.proofs.Order.{before-mem}
 use Rattle.at_risk.proofs.Risks.{one-flagged}
@@ -35,10 +36,10 @@ highest-same : (f g : ℕ → ℕ) (xs : List ℕ) → ((x : ℕ) → List·Mem�
 unfolding highest
 highest-same f g xs h = from zero xs h
   where
-    from : (a : ℕ) (xs : List ℕ) → ((x : ℕ) → List·Memᴰ x xs → f x ≡ g x) → foldl (λ (a x : ℕ). raise a (f x)) a xs ≡ foldl (λ (a x : ℕ). raise a (g x)) a xs
+    from : (a : ℕ) (xs : List ℕ) → ((x : ℕ) → List·Memᴰ x xs → f x ≡ g x) → foldl (λ (a x : ℕ). greaterOf a (f x)) a xs ≡ foldl (λ (a x : ℕ). greaterOf a (g x)) a xs
     from a [] h = refl
     from a (x ∷ xs) h =
-        ap (λ (b : ℕ). foldl (λ (a x : ℕ). raise a (f x)) (raise a b) xs) (h x (List·Memᴰ·head refl)) ∙ from (raise a (g x)) xs (λ y m. h y (List·Memᴰ·tail m))
+        ap (λ (b : ℕ). foldl (λ (a x : ℕ). greaterOf a (f x)) (greaterOf a b) xs) (h x (List·Memᴰ·head refl)) ∙ from (greaterOf a (g x)) xs (λ y m. h y (List·Memᴰ·tail m))
 
 module _ (sensitive eligible expected actual hosts : List ℕ) where
   abbrev E : List ℕ

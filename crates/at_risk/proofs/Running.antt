@@ -15,8 +15,9 @@ use borrow.Author.Tests.{eq-eqb, ne-eqb, lt-ltb, le-ltb}
 use Rattle.lists.specs.Words.{keep, has, Distinct}
 use Rattle.lists.proofs.Laws.{both, keep-append}
 use Rattle.tables.proofs.Accepted.{getD-mem}
+use Rattle.tables.specs.Lookups.{greaterOf}
 use Rattle.at_risk.specs.Risk.{before}
-use Rattle.at_risk.specs.Early.{raise, highest}
+use Rattle.at_risk.specs.Early.{highest}
 use Rattle.at_risk.specs.Steps.{overtaken}
 
 -- before a kept member stand the kept ones of the places before it
@@ -44,10 +45,10 @@ module _ (s : ℕ → Bool) (xs : List ℕ) (k : ℕ) (l : k < length xs) where
   keep-out e = keep-more ∙ ap (λ (b : Bool). keep s (take k xs) ++ cond b (getD xs k 0 ∷ []) []) e ∙ append-nil (keep s (take k xs))
 
   -- the greatest so far, over one place more
-  pub highest-in : (ranks : ℕ → ℕ) → s (getD xs k 0) ≡ true → highest ranks (keep s (take (k + 1) xs)) ≡ raise (highest ranks (keep s (take k xs))) (ranks (getD xs k 0))
+  pub highest-in : (ranks : ℕ → ℕ) → s (getD xs k 0) ≡ true → highest ranks (keep s (take (k + 1) xs)) ≡ greaterOf (highest ranks (keep s (take k xs))) (ranks (getD xs k 0))
   unfolding highest
   highest-in ranks e =
-      ap (foldl (λ (a x : ℕ). raise a (ranks x)) zero) (keep-in e) ∙ foldl-append (λ (a x : ℕ). raise a (ranks x)) zero (keep s (take k xs)) (getD xs k 0 ∷ [])
+      ap (foldl (λ (a x : ℕ). greaterOf a (ranks x)) zero) (keep-in e) ∙ foldl-append (λ (a x : ℕ). greaterOf a (ranks x)) zero (keep s (take k xs)) (getD xs k 0 ∷ [])
 
 -- whether the member at place k is overtaken, by the greatest place before it
 module _ (sensitive places expected : List ℕ) (k : ℕ) (l : k < length expected) (d : Distinct expected) where

@@ -3,18 +3,14 @@
 use mathlib.Core.Bool.{cond}
 use mathlib.Core.List.{List, foldl}
 use Prim.Native.Nat.{ℕ, zero, suc}
-use lib.Dec.{ltb}
 use Rattle.lists.specs.Words.{elem}
+use Rattle.tables.specs.Lookups.{greaterOf}
 use Rattle.at_risk.specs.Risk.{place}
 
 -- the place of m in a list, from 1; 0 where it has none
 unfoldable pub rank : List ℕ → ℕ → ℕ
 rank order m = cond (elem m order) (suc (place m order)) zero
 
--- the greater of two
-abbrev pub raise : ℕ → ℕ → ℕ
-raise a b = cond (ltb a b) b a
-
 -- the greatest rank so far
 unfoldable pub highest : (ℕ → ℕ) → List ℕ → ℕ
-highest ranks xs = foldl (λ (a x : ℕ). raise a (ranks x)) zero xs
+highest ranks xs = foldl (λ (a x : ℕ). greaterOf a (ranks x)) zero xs

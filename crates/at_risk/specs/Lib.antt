@@ -1,6 +1,4 @@
--- Sensitive and eligible modules, and the risk of an entry.
-pub mod Index
-pub mod Marks
+-- The risk of an entry.
 pub mod Risk
 pub mod Early
 pub mod Blame

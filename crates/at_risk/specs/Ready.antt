@@ -10,7 +10,7 @@ use Rattle.actual_order.specs.Actual.{Executed, executeAll, hostsInTurn}
 use Rattle.actual_order.specs.Cores.{Fit, Members, Imports}
 use Rattle.chunk_cycles.specs.Cycles.{labels as labelled}
 use Rattle.chunk_cycles.specs.Graph.{Graph}
-use Rattle.at_risk.specs.Index.{Statements, UseRows}
+use Rattle.sensitivity.specs.Ready.{Statements, UseRows}
 
 -- the run of a root from an entry chunk, over n chunks that load others
 abbrev pub run : List ℕ → List ℕ → List ℕ → List ℕ → List ℕ → List ℕ → List ℕ → List ℕ → (ℕ → List ℕ) → ℕ → ℕ → ℕ → Executed

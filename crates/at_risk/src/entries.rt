@@ -10,11 +10,9 @@ ghost use Rattle.actual_order.specs.LoadOrder.{loadOrder};
 ghost use Rattle.actual_order.specs.Cores.{Fit, Members, Imports, Loads};
 ghost use Rattle.chunk_cycles.specs.Cycles.{reachesCycle};
 ghost use Rattle.at_risk.specs.Ready.{run, Rows, Chunks, Labelled, Tables};
-ghost use Rattle.at_risk.specs.Marks.{usesWrapped, isSensitive, isEligible};
+ghost use Rattle.sensitivity.specs.Marks.{usesWrapped, isSensitive, isEligible};
 ghost use Rattle.at_risk.specs.Risk.{riskOf};
 ghost use Rattle.at_risk.specs.Steps.{join, Order, atRisk};
-use crate::core::mark_eligible;
-use crate::core::mark_sensitive;
 use crate::orders::add_risk;
 use actual_order::core::actual_order_for_root;
 use actual_order::core::arrange;
@@ -23,6 +21,8 @@ use chunk_cycles::core::reaches_cyclic;
 use expected_order::core::expected_order_for_root;
 use lists::core::count_marked;
 use lists::core::fill;
+use sensitivity::core::mark_eligible;
+use sensitivity::core::mark_sensitive;
 
 // Adds the risk of an entry whose expected order is given. `loads` has each chunk's imported chunks in load order.
 fn add_by_expected<'a>(

@@ -1,4 +1,4 @@
-// Sensitive and eligible modules, and the risk of an entry.
+// The risk of an entry.
 ghost use Rattle.tables.specs.Project.{project};
 ghost use Rattle.at_risk.specs.Entry.{EntryRisk};
 use actual_order::core::analysed_chunk;
@@ -7,7 +7,6 @@ use refusal::refusal_number;
 use tables::Answer;
 use tables::ModuleIdx;
 
-pub mod core;
 pub mod entries;
 pub mod orders;
 

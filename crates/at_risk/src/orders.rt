@@ -4,19 +4,9 @@ ghost use mathlib.Core.Bool.{_&&_};
 ghost use Prim.Native.Nat.{ℕ, _<_, _≤_};
 ghost use lib.ListN.{length, getD, replicate};
 ghost use Rattle.lists.specs.Words.{keep, elem, has};
-ghost use Rattle.at_risk.specs.Early.{raise};
 ghost use Rattle.at_risk.specs.Risk.{orderRisk};
 ghost use Rattle.at_risk.specs.Steps.{join, listed, puts, putsOf, unmet, overtaken, Ranked, Order, Columns, atRisk};
-
-// The greater of two.
-fn larger(a: u32, b: u32) -> u32
-    ensures { λ r. ⌜ r ≡ raise a b ⌝ }
-{
-    if a < b {
-        return b;
-    }
-    a
-}
+use tables::core::greater;
 
 // Marks the members of an order that are in a set.
 fn mark_listed(order: &[u32], which: &[u32], marks: &mut [u32])
@@ -123,7 +113,7 @@ fn flag_overtaken(
         }
         let place = places[at];
         let passed = latest;
-        latest = larger(passed, place);
+        latest = greater(passed, place);
         if place == 0 {
             continue;
         }

@@ -19,7 +19,8 @@ use Rattle.tables.specs.Readings.{firstOf, valuesOf}
 use Rattle.chunk_cycles.specs.Cycles.{reached, connected, component, cyclic, label, labels, reachesCycle}
 use Rattle.chunk_cycles.specs.Graph.{Graph}
 use Rattle.chunk_cycles.specs.Steps.{reachMarks, inBoth, relabelled, componentLabelled, labelled, labelledAt}
-use Rattle.chunk_cycles.proofs.Lists.{getD-map-upTo, length-map-upTo, map-upTo-cong, map-upTo-self, keep-map, values-row, row-values}
+use Rattle.tables.proofs.OwnerRows.{values-row, row-values}
+use Rattle.chunk_cycles.proofs.Lists.{getD-map-upTo, length-map-upTo, map-upTo-cong, map-upTo-self, keep-map}
 use Rattle.chunk_cycles.proofs.Strong.{reached-reach, reach-reached, connected-reach, reach-connected, connected-in, connected-self, connected-sym, connected-trans, cyclic-same, cyclic-reach, reach-cyclic, lowest, lowest-in, lowest-same, label-cyclic, label-none, label-test}
 use Rattle.chunk_cycles.proofs.Paths.{graph-inside}
 use Rattle.chunk_cycles.proofs.Numbers.{circle-rises}

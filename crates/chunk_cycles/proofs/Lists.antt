@@ -3,19 +3,17 @@
 use mathlib.Core.Path.{_≡_, refl, sym, ap, _∙_}
 use mathlib.Core.Logic.{⊎-elim}
 use mathlib.Core.Bool.{Bool, true, false, cond, not, _&&_, _||_, true≢false}
-use mathlib.Core.List.{List, [], _∷_, _++_, map, List·Memᴰ, Memᴰ·map, Memᴰ·of-map}
+use mathlib.Core.List.{List, [], _∷_, map}
 use Prim.Native.Nat.{ℕ, zero, suc, _+_, _≤_, _<_}
 use native.Mathlib.Nat.{eq-or-lt-of-le, zero-add, add-zero, add-suc, suc-add}
 use native.Mathlib.Numerals.{add-one}
 use native.Mathlib.Omega.{arith}
-use lib.ListN.{length, getD, take, drop, length-map, length-append}
-use lib.Seq.{ext-getD, take-at, drop-cons}
-use lib.Dec.{eqb}
-use borrow.Author.Tests.{eqb-true, eq-eqb}
+use lib.ListN.{length, getD, drop, length-map}
+use lib.Seq.{ext-getD, drop-cons}
 use Rattle.lists.specs.Words.{isZero, countFrom, upTo, keep, any}
-use Rattle.lists.proofs.Laws.{both, length-countFrom, countFrom-append, mem-any, any-append, mem-keep, keep-mem, keep-none, mem-upTo, upTo-mem}
+use Rattle.lists.proofs.Laws.{both, length-countFrom, countFrom-append, mem-any, any-append, keep-none, upTo-mem}
 use Rattle.tables.specs.Project.{missing}
-use Rattle.tables.specs.Readings.{firstOf, rowsOf, valuesOf}
+use Rattle.tables.specs.Readings.{firstOf}
 
 -- the first that passes of a run of numbers is the lowest that passes
 pub first-keep : (f : ℕ → Bool) (i n x : ℕ) → i ≤ x → x < i + n → f x ≡ true
@@ -35,20 +33,6 @@ getD-map-from f i (suc n) (suc k) d l = getD-map-from f (suc i) n k d (omega ari
 
 pub getD-map-upTo : (f : ℕ → ℕ) (n k d : ℕ) → k < n → getD (map f (upTo n)) k d ≡ f k
 getD-map-upTo f n k d l = getD-map-from f 0 n k d l ∙ ap f (zero-add k)
-
--- the values of an owner, by their rows
-pub values-row : (owner column : List ℕ) (c d : ℕ) → List·Memᴰ d (valuesOf owner column c)
-    → (row : ℕ) × (row < length owner) × (getD owner row 0 ≡ c) × (getD column row 0 ≡ d)
-unfolding valuesOf rowsOf
-values-row owner column c d h =
-    let r = Memᴰ·of-map (λ (row : ℕ). getD column row 0) (keep (λ (row : ℕ). eqb (getD owner row 0) c) (upTo (length owner))) h in
-    let k = mem-keep (λ (row : ℕ). eqb (getD owner row 0) c) (upTo (length owner)) (r .1) in
-    (r .0, mem-upTo (k .0), eqb-true (getD owner (r .0) 0) c (k .1), r .2)
-
-pub row-values : (owner column : List ℕ) (row : ℕ) → row < length owner → List·Memᴰ (getD column row 0) (valuesOf owner column (getD owner row 0))
-unfolding valuesOf rowsOf
-row-values owner column row l =
-    Memᴰ·map (λ (r : ℕ). getD column r 0) (keep-mem (λ (r : ℕ). eqb (getD owner r 0) (getD owner row 0)) (upTo (length owner)) (upTo-mem l) (eq-eqb (getD owner row 0) (getD owner row 0) refl))
 
 -- a mark that is not 0 is in, and one that is 0 is out
 pub mark-in : (x : ℕ) → (x ≡ 0 → ⊥) → not (isZero x) ≡ true
@@ -72,13 +56,6 @@ pub map-upTo-self : (xs : List ℕ) (n : ℕ) → length xs ≡ n → map (λ (d
 map-upTo-self xs n e =
     ext-getD 0 (map (λ (d : ℕ). getD xs d 0) (upTo n)) xs (length-map-upTo (λ (d : ℕ). getD xs d 0) n ∙ sym e)
     (λ i l. getD-map-upTo (λ (d : ℕ). getD xs d 0) n i 0 (omega (arith, length-map-upTo (λ (d : ℕ). getD xs d 0) n)))
-
--- the front of a list that was put back in front of the rest
-pub front-room : (xs ys : List ℕ) (n : ℕ) → length xs ≡ n → n ≤ length (xs ++ ys)
-front-room xs ys n e = omega (arith, length-append xs ys)
-
-pub front-length : (xs ys : List ℕ) (n : ℕ) → length xs ≡ n → length (take n (xs ++ ys)) ≡ n
-front-length xs ys n e = ap length (take-at xs ys n e) ∙ e
 
 -- those that pass, from place i on
 pub keep-in : (f : ℕ → Bool) (xs : List ℕ) (i : ℕ) → i < length xs → f (getD xs i 0) ≡ true → length (keep f (drop i xs)) ≡ suc (length (keep f (drop (i + 1) xs)))

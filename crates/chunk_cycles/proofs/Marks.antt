@@ -1,25 +1,25 @@
--- Loops that visit, search and label: what is known between two turns, and at the end.
+-- Loops that visit and label: what is known between two turns, and at the end.
 -- Assumes nothing.
 use mathlib.Core.Path.{_≡_, refl, sym, ap, subst, _∙_}
-use mathlib.Core.Bool.{Bool, true, false, cond, _||_}
+use mathlib.Core.Bool.{Bool, true, false, cond}
 use mathlib.Core.List.{List, [], _∷_}
 use Prim.Native.Nat.{ℕ, _+_, _≤_, _<_}
 use native.Mathlib.Decide.{ℕ-discrete}
 use native.Mathlib.Omega.{arith}
 use lib.ListN.{length, getD, set, replicate, length-set, length-map}
 use lib.Seq.{getD-set-same, getD-set-other, ext-getD}
-use Rattle.lists.specs.Words.{isZero, upTo, any}
-use Rattle.lists.proofs.Laws.{any-append, mem-any, length-countFrom}
+use Rattle.lists.specs.Words.{isZero, upTo}
+use Rattle.lists.proofs.Laws.{length-countFrom}
 use Rattle.walk.specs.Walk.{St, everywhere, unmet, Visits}
 use Rattle.walk.proofs.Visits.{Grown, walk-fold}
 use Rattle.walk.proofs.Orders.{order-marks}
 use Rattle.walk.proofs.Going.{none-visited, met-visited, left-visited, visited-grown, visited-then, visited-walk}
 use Rattle.tables.specs.Readings.{valuesOf}
+use Rattle.tables.specs.Threads.{NextRow}
+use Rattle.tables.proofs.Threads.{At, at-next, passed, passed-first, passed-next, passed-all}
 use Rattle.chunk_cycles.specs.Cycles.{reached}
-use Rattle.chunk_cycles.specs.Threads.{NextRow}
 use Rattle.chunk_cycles.specs.Steps.{marking, nothing, Marked, reachMarks, relabelled}
-use Rattle.chunk_cycles.proofs.Lists.{getD-map-upTo, row-values}
-use Rattle.chunk_cycles.proofs.Threads.{At, at-next, passed, passed-first, passed-next, passed-all}
+use Rattle.chunk_cycles.proofs.Lists.{getD-map-upTo}
 
 -- visiting
 
@@ -70,33 +70,6 @@ module _ (from to : List ℕ) (m : ℕ) where
         left-visited succ everywhere nothing (marking old) (marking marks) m refl e
         (subst (λ (x : List ℕ). Visits succ everywhere nothing (marking x) (succ m) (marking marks)) q
         (subst (λ (x : List ℕ). Visits succ everywhere nothing (marking marks₀) x (marking marks)) (passed-all from to m row (omega (arith, g .place .within))) (g .so-far)))
-
-  -- searching: none of the rows of m before `row` passes
-
-  pub record Searching (f : ℕ → Bool) (row : ℕ) : Type 0 where
-    pub none : any f (passed from to m row) ≡ false
-    pub place : At from m row
-
-  module _ (f : ℕ → Bool) where
-    pub searching-start : (r : ℕ) → NextRow from m 0 r → Searching f r
-    searching-start r h = record { none = ap (any f) (passed-first from to m r h); place = at-next h }
-
-    module _ (row : ℕ) (g : Searching f row) where
-      pub searching-next : (r : ℕ) → row < length from → f (getD to row 0) ≡ false → NextRow from (getD from row 0) (row + 1) r → Searching f r
-      searching-next r l k h =
-          let e = g .place .mine l in
-          let h′ : NextRow from m (row + 1) r = rw e at h in
-          record {
-            none = ap (any f) (passed-next from to m row r e h′) ∙ any-append f (passed from to m row) (getD to row 0 ∷ []) ∙ ap (λ (b : Bool). b || any f (getD to row 0 ∷ [])) (g .none) ∙ ap (λ (b : Bool). cond b true false) k;
-            place = at-next h′;
-          }
-
-      pub searching-found : row < length from → f (getD to row 0) ≡ true → true ≡ any f (succ m)
-      searching-found l k =
-          sym (mem-any f (succ m) (subst (λ (x : ℕ). mathlib.Core.List.List·Memᴰ (getD to row 0) (valuesOf from to x)) (g .place .mine l) (row-values from to row l)) k)
-
-      pub searching-end : length from ≤ row → false ≡ any f (succ m)
-      searching-end l = sym (sym (ap (any f) (passed-all from to m row (omega (arith, g .place .within)))) ∙ g .none)
 
 -- labelling: the places below d are labelled anew
 

@@ -18,7 +18,8 @@ use Rattle.tables.specs.Readings.{chunks, valuesOf}
 use Rattle.chunk_cycles.specs.Cycles.{reached, connected, cyclic, label, labels, importedBy, labelsOf, labelAt, reachesCycleOf}
 use Rattle.chunk_cycles.specs.Paths.{Edge, Path*, stay, go, Path⁺, Connected, Cyclic, Lowest, MoreImports}
 use Rattle.chunk_cycles.specs.Graph.{Graph, ImportsFit}
-use Rattle.chunk_cycles.proofs.Lists.{getD-map-upTo, values-row, row-values}
+use Rattle.tables.proofs.OwnerRows.{values-row, row-values}
+use Rattle.chunk_cycles.proofs.Lists.{getD-map-upTo}
 use Rattle.chunk_cycles.proofs.Strong.{reached-reach, reach-reached, connected-reach, reach-connected, cyclic-cases, other-cyclic, edge-cyclic, cyclic-reach, reach-cyclic, lowest, lowest-least, lowest-connected, label-cyclic, label-none, same-label, label-same, cycle-reach, reach-cycle}
 
 -- edges of columns lead to places below n

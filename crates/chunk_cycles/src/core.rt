@@ -7,24 +7,10 @@ ghost use Rattle.tables.specs.Readings.{firstOf, valuesOf};
 ghost use Rattle.tables.specs.Refusal.{chunkLimit};
 ghost use Rattle.chunk_cycles.specs.Cycles.{labels as labelsOver, reachesCycle};
 ghost use Rattle.chunk_cycles.specs.Graph.{Graph};
-ghost use Rattle.chunk_cycles.specs.Threads.{Threadable, Threads, Linked, Threaded};
+ghost use Rattle.chunk_cycles.specs.Threads.{Linked, Threaded};
 ghost use Rattle.chunk_cycles.specs.Steps.{Marked, reachMarks, Numbered, inBoth, relabelled, componentLabelled, labelled, labelledAt, ChunksLabelled};
 use tables::ModuleIdx;
-
-// Threads the rows of each place: `heads` gets its first row, `nexts` the next row of the same place, or the end.
-pub fn thread(from: &[u32], heads: &mut [u32], nexts: &mut [u32])
-    requires { ⌜ Threadable (now from) (now heads) (now nexts) ⌝ }
-    ensures { λ _. ⌜ Threads (now (from .entry)) (now (heads .exit)) (now (nexts .exit)) ⌝ }
-{
-    let mut row = from.len();
-    lists::core::fill(heads, row as u32);
-    while 0 < row {
-        row -= 1;
-        let m = from[row] as usize;
-        nexts[row] = heads[m];
-        heads[m] = row as u32;
-    }
-}
+use tables::core::thread;
 
 // Marks m and all that it leads to.
 pub fn visit(from: &[u32], to: &[u32], heads: &[u32], nexts: &[u32], m: u32, marks: &mut [u32])

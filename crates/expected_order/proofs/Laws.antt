@@ -16,7 +16,7 @@ use Rattle.tables.specs.Readings.{isNormal, flagged, isImport, normalTarget, re
 use Rattle.tables.specs.declared.Target.{Target}
 use Rattle.tables.specs.declared.Target.the-variants.{Missing, External, Normal}
 use Rattle.expected_order.specs.Expected.{importsOf, reached, expected}
-use Rattle.expected_order.proofs.Rows.{normal-in, target-in}
+use Rattle.tables.proofs.Targets.{normal-in, target-in}
 
 -- what a member of the rows' lists is a member of
 flat-mem : {y : ℕ} (f : ℕ → List ℕ) (rows : List ℕ) → List·Memᴰ y (flatMap f rows) → (row : ℕ) × List·Memᴰ row rows × List·Memᴰ y (f row)

@@ -1,2 +1,3 @@
--- The laws of the words on lists.
+-- The laws of the words on lists, and of the front of an array.
 pub mod Laws
+pub mod Fronts

@@ -25,7 +25,7 @@ use Rattle.expected_order.proofs.Laws.{reached-path}
 use Rattle.actual_order.specs.LoadOrder.{loadOrder}
 use Rattle.actual_order.specs.Actual.{executes, triggered, unwrapped, eagerMembers, chunkOrder, hostsInTurn, runOf, actualOf}
 use Rattle.actual_order.proofs.Actuals.{mem-flat, run-order, turn-host}
-use Rattle.at_risk.specs.Marks.{sensitive, eligible}
+use Rattle.sensitivity.specs.Marks.{sensitive, eligible}
 use Rattle.at_risk.specs.Entry.{expectedSensitiveOf, actualSensitiveOf}
 use Rattle.wrap_rules.specs.Plan.{reached}
 use Rattle.wrap_rules.proofs.Rows.{mem-rows, flat-mem}

@@ -14,7 +14,7 @@ use Rattle.expected_order.specs.OfProject.{expectedOf}
 use Rattle.evaluation.specs.Premises.{requestedOf}
 use Rattle.evaluation.proofs.Witness.{meets-premises}
 use Rattle.evaluation.proofs.Expected.{evaluation-gives-the-expected-order}
-use Rattle.at_risk.specs.Marks.{sensitive}
+use Rattle.sensitivity.specs.Marks.{sensitive}
 use Rattle.at_risk.specs.Entry.{expectedSensitiveOf}
 use Rattle.promises.specs.Listing.{listing}
 use Rattle.promises.specs.Load.{normalImports, PlannedLoadKeepsTheOrder}

@@ -17,10 +17,10 @@ use Rattle.walk.proofs.Orders.{order-followed, reach-order}
 use Rattle.tables.specs.Project.{Project, missing}
 use Rattle.tables.specs.Readings.{modules, isNormal, wrapped, isImport, isEager, anyTarget, normalTarget, resolved, rowTargets, targetsOf, rowsOf, valuesOf, analysedRow, analysed, isAnalysed}
 use Rattle.tables.specs.declared.Target.the-variants.{Missing, External, Normal}
-use Rattle.expected_order.proofs.Rows.{normal-in}
+use Rattle.tables.proofs.Targets.{normal-in}
 use Rattle.actual_order.specs.Actual.{triggered}
 use Rattle.actual_order.proofs.Actuals.{mem-flat}
-use Rattle.at_risk.specs.Marks.{eligible}
+use Rattle.sensitivity.specs.Marks.{eligible}
 use Rattle.wrap_rules.specs.Rules.{importsOf, leads, importAsks}
 use Rattle.wrap_rules.specs.Plan.{reached, roots, importRule}
 use Rattle.wrap_rules.proofs.Rows.{mem-rows, flat-mem}

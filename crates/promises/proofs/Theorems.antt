@@ -24,10 +24,10 @@ use Rattle.expected_order.proofs.Laws.{expected-distinct}
 use Rattle.actual_order.specs.Actual.{runOf, actualOf, hostsOf, hostsInTurn}
 use Rattle.actual_order.specs.LoadOrder.{loadOrder}
 use Rattle.actual_order.proofs.Actuals.{run-distinct}
-use Rattle.at_risk.specs.Marks.{sensitive, eligible}
+use Rattle.sensitivity.specs.Marks.{sensitive, eligible}
 use Rattle.at_risk.specs.Risk.{isFlagged}
 use Rattle.at_risk.specs.Entry.{expectedSensitiveOf, actualSensitiveOf, riskOfEntry}
-use Rattle.at_risk.proofs.Marks.{eligible-in}
+use Rattle.sensitivity.proofs.Marks.{eligible-in}
 use Rattle.at_risk.proofs.Risks.{struck-same, flagged-risk}
 use Rattle.wrap_rules.specs.Rules.{fromFirst}
 use Rattle.wrap_rules.specs.Plan.{suffixRule, roots, asks}

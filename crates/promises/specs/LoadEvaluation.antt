@@ -9,7 +9,7 @@ use Rattle.tables.specs.Readings.{modules, isAnalysed}
 use Rattle.tables.specs.Refusal.{refusal}
 use Rattle.evaluation.specs.Premises.{evaluateFrom, Premises}
 use Rattle.actual_order.specs.Actual.{runOf}
-use Rattle.at_risk.specs.Marks.{sensitive}
+use Rattle.sensitivity.specs.Marks.{sensitive}
 use Rattle.promises.specs.Listing.{listing}
 use Rattle.promises.specs.Load.{plannedWraps, Plain}
 

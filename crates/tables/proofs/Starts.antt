@@ -1,7 +1,7 @@
 -- The first rows of all values: the rows' ends, and the greatest up to each place.
 -- Assumes nothing.
 use mathlib.Core.Path.{_≡_, ap}
-use mathlib.Core.Logic.{⊎-elim}
+use mathlib.Core.Logic.{_⊎_, ⊎-elim}
 use mathlib.Core.List.{List}
 use Prim.Native.Nat.{ℕ, _+_, _-_, _≤_, _<_}
 use native.Mathlib.Nat.{le-refl}
@@ -9,7 +9,8 @@ use native.Mathlib.Decide.{ℕ-discrete, decLt}
 use native.Mathlib.Omega.{arith}
 use lib.ListN.{length, getD, set, replicate, length-set, length-replicate, getD-replicate, List·getD-eq-default}
 use lib.Seq.{getD-set-same, getD-set-other}
-use Rattle.tables.specs.Lookups.{Rising, FirstRows, Greater, RowEnds}
+use Rattle.tables.specs.Lookups.{Rising, FirstRows, greaterOf, RowEnds}
+use Rattle.tables.proofs.Greater.{greater-first, greater-second, greater-one}
 
 zero-at : (n x : ℕ) → _≡_ {A = ℕ} (getD (replicate n 0) x 0) 0
 zero-at n x = go (decLt x n)
@@ -86,12 +87,21 @@ unfolding Carried
 carried-none xs starts y i h l b = absurd (omega arith)
 
 -- one place more takes the greater of its own start and the one before
-module _ (xs starts : List ℕ) (x v : ℕ) (ends : RowEnds xs starts (length xs)) (some : 1 ≤ x) (place : x < length starts) (most : Greater (getD starts (x - 1) 0) (getD starts x 0) v) where
+module _ (xs starts : List ℕ) (x v : ℕ) (ends : RowEnds xs starts (length xs)) (some : 1 ≤ x) (place : x < length starts) (most : v ≡ greaterOf (getD starts (x - 1) 0) (getD starts x 0)) where
+  first : getD starts (x - 1) 0 ≤ v
+  first = rw most (greater-first (getD starts (x - 1) 0) (getD starts x 0))
+
+  second : getD starts x 0 ≤ v
+  second = rw most (greater-second (getD starts (x - 1) 0) (getD starts x 0))
+
+  one : (v ≡ getD starts (x - 1) 0) ⊎ (v ≡ getD starts x 0)
+  one = rw most (greater-one (getD starts (x - 1) 0) (getD starts x 0))
+
   pub ends-carried : RowEnds xs (set starts x v) (length xs)
   ends-carried =
-      ends-raised xs starts (length xs) ends x v place (most .second) (length xs) (le-refl _)
-      (⊎-elim (λ e. omega (arith, ends .within (x - 1))) (λ e. omega (arith, ends .within x)) (most .one))
-      (λ i h. ⊎-elim (λ e. omega (arith, ends .below (x - 1) i (omega arith))) (λ e. ends .below x i (omega arith)) (most .one))
+      ends-raised xs starts (length xs) ends x v place second (length xs) (le-refl _)
+      (⊎-elim (λ e. omega (arith, ends .within (x - 1))) (λ e. omega (arith, ends .within x)) one)
+      (λ i h. ⊎-elim (λ e. omega (arith, ends .below (x - 1) i (omega arith))) (λ e. ends .below x i (omega arith)) one)
       (λ i h l. absurd (omega arith))
 
   pub carried-more : Carried xs starts x → Carried xs (set starts x v) (x + 1)
@@ -103,8 +113,8 @@ module _ (xs starts : List ℕ) (x v : ℕ) (ends : RowEnds xs starts (length xs
       go (yes e) = rw (e, getD-set-same starts x v 0 place) (last (ℕ-discrete (getD xs i 0 + 1) x))
         where
           last : Dec (getD xs i 0 + 1 ≡ x) → i < v
-          last (yes q) = omega (arith, ends .behind i l (omega arith), ap (λ (k : ℕ). getD starts k 0) q, most .second)
-          last (no q) = omega (arith, c (x - 1) i (omega arith) l (omega arith), most .first)
+          last (yes q) = omega (arith, ends .behind i l (omega arith), ap (λ (k : ℕ). getD starts k 0) q, second)
+          last (no q) = omega (arith, c (x - 1) i (omega arith) l (omega arith), first)
 
 pub carried-all : (xs starts : List ℕ) (x : ℕ) → length starts ≤ x → RowEnds xs starts (length xs) → Carried xs starts x → FirstRows xs starts
 unfolding Carried

@@ -1,10 +1,10 @@
 -- What the row look-ups ask and answer.
 -- Assumes nothing.
-use mathlib.Core.Path.{_≡_}
-use mathlib.Core.Logic.{_⊎_}
+use mathlib.Core.Bool.{cond}
 use mathlib.Core.List.{List}
 use Prim.Native.Nat.{ℕ, _+_, _≤_, _<_}
 use lib.ListN.{length, getD}
+use lib.Dec.{ltb}
 
 -- no row is below an earlier one
 unfoldable pub Rising : List ℕ → Type 0
@@ -20,11 +20,9 @@ pub record FirstRow (xs : List ℕ) (x r : ℕ) : Type 0 where
 pub record FirstRows (xs starts : List ℕ) : Type 0 where
   pub firsts : (x : ℕ) → x < length starts → FirstRow xs x (getD starts x 0)
 
--- r is the greater of two
-pub record Greater (a b r : ℕ) : Type 0 where
-  pub first : a ≤ r
-  pub second : b ≤ r
-  pub one : (r ≡ a) ⊎ (r ≡ b)
+-- the greater of two
+abbrev pub greaterOf : ℕ → ℕ → ℕ
+greaterOf a b = cond (ltb a b) b a
 
 -- of the rows before n: before a start are rows of lower values alone, and each row is before the next value's start
 pub record RowEnds (xs starts : List ℕ) (n : ℕ) : Type 0 where

@@ -2,8 +2,9 @@
 ghost use mathlib.Core.Path.{_≡_};
 ghost use Prim.Native.Nat.{ℕ, _<_, _≤_};
 ghost use lib.ListN.{length};
-ghost use Rattle.tables.specs.Lookups.{Rising, FirstRow, FirstRows, Greater, RowEnds};
+ghost use Rattle.tables.specs.Lookups.{Rising, FirstRow, FirstRows, greaterOf, RowEnds};
 ghost use Rattle.tables.specs.Readings.{isStatic, resolved};
+ghost use Rattle.tables.specs.Threads.{Threadable, Threads};
 use crate::ModuleIdx;
 use crate::Target;
 use lists::core::fill;
@@ -28,7 +29,7 @@ pub fn first_row(column: &[u32], x: usize) -> usize
 
 // The greater of two.
 pub fn greater(a: u32, b: u32) -> u32
-    ensures { λ r. ⌜ Greater a b r ⌝ }
+    ensures { λ r. ⌜ r ≡ greaterOf a b ⌝ }
 {
     if a < b {
         return b;
@@ -61,6 +62,21 @@ pub fn first_rows(column: &[u32], starts: &mut [u32])
     row_ends(column, starts);
     for x in 1..starts.len() {
         starts[x] = greater(starts[x - 1], starts[x]);
+    }
+}
+
+// Threads the rows of each place: `heads` gets its first row, `nexts` the next row of the same place, or the end.
+pub fn thread(from: &[u32], heads: &mut [u32], nexts: &mut [u32])
+    requires { ⌜ Threadable (now from) (now heads) (now nexts) ⌝ }
+    ensures { λ _. ⌜ Threads (now (from .entry)) (now (heads .exit)) (now (nexts .exit)) ⌝ }
+{
+    let mut row = from.len();
+    fill(heads, row as u32);
+    while 0 < row {
+        row -= 1;
+        let m = from[row] as usize;
+        nexts[row] = heads[m];
+        heads[m] = row as u32;
     }
 }
 

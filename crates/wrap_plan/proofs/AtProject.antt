@@ -23,9 +23,9 @@ use Rattle.chunk_cycles.proofs.Lists.{getD-in, getD-map-upTo, length-map-upTo, 
 use Rattle.chunk_cycles.proofs.Paths.{graph-inside}
 use Rattle.chunk_cycles.proofs.Promises.{accepted-fit}
 use Rattle.chunk_cycles.proofs.Strong.{lowest-in, label-cyclic, label-none}
-use Rattle.at_risk.specs.Marks.{sensitive, eligible}
+use Rattle.sensitivity.specs.Marks.{sensitive, eligible}
 use Rattle.at_risk.specs.Entry.{expectedSensitiveOf}
-use Rattle.at_risk.proofs.Marks.{eligible-in, marks-test, eligible-marks, sensitive-marks}
+use Rattle.sensitivity.proofs.Marks.{eligible-in, marks-test, eligible-marks, sensitive-marks}
 use Rattle.wrap_rules.specs.Rules.{suffixAsks, sameComponent, importsOf, leads, chainTouches, symbolTouches, referenceTouches}
 use Rattle.wrap_rules.specs.Plan.{suffixRule, componentRule, importRule, readRule, roots, reached, asks}
 use Rattle.wrap_plan.specs.Planned.{ordersOf}

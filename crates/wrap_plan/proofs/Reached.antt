@@ -25,8 +25,8 @@ use Rattle.tables.specs.Accepted.{Accepted}
 use Rattle.tables.proofs.Accepted.{getD-mem}
 use Rattle.actual_order.proofs.Actuals.{mem-flat}
 use Rattle.chunk_cycles.proofs.Lists.{mark-in}
-use Rattle.at_risk.specs.Marks.{eligible}
-use Rattle.at_risk.proofs.Marks.{eligible-normal, eligible-in}
+use Rattle.sensitivity.specs.Marks.{eligible}
+use Rattle.sensitivity.proofs.Marks.{eligible-normal, eligible-in}
 use Rattle.wrap_rules.specs.Rules.{importsOf}
 use Rattle.wrap_rules.specs.Plan.{roots, reached}
 use Rattle.wrap_rules.specs.Steps.{looked, importTargets, Owners}

@@ -15,7 +15,7 @@ use Rattle.tables.specs.Accepted.{Below}
 use Rattle.tables.proofs.Accepted.{getD-mem}
 use Rattle.chunk_cycles.specs.Cycles.{labelsOf}
 use Rattle.chunk_cycles.specs.Threads.{Linked}
-use Rattle.at_risk.specs.Marks.{eligible}
+use Rattle.sensitivity.specs.Marks.{eligible}
 use Rattle.wrap_rules.specs.Rules.{suffixAsks}
 use Rattle.wrap_rules.specs.Plan.{suffixRule, componentRule, importRule, readRule, roots, reached, asks, asked}
 use Rattle.wrap_plan.specs.Planned.{ordersOf}

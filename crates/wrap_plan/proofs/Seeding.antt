@@ -16,9 +16,9 @@ use Rattle.tables.specs.Readings.{modules, chunks, valuesOf}
 use Rattle.tables.specs.Accepted.{Accepted}
 use Rattle.tables.proofs.Accepted.{getD-mem}
 use Rattle.chunk_cycles.specs.Cycles.{labels, importedBy, labelsOf}
-use Rattle.at_risk.specs.Marks.{usesWrapped, isSensitive, isEligible, sensitive, eligible}
-use Rattle.at_risk.specs.Index.{Records, Flags, Statements, Kinds, UseRows}
-use Rattle.at_risk.proofs.Marks.{eligible-in}
+use Rattle.sensitivity.specs.Marks.{usesWrapped, isSensitive, isEligible, sensitive, eligible}
+use Rattle.sensitivity.specs.Ready.{Records, Flags, Statements, Kinds, UseRows}
+use Rattle.sensitivity.proofs.Marks.{eligible-in}
 use Rattle.wrap_rules.specs.Plan.{start, planFrom, asked}
 use Rattle.wrap_plan.specs.Planned.{ordersOf, planOf}
 use Rattle.wrap_rules.specs.Steps.{looked, Owners}

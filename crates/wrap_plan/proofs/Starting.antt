@@ -12,7 +12,7 @@ use Rattle.tables.specs.Readings.{modules}
 use Rattle.tables.specs.Accepted.{Accepted}
 use Rattle.wrap_rules.specs.Plan.{roots}
 use Rattle.wrap_rules.specs.Steps.{importTargets}
-use Rattle.chunk_cycles.specs.Threads.{Threads}
+use Rattle.tables.specs.Threads.{Threads}
 use Rattle.wrap_rules.specs.Spread.{Along, Under, Edges}
 use Rattle.wrap_rules.specs.Suffix.{Settled}
 use Rattle.wrap_rules.specs.Roots.{rootsOver, Written, Chosen}

@@ -11,8 +11,8 @@ use Rattle.tables.specs.Project.{Project}
 use Rattle.tables.specs.Readings.{modules}
 use Rattle.tables.specs.Accepted.{Accepted}
 use Rattle.chunk_cycles.specs.Cycles.{labelsOf}
-use Rattle.chunk_cycles.specs.Threads.{Threads}
-use Rattle.at_risk.specs.Marks.{sensitive, eligible}
+use Rattle.tables.specs.Threads.{Threads}
+use Rattle.sensitivity.specs.Marks.{sensitive, eligible}
 use Rattle.wrap_rules.specs.Plan.{roots, reached, asked}
 use Rattle.wrap_plan.specs.Planned.{ordersOf, planOf}
 use Rattle.wrap_rules.specs.Passes.{Passed}

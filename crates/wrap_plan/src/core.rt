@@ -2,12 +2,12 @@
 ghost use Prim.Native.Nat.{_≤_};
 ghost use lib.ListN.{length};
 ghost use Rattle.wrap_plan.specs.Closing.{whole, Ready, Once, Finished, Rooted, ClosedFrom, withEntries, Plannable, PlanClosed, Seedable, SeedsPlanned, filled, Acceptable, PlanCounted};
-use at_risk::core::mark_eligible;
-use at_risk::core::mark_sensitive;
 use chunk_cycles::core::label_chunks;
-use chunk_cycles::core::thread;
 use lists::core::count_marked;
 use lists::core::fill;
+use sensitivity::core::mark_eligible;
+use sensitivity::core::mark_sensitive;
+use tables::core::thread;
 use wrap_rules::component::close_cyclic_chunk_members;
 use wrap_rules::imports::close_static_importers;
 use wrap_rules::reads::close_top_level_readers;

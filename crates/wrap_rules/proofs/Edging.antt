@@ -12,7 +12,8 @@ use Rattle.lists.specs.Words.{has}
 use Rattle.lists.proofs.Laws.{has-in}
 use Rattle.walk.specs.Close.{Within}
 use Rattle.tables.specs.Project.{missing}
-use Rattle.chunk_cycles.specs.Threads.{Threadable, Threads, Linked}
+use Rattle.tables.specs.Threads.{Threadable, Threads}
+use Rattle.chunk_cycles.specs.Threads.{Linked}
 use Rattle.wrap_rules.specs.Spread.{Along, Under, Spreads, Spreadable, ModuleGraph, EdgesBelow, Edges}
 use Rattle.wrap_rules.specs.Asked.{Row}
 use Rattle.wrap_rules.specs.Roots.{Chosen}

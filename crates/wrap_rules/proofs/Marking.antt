@@ -12,8 +12,9 @@ use lib.Seq.{getD-set-same, getD-set-other}
 use Rattle.lists.specs.Words.{isZero, has, ones}
 use Rattle.lists.proofs.Laws.{has-in}
 use Rattle.walk.specs.Close.{Within}
-use Rattle.tables.specs.Lookups.{Greater}
+use Rattle.tables.specs.Lookups.{greaterOf}
 use Rattle.tables.specs.Project.{missing}
+use Rattle.tables.proofs.Greater.{greater-first, greater-second, greater-one}
 use Rattle.chunk_cycles.proofs.Lists.{mark-in, mark-out, getD-in}
 use Rattle.wrap_rules.specs.Steps.{looked, Owners, InAll}
 use Rattle.wrap_rules.specs.Asked.{Marks, Together, Row, Importer, ChainTouch, SymbolTouch, ReferenceTouch, Touching, bySymbol, byDepended, Reader, TopLevelRead}
@@ -136,24 +137,33 @@ chains-marked owner chainSymbol chainLink S chains₀ chains links start o = rec
 
 -- the marks of the symbols below y: each the greater of its own and its canonical's
 abbrev pub Joined : List ℕ → List ℕ → ℕ → List ℕ → Type 0
-Joined canonical chains y symbols = (i : ℕ) → i < y → Greater (getD chains i 0) (getD chains (getD canonical i 0) 0) (getD symbols i 0)
+Joined canonical chains y symbols = (i : ℕ) → i < y → getD symbols i 0 ≡ greaterOf (getD chains i 0) (getD chains (getD canonical i 0) 0)
 
 module _ (canonical chains : List ℕ) (y : ℕ) (symbols : List ℕ) where
-  pub joined-put : (v : ℕ) → Joined canonical chains y symbols → y < length symbols → Greater (getD chains y 0) (getD chains (getD canonical y 0) 0) v → Joined canonical chains (y + 1) (set symbols y v)
+  pub joined-put : (v : ℕ) → Joined canonical chains y symbols → y < length symbols → v ≡ greaterOf (getD chains y 0) (getD chains (getD canonical y 0) 0) → Joined canonical chains (y + 1) (set symbols y v)
   joined-put v g l e i k = go (ℕ-discrete i y)
     where
-      go : Dec (i ≡ y) → Greater (getD chains i 0) (getD chains (getD canonical i 0) 0) (getD (set symbols y v) i 0)
-      go (yes q) = subst (λ (x : ℕ). Greater (getD chains x 0) (getD chains (getD canonical x 0) 0) (getD (set symbols y v) x 0)) (sym q) (rw (getD-set-same symbols y v 0 l) e)
+      go : Dec (i ≡ y) → getD (set symbols y v) i 0 ≡ greaterOf (getD chains i 0) (getD chains (getD canonical i 0) 0)
+      go (yes q) = subst (λ (x : ℕ). getD (set symbols y v) x 0 ≡ greaterOf (getD chains x 0) (getD chains (getD canonical x 0) 0)) (sym q) (getD-set-same symbols y v 0 l ∙ e)
       go (no n) = rw (getD-set-other symbols y i v 0 n) (g i (omega arith))
 
   pub joined-marks : Joined canonical chains y symbols → length symbols ≤ y → Marks (λ (i : ℕ). (has chains i ≡ true) ⊎ (has chains (getD canonical i 0) ≡ true)) symbols
   joined-marks g l = record {
     only = λ i e.
         ⊎-elim (λ q. inl (ap (λ (x : ℕ). not (isZero x)) (sym q) ∙ e)) (λ q. inr (ap (λ (x : ℕ). not (isZero x)) (sym q) ∙ e))
-        (g i (omega (arith, has-in symbols i e)) .one);
-    all = λ i k h. let m = g i (omega arith) in ⊎-elim (λ e. more e (m .first)) (λ e. more e (m .second)) h;
+        (one-of i (omega (arith, has-in symbols i e)));
+    all = λ i k h. let m = g i (omega arith) in ⊎-elim (λ e. more e (rw m (greater-first (own i) (other i)))) (λ e. more e (rw m (greater-second (own i) (other i)))) h;
   }
     where
+      own : ℕ → ℕ
+      own i = getD chains i 0
+
+      other : ℕ → ℕ
+      other i = getD chains (getD canonical i 0) 0
+
+      one-of : (i : ℕ) → i < y → (getD symbols i 0 ≡ own i) ⊎ (getD symbols i 0 ≡ other i)
+      one-of i b = rw (g i b) (greater-one (own i) (other i))
+
       more : {a b : ℕ} → not (isZero a) ≡ true → a ≤ b → not (isZero b) ≡ true
       more {a} {b} e k = mark-in b (λ z. true≢false (sym e ∙ mark-out a (omega arith)))
 

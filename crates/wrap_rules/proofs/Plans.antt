@@ -14,8 +14,8 @@ use Rattle.walk.specs.Close.{Within, Closed, Bits}
 use Rattle.walk.proofs.Closes.{close-len, close-bits, close-closed, close-more, close-least, close-unique, close-rises}
 use Rattle.tables.specs.Project.{Project}
 use Rattle.tables.specs.Readings.{modules, isImport, normalTarget, targetsOf}
-use Rattle.at_risk.specs.Marks.{sensitive, eligible}
-use Rattle.at_risk.proofs.Marks.{eligible-in, marks-test}
+use Rattle.sensitivity.specs.Marks.{sensitive, eligible}
+use Rattle.sensitivity.proofs.Marks.{eligible-in, marks-test}
 use Rattle.wrap_rules.specs.Rules.{suffixAsks, componentAsks, importAsks, readAsks}
 use Rattle.wrap_rules.specs.Plan.{Rule, suffixRule, componentRule, importRule, readRule, roots, reached, asks, asked, start, planFrom}
 use Rattle.wrap_rules.proofs.Lists.{marksOf-bits}

@@ -15,7 +15,7 @@ use Rattle.lists.proofs.Laws.{both, and-parts, and-join, any-mem, mem-any, elem
 use Rattle.tables.specs.Project.{Project, missing}
 use Rattle.tables.specs.Readings.{modules, isNormal, flagged, isImport, resolved, anyTarget, rowTargets, targetsOf, rowsOf, valuesOf}
 use Rattle.tables.proofs.Accepted.{getD-mem}
-use Rattle.chunk_cycles.proofs.Lists.{values-row, row-values}
+use Rattle.tables.proofs.OwnerRows.{values-row, row-values}
 use Rattle.actual_order.proofs.Actuals.{mem-flat}
 use Rattle.wrap_rules.specs.Rules.{fromFirst, suffixAsks, sameComponent, componentAsks, importsOf, leads, importAsks, referenceTouches, readAsks}
 

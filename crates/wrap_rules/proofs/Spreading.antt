@@ -18,7 +18,7 @@ use Rattle.walk.proofs.Visits.{Grown, stays, fresh-zero, fresh-not}
 use Rattle.walk.proofs.Orders.{visited-met, visited-followed, visited-reach}
 use Rattle.tables.specs.Readings.{valuesOf}
 use Rattle.chunk_cycles.specs.Steps.{nothing, Marked}
-use Rattle.chunk_cycles.proofs.Lists.{values-row, row-values}
+use Rattle.tables.proofs.OwnerRows.{values-row, row-values}
 use Rattle.chunk_cycles.proofs.Marks.{marked-grown}
 use Rattle.wrap_rules.specs.Spread.{Along, Under, Spreads, Spreadable}
 

@@ -13,9 +13,10 @@ use Rattle.lists.specs.Words.{isZero, upTo, has}
 use Rattle.lists.proofs.Laws.{has-in}
 use Rattle.walk.specs.Close.{Within, Bits}
 use Rattle.walk.proofs.Visits.{fresh-zero, set-zeros, set-bits}
-use Rattle.tables.specs.Lookups.{Greater}
+use Rattle.tables.specs.Lookups.{greaterOf}
 use Rattle.tables.specs.Project.{missing}
 use Rattle.tables.specs.Readings.{isImport}
+use Rattle.tables.proofs.Greater.{greater-first, greater-second, greater-one}
 use Rattle.chunk_cycles.proofs.Lists.{mark-in, mark-out, getD-map-upTo, length-map-upTo}
 use Rattle.wrap_rules.specs.Steps.{looked, importTargets, Raised, Owners, Adding, Added}
 use Rattle.wrap_rules.proofs.Passes.{has-set, set-has}
@@ -49,14 +50,17 @@ set-in t m l = ap (λ (x : ℕ). not (isZero x)) (getD-set-same t m 1 0 l)
 
 -- raising a mark
 
-pub raised-put : (m x y : ℕ) (s : List ℕ) → Greater x (getD s m 0) y → Raised m x s (set s m y)
+pub raised-put : (m x y : ℕ) (s : List ℕ) → y ≡ greaterOf x (getD s m 0) → Raised m x s (set s m y)
 raised-put m x y s g = record {
   len = length-set s m y;
-  there = λ l. rw (getD-set-same s m y 0 l) g;
+  there = λ l. getD-set-same s m y 0 l ∙ g;
   other = λ i n. getD-set-other s m i y 0 n;
 }
 
 module _ {m x : ℕ} {s t : List ℕ} (r : Raised m x s t) where
+  one-of : m < length s → (getD t m 0 ≡ x) ⊎ (getD t m 0 ≡ getD s m 0)
+  one-of l = rw (r .there l) (greater-one x (getD s m 0))
+
   -- what was in stays
   pub raised-old : Within s t
   unfolding Within
@@ -66,12 +70,12 @@ module _ {m x : ℕ} {s t : List ℕ} (r : Raised m x s t) where
       go (yes q) =
           let l : m < length s = rw q at (has-in s i e) in
           let n : getD s m 0 ≡ 0 → ⊥ = λ z. true≢false (sym e ∙ mark-out (getD s i 0) (rw (sym q) at z)) in
-          rw q (mark-in (getD t m 0) (λ z. n (omega (arith, r .there l .second))))
+          rw q (mark-in (getD t m 0) (λ z. n (omega (arith, r .there l, greater-second x (getD s m 0)))))
       go (no n) = ap (λ (y : ℕ). not (isZero y)) (r .other i n) ∙ e
 
   -- the place comes in where the mark isn't 0
   pub raised-new : not (isZero x) ≡ true → m < length s → has t m ≡ true
-  raised-new e l = mark-in (getD t m 0) (λ z. true≢false (sym e ∙ mark-out x (omega (arith, r .there l .first))))
+  raised-new e l = mark-in (getD t m 0) (λ z. true≢false (sym e ∙ mark-out x (omega (arith, r .there l, greater-first x (getD s m 0)))))
 
   -- and nothing else does
   pub raised-only : (i : ℕ) → has t i ≡ true → (has s i ≡ true) ⊎ ((i ≡ m) × (not (isZero x) ≡ true))
@@ -83,7 +87,7 @@ module _ {m x : ℕ} {s t : List ℕ} (r : Raised m x s t) where
           let l : m < length s = rw (r .len) at (has-in t m e′) in
           ⊎-elim (λ k. inr (q, ap (λ (y : ℕ). not (isZero y)) (sym k) ∙ e′))
           (λ k. inl (rw q (ap (λ (y : ℕ). not (isZero y)) (sym k) ∙ e′)))
-          (r .there l .one)
+          (one-of l)
       go (no n) = inl (ap (λ (y : ℕ). not (isZero y)) (sym (r .other i n)) ∙ e)
 
   pub raised-bits : x ≤ 1 → Bits s → Bits t
@@ -92,7 +96,7 @@ module _ {m x : ℕ} {s t : List ℕ} (r : Raised m x s t) where
     where
       go : Dec (i ≡ m) → Dec (i < length s) → getD t i 0 ≤ 1
       go (yes q) (yes l) =
-          ⊎-elim (λ k. let h : getD t i 0 ≡ x = rw q k in omega arith) (λ k. let h : getD t i 0 ≡ getD s i 0 = rw q k in omega (arith, b i)) (r .there (rw q at l) .one)
+          ⊎-elim (λ k. let h : getD t i 0 ≡ x = rw q k in omega arith) (λ k. let h : getD t i 0 ≡ getD s i 0 = rw q k in omega (arith, b i)) (one-of (rw q at l))
       go (no n) l = let h = r .other i n in omega (arith, b i)
       go (yes q) (no l) = let h : getD t i 0 ≡ 0 = List·getD-eq-default t 0 (omega (arith, r .len)) in omega arith
 

@@ -15,7 +15,7 @@ use Rattle.lists.proofs.Laws.{both, not-true, and-parts, and-join, or-parts, or
 use Rattle.tables.specs.Project.{Project, missing}
 use Rattle.tables.specs.Readings.{valuesOf}
 use Rattle.tables.specs.Accepted.{Accepted}
-use Rattle.chunk_cycles.proofs.Lists.{values-row, row-values}
+use Rattle.tables.proofs.OwnerRows.{values-row, row-values}
 use Rattle.wrap_rules.specs.Rules.{chainTouches, symbolTouches, referenceTouches}
 
 -- a row of a column is the same whatever stands for a missing row

@@ -9,7 +9,7 @@ use Rattle.walk.specs.Walk.{everywhere, postOrder}
 use Rattle.walk.specs.Close.{close}
 use Rattle.tables.specs.Project.{Project}
 use Rattle.tables.specs.Readings.{modules, isImport, normalTarget, targetsOf, analysed}
-use Rattle.at_risk.specs.Marks.{sensitive, eligible}
+use Rattle.sensitivity.specs.Marks.{sensitive, eligible}
 use Rattle.wrap_rules.specs.Rules.{suffixAsks, componentAsks, importAsks, readAsks}
 
 -- the modules of the analysed entries, in row order

@@ -8,7 +8,7 @@ use Prim.Native.Nat.{ℕ, _≤_, _<_}
 use lib.ListN.{length, getD}
 use Rattle.lists.specs.Words.{upTo, has, zeros}
 use Rattle.walk.specs.Close.{Within, Bits}
-use Rattle.tables.specs.Lookups.{Greater}
+use Rattle.tables.specs.Lookups.{greaterOf}
 use Rattle.tables.specs.Project.{missing}
 use Rattle.tables.specs.Readings.{isImport}
 
@@ -23,7 +23,7 @@ importTargets kind target = map (λ (row : ℕ). cond (isImport (getD kind row 0
 -- t is s with at least x at place m, where it has one
 pub record Raised (m x : ℕ) (s t : List ℕ) : Type 0 where
   pub len : length t ≡ length s
-  pub there : m < length s → Greater x (getD s m 0) (getD t m 0)
+  pub there : m < length s → getD t m 0 ≡ greaterOf x (getD s m 0)
   pub other : (i : ℕ) → (i ≡ m → ⊥) → getD t i 0 ≡ getD s i 0
 
 -- t is s with the owners of the first `count` rows that are marked, where they have a place

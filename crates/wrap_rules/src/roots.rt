@@ -10,8 +10,8 @@ ghost use Rattle.wrap_rules.specs.Roots.{rootsOver, Written, Reaching, C
 use crate::marks::add;
 use crate::marks::mark_owners;
 use crate::spread::spread;
-use chunk_cycles::core::thread;
 use tables::ModuleIdx;
+use tables::core::thread;
 
 // Lists the modules of the analysed entries. How many there are.
 pub fn list_roots(included: &[u32], entry: &[u32], entry_chunk: &[u32], roots: &mut [u32]) -> usize

@@ -12,7 +12,7 @@ use Rattle.actual_order.specs.Cores.{Fit, Members}
 use Rattle.actual_order.proofs.Actuals.{run-hosts-length}
 use Rattle.at_risk.specs.Ready.{run}
 use Rattle.at_risk.specs.Steps.{join, Order, Columns, atRisk}
-use Rattle.at_risk.proofs.Lists.{front-room, front-length}
+use Rattle.lists.proofs.Fronts.{front-room, front-length}
 use Rattle.at_risk.proofs.Listed.{actual-order}
 use borrow.Author.Needs.{needs}
 use Rattle.at_risk.proofs.entries.add_by_expected.Statement.{statement}

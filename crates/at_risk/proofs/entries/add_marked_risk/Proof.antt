@@ -15,7 +15,7 @@ use Rattle.chunk_cycles.specs.Cycles.{labels as labelled, reachesCycle}
 use Rattle.chunk_cycles.specs.Graph.{Graph}
 use Rattle.at_risk.specs.Ready.{run, Labelled}
 use Rattle.at_risk.specs.Steps.{join, atRisk}
-use Rattle.at_risk.proofs.Lists.{front-room, front-length}
+use Rattle.lists.proofs.Fronts.{front-room, front-length}
 use borrow.Author.Needs.{needs}
 use Rattle.at_risk.proofs.entries.add_marked_risk.Statement.{statement}
 use Rattle.at_risk.proofs.entries.add_marked_risk.Tie as tie

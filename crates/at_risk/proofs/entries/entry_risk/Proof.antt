@@ -9,16 +9,17 @@ use lib.ListN.{length, take, drop, replicate}
 use lib.Seq.{length-take-le, take-at}
 use Rattle.lists.specs.Words.{marksOf}
 use Rattle.actual_order.specs.Cores.{Fit, Members}
-use Rattle.at_risk.specs.Marks.{isSensitive, isEligible, usesWrapped}
-use Rattle.at_risk.proofs.Lists.{front-room, front-length}
-use Rattle.at_risk.proofs.Marked.{is-sensitive-in, is-eligible-in, marked-risk}
+use Rattle.sensitivity.specs.Marks.{isSensitive, isEligible, usesWrapped}
+use Rattle.lists.proofs.Fronts.{front-room, front-length}
+use Rattle.at_risk.proofs.Marked.{marked-risk}
+use Rattle.sensitivity.proofs.Marks.{is-sensitive-in, is-eligible-in}
 use borrow.Author.Needs.{needs}
 use Rattle.at_risk.proofs.entries.entry_risk.Statement.{statement}
 use Rattle.at_risk.proofs.entries.entry_risk.Tie as tie
 use Rattle.at_risk.proofs.entries.entry_risk.Reads as reads
 use Rattle.at_risk.proofs.entries.entry_risk.Lts as lts
-use Rattle.at_risk.proofs.core.mark_eligible.Reads as mark-eligible-reads
-use Rattle.at_risk.proofs.core.mark_sensitive.Reads as mark-sensitive-reads
+use Rattle.sensitivity.proofs.core.mark_eligible.Reads as mark-eligible-reads
+use Rattle.sensitivity.proofs.core.mark_sensitive.Reads as mark-sensitive-reads
 use Rattle.at_risk.proofs.entries.add_marked_risk.Reads as add-marked-risk-reads
 use Rattle.lists.proofs.core.count_marked.Reads as count-marked-reads
 use Rattle.lists.proofs.core.fill.Reads as fill-reads

@@ -2,15 +2,15 @@
 -- Assumes nothing.
 use mathlib.Core.Path.{_≡_, refl, sym, ap, subst, _∙_}
 use mathlib.Core.Bool.{Bool, _||_}
-use mathlib.Core.List.{List, _++_}
-use Prim.Native.Nat.{ℕ, _≤_, _<_}
+use mathlib.Core.List.{List, _∷_, _++_}
+use Prim.Native.Nat.{ℕ, zero, suc, _≤_, _<_}
 use native.Mathlib.Omega.{arith}
 use lib.ListN.{length, take, drop, replicate}
 use lib.Seq.{length-take-le, take-at}
 use Rattle.lists.specs.Words.{keep, has}
+use Rattle.lists.proofs.Fronts.{front-room, front-length}
 use Rattle.at_risk.specs.Risk.{orderRisk}
 use Rattle.at_risk.specs.Steps.{join, listed, putsOf, unmet, overtaken, Ranked, Order, Columns}
-use Rattle.at_risk.proofs.Lists.{front-room, front-length, take-replicate}
 use Rattle.at_risk.proofs.OrderRisk.{passed-risk}
 use borrow.Author.Needs.{needs}
 use Rattle.at_risk.proofs.orders.add_order_risk.Statement.{statement}
@@ -24,6 +24,12 @@ use Rattle.at_risk.proofs.orders.place_sensitive.Reads as place-sensiti
 
 abbrev room : List ℕ
 room = replicate 4096 0
+
+-- the front of an array of one value
+take-replicate : (n k x : ℕ) → take n (replicate k x) ≡ replicate (length (take n (replicate k x))) x
+take-replicate zero k x = refl
+take-replicate (suc n) zero x = refl
+take-replicate (suc n) (suc k) x = ap (λ (l : List ℕ). x ∷ l) (take-replicate n k x)
 
 abbrev entry : tie.After-places → tie.Start
 entry c = c .before .before .before .before .before .before .before

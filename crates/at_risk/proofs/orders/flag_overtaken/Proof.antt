@@ -10,8 +10,9 @@ use lib.Dec.{ltb}
 use borrow.Author.Needs.{needs}
 use borrow.Author.Tests.{lt-ltb, le-ltb}
 use Rattle.lists.specs.Words.{keep, has}
+use Rattle.tables.specs.Lookups.{greaterOf}
 use Rattle.at_risk.specs.Risk.{before}
-use Rattle.at_risk.specs.Early.{raise, highest}
+use Rattle.at_risk.specs.Early.{highest}
 use Rattle.at_risk.specs.Steps.{join, puts, overtaken}
 use Rattle.at_risk.proofs.Puts.{has-not, has-yes}
 use Rattle.at_risk.proofs.Running.{keep-out, highest-in, overtaken-at}
@@ -21,7 +22,7 @@ use Rattle.at_risk.proofs.orders.flag_overtaken.Tie as tie
 use Rattle.at_risk.proofs.orders.flag_overtaken.Reads as reads
 use Rattle.at_risk.proofs.orders.flag_overtaken.Lts as lts
 use Rattle.at_risk.proofs.orders.flag.Reads as flag-reads
-use Rattle.at_risk.proofs.orders.larger.Reads as larger-reads
+use Rattle.tables.proofs.core.greater.Reads as greater-reads
 
 abbrev Inv-loop : tie.InvT-loop
 Inv-loop expected sensitive places hosts eligible out₀ latest₀ k₀ k-end out latest k =
@@ -33,12 +34,12 @@ abbrev μ-loop : tie.MeasureT-loop
 
 -- src/orders.rt:104:5
 abbrev In : Type 0
-In = lts.In-loop (larger-reads.Asked, larger-reads.Learnt, flag-reads.Asked, flag-reads.Learnt) reads.Pre reads.Post Inv-loop μ-loop
+In = lts.In-loop (greater-reads.Asked, greater-reads.Learnt, flag-reads.Asked, flag-reads.Learnt) reads.Pre reads.Post Inv-loop μ-loop
 
 abbrev Loop : Type 0
-Loop = lts.At-loop (larger-reads.Asked, larger-reads.Learnt, flag-reads.Asked, flag-reads.Learnt) reads.Pre reads.Post Inv-loop μ-loop
+Loop = lts.At-loop (greater-reads.Asked, greater-reads.Learnt, flag-reads.Asked, flag-reads.Learnt) reads.Pre reads.Post Inv-loop μ-loop
 
-abbrev entry : Loop → lts.Start (larger-reads.Asked, larger-reads.Learnt, flag-reads.Asked, flag-reads.Learnt) reads.Pre reads.Post Inv-loop μ-loop
+abbrev entry : Loop → lts.Start (greater-reads.Asked, greater-reads.Learnt, flag-reads.Asked, flag-reads.Learnt) reads.Pre reads.Post Inv-loop μ-loop
 entry l = l .before .before .before .before .before .before .before
 
 abbrev test : Loop → ℕ → Bool
@@ -67,12 +68,12 @@ skip i e = let l = i .before in added-skip (test l) (put l) (entry l .args .expe
 
 -- past a sensitive member, the greatest place
 raised : (i : In) (next : ℕ) → has (entry (i .before) .args .sensitive .now) (member (i .before)) ≡ true
-    → next ≡ raise (i .before .loop .latest) (getD (entry (i .before) .args .places .now) (member (i .before)) 0) → next ≡ highest-to (i .before) (i .before .loop .k + 1)
+    → next ≡ greaterOf (i .before .loop .latest) (getD (entry (i .before) .args .places .now) (member (i .before)) 0) → next ≡ highest-to (i .before) (i .before .loop .k + 1)
 raised i next e h =
     let l = i .before in
     let a = entry l .args in
     h
-    ∙ ap (λ (x : ℕ). raise x (getD (a .places .now) (member l) 0)) (l .loop .inv .1)
+    ∙ ap (λ (x : ℕ). greaterOf x (getD (a .places .now) (member l) 0)) (l .loop .inv .1)
     ∙ sym (highest-in (has (a .sensitive .now)) (a .expected .now) (l .loop .k) (i .loop-test .taken) (λ (y : ℕ). getD (a .places .now) y 0) e)
 
 -- a sensitive member is overtaken where it has a place below the greatest
@@ -138,8 +139,8 @@ shared-slice-read-place : tie.Need-shared-slice-read-place Inv-loop μ-loop
 shared-slice-read-place c = let i = c .before .before .before .before in omega (arith, there i, entry (i .before) .pre .1 .1)
 
 -- src/orders.rt:112:9
-larger-requires : tie.Need-larger-requires Inv-loop μ-loop
-larger-requires c κs = search needs
+greater-requires : tie.Need-greater-requires Inv-loop μ-loop
+greater-requires c κs = search needs
 
 -- src/orders.rt:114:13
 add-k-2 : tie.Need-add-k-2 Inv-loop μ-loop
@@ -158,7 +159,7 @@ loop-again-2 c =
     let a = entry l .args in
     let s = has-yes (a .sensitive .now) (member l) (g .before .before .if1 .left) in (
       skip i (decided i s ∙ ap (λ (b : Bool). b && ltb (getD (a .places .now) (member l) 0) (l .loop .latest)) (has-not (a .places .now) (member l) (c .if2 .taken))),
-      raised i (g .larger .result) s (g .larger .ensures),
+      raised i (g .greater .result) s (g .greater .ensures),
     )
 
 -- src/orders.rt:117:13
@@ -178,7 +179,7 @@ loop-again-3 c =
     let a = entry l .args in
     let s = has-yes (a .sensitive .now) (member l) (g .before .before .if1 .left) in (
       skip i (decided i s ∙ ap (λ (b : Bool). b && ltb (getD (a .places .now) (member l) 0) (l .loop .latest)) (has-yes (a .places .now) (member l) (c .before .if2 .left)) ∙ le-ltb _ _ (c .if3 .taken)),
-      raised i (g .larger .result) s (g .larger .ensures),
+      raised i (g .greater .result) s (g .greater .ensures),
     )
 
 -- src/orders.rt:119:9
@@ -209,7 +210,7 @@ loop-again-4 c =
       added-more (test l) (put l) (entry l .args .expected .now) (entry l .args .out .now) (l .loop .k) (l .loop .out) (l .loop .inv .0) (f .flag .last .1 .1 .0) (i .loop-test .taken)
           (decided i s ∙ ap (λ (b : Bool). b && ltb (getD (a .places .now) (member l) 0) (l .loop .latest)) (has-yes (a .places .now) (member l) (e .before .if2 .left)) ∙ lt-ltb _ _ (e .if3 .left))
           (f .flag .ensures),
-      raised i (g .larger .result) s (g .larger .ensures),
+      raised i (g .greater .result) s (g .greater .ensures),
     )
 
 -- src/orders.rt:97:1
@@ -237,7 +238,7 @@ flag-overtaken-spec =
     loop-again
     mul-place
     shared-slice-read-place
-    larger-requires
+    greater-requires
     add-k-2
     loop-less-2
     loop-again-2

@@ -8,7 +8,7 @@ use lib.Seq.{length-take-le, take-at}
 use Rattle.tables.specs.Readings.{valuesOf}
 use Rattle.chunk_cycles.specs.Cycles.{labels, reachesCycle}
 use Rattle.chunk_cycles.specs.Graph.{Graph}
-use Rattle.chunk_cycles.proofs.Lists.{front-room, front-length}
+use Rattle.lists.proofs.Fronts.{front-room, front-length}
 use borrow.Author.Needs.{needs}
 use Rattle.chunk_cycles.proofs.core.chunk_reaches.Statement.{statement}
 use Rattle.chunk_cycles.proofs.core.chunk_reaches.Tie as tie

@@ -13,7 +13,7 @@ use Rattle.tables.specs.Refusal.{chunkLimit}
 use Rattle.chunk_cycles.specs.Cycles.{cyclic}
 use Rattle.chunk_cycles.specs.Threads.{Threaded}
 use Rattle.chunk_cycles.specs.Steps.{reachMarks, inBoth, relabelled}
-use Rattle.chunk_cycles.proofs.Lists.{front-room, front-length}
+use Rattle.lists.proofs.Fronts.{front-room, front-length}
 use Rattle.chunk_cycles.proofs.Components.{cyclic-test, component-cyclic, component-none}
 use borrow.Author.Needs.{needs}
 use Rattle.chunk_cycles.proofs.core.label_component.Statement.{statement}

@@ -6,7 +6,7 @@ use lib.ListN.{length, getD}
 use borrow.Author.Needs.{needs}
 use Rattle.lists.specs.Words.{has}
 use Rattle.chunk_cycles.proofs.Lists.{mark-in, mark-out}
-use Rattle.chunk_cycles.proofs.Marks.{Searching, searching-start, searching-next, searching-found, searching-end}
+use Rattle.tables.proofs.Threads.{Searching, searching-start, searching-next, searching-found, searching-end}
 use Rattle.chunk_cycles.proofs.core.leads.Statement.{statement}
 use Rattle.chunk_cycles.proofs.core.leads.Tie as tie
 

@@ -10,7 +10,7 @@ use Rattle.lists.specs.Words.{any, keep, upTo}
 use Rattle.tables.specs.Readings.{valuesOf}
 use Rattle.chunk_cycles.specs.Threads.{Threaded}
 use Rattle.chunk_cycles.specs.Steps.{reachMarks, labelled, labelledAt}
-use Rattle.chunk_cycles.proofs.Lists.{front-room, front-length}
+use Rattle.lists.proofs.Fronts.{front-room, front-length}
 use Rattle.chunk_cycles.proofs.Threads.{threadable, threaded}
 use Rattle.chunk_cycles.proofs.Components.{reach-test, reach-none}
 use borrow.Author.Needs.{needs}

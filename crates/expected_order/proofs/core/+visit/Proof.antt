@@ -22,7 +22,7 @@ use Rattle.tables.specs.Readings.{flagged, isImport, normalTarget, rowTargets, 
 use Rattle.tables.proofs.Rows.{run-ordered, targets-of-run}
 use Rattle.expected_order.specs.Expected.{importsOf}
 use Rattle.expected_order.specs.Visit.{Fit, held}
-use Rattle.expected_order.proofs.Rows.{led-kind, led-import, led-nowhere, target-in}
+use Rattle.tables.proofs.Targets.{led-kind, led-import, led-nowhere, target-in}
 use borrow.Fn.Kinds.{In}
 use borrow.Fn.PlainCycle.{Measures, is, falls, and}
 use Rattle.expected_order.proofs.core.visit.Reads as visit

@@ -11,8 +11,8 @@ use borrow.Author.Needs.{needs}
 use Rattle.lists.proofs.Laws.{length-marksOf}
 use Rattle.tables.specs.Project.{Project}
 use Rattle.tables.specs.Readings.{modules}
-use Rattle.chunk_cycles.specs.Threads.{Threads}
-use Rattle.at_risk.specs.Marks.{eligible}
+use Rattle.tables.specs.Threads.{Threads}
+use Rattle.sensitivity.specs.Marks.{eligible}
 use Rattle.wrap_rules.specs.Plan.{roots}
 use Rattle.wrap_rules.specs.Steps.{importTargets}
 use Rattle.wrap_rules.specs.Spread.{ModuleGraph, Edges}
@@ -26,7 +26,7 @@ use Rattle.wrap_plan.proofs.core.close_from_roots.Statement.{statement}
 use Rattle.wrap_plan.proofs.core.close_from_roots.Tie as tie
 use Rattle.wrap_plan.proofs.core.close_from_roots.Reads as reads
 use Rattle.wrap_plan.proofs.core.close_from_roots.Lts as lts
-use Rattle.chunk_cycles.proofs.core.thread.Reads as thread-reads
+use Rattle.tables.proofs.core.thread.Reads as thread-reads
 use Rattle.wrap_plan.proofs.core.close_plan.Reads as close-plan-reads
 use Rattle.wrap_rules.proofs.roots.mark_candidates.Reads as mark-candidates-reads
 use Rattle.wrap_rules.proofs.spread.import_edges.Reads as import-edges-reads

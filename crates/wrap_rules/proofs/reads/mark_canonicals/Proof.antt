@@ -1,11 +1,11 @@
 -- `wrap_rules::reads::mark_canonicals` meets its contract: the symbols below `y` have the greater of their two marks.
 -- Assumes nothing.
 use Prim.Native.Nat.{ℕ, _-_, _≤_}
-use mathlib.Core.Path.{_≡_, refl, subst, _∙_}
+use mathlib.Core.Path.{_≡_, refl, ap, _∙_}
 use native.Mathlib.Omega.{arith}
 use lib.ListN.{length, getD, length-set}
 use borrow.Author.Needs.{needs}
-use Rattle.tables.specs.Lookups.{Greater}
+use Rattle.tables.specs.Lookups.{greaterOf}
 use Rattle.wrap_rules.proofs.Marking.{Joined, joined-put, joined-marks}
 use Rattle.wrap_rules.proofs.reads.mark_canonicals.Statement.{statement}
 use Rattle.wrap_rules.proofs.reads.mark_canonicals.Tie as tie
@@ -59,8 +59,8 @@ loop-again c =
     let a = l .before .before .before .before .args in
     let y = l .loop .y in
     let v = c .greater .result in
-    let g : Greater (getD (a .chains .now) y 0) (getD (a .chains .now) (getD (a .canonical .now) y 0) 0) v =
-    subst (λ (x : ℕ). Greater (getD (a .chains .now) y 0) x v) (c .before .value-at .ensures) (c .greater .ensures)
+    let g : v ≡ greaterOf (getD (a .chains .now) y 0) (getD (a .chains .now) (getD (a .canonical .now) y 0) 0) =
+    c .greater .ensures ∙ ap (greaterOf (getD (a .chains .now) y 0)) (c .before .value-at .ensures)
     in
     (refl, omega arith, length-set (l .loop .symbols) y v ∙ l .loop .inv .2, joined-put (a .canonical .now) (a .chains .now) y (l .loop .symbols) v (l .loop .inv .3) (omega (arith, l .loop .inv .2, c .before .before .before .before .loop-test .taken)) g)
 

@@ -6,7 +6,7 @@ use mathlib.Core.List.{List}
 use native.Mathlib.Omega.{arith}
 use lib.ListN.{length, take, replicate}
 use borrow.Author.Needs.{needs}
-use Rattle.chunk_cycles.specs.Threads.{Threads}
+use Rattle.tables.specs.Threads.{Threads}
 use Rattle.wrap_rules.specs.Spread.{Spreads}
 use Rattle.wrap_rules.specs.Roots.{Reaching}
 use Rattle.wrap_rules.proofs.Parts.{Lent, view, part-none, part-length, view-room, view-is, view-length}
@@ -16,7 +16,7 @@ use Rattle.wrap_rules.proofs.roots.source_reachable_modules.Statement.{
 use Rattle.wrap_rules.proofs.roots.source_reachable_modules.Tie as tie
 use Rattle.wrap_rules.proofs.roots.source_reachable_modules.Reads as reads
 use Rattle.wrap_rules.proofs.roots.source_reachable_modules.Lts as lts
-use Rattle.chunk_cycles.proofs.core.thread.Reads as thread-reads
+use Rattle.tables.proofs.core.thread.Reads as thread-reads
 use Rattle.wrap_rules.proofs.marks.mark_owners.Reads as mark-owners-reads
 use Rattle.wrap_rules.proofs.spread.spread.Reads as spread-reads
 

@@ -1,0 +1,319 @@
+// Sensitive and eligible modules, for crates above, on tested tables.
+ghost use mathlib.Core.Path.{_≡_};
+ghost use Prim.Native.Nat.{_+_, _-_, _<_, _≤_};
+ghost use lib.ListN.{length};
+ghost use Rattle.lists.specs.Words.{any, countFrom, bit, marksOf};
+ghost use Rattle.tables.specs.Lookups.{FirstRows};
+ghost use Rattle.sensitivity.specs.Marks.{wakes, statementWakes, usesWrapped, isSensitive, isEligible};
+ghost use Rattle.sensitivity.specs.Ready.{Records, Uses, Flags, Statements, Kinds, UseRows};
+use tables::Target;
+use tables::core::first_rows;
+use tables::core::resolve;
+use tables::core::thread;
+
+// Whether a record row is a kind 0 record to a normal target with wrap not 0.
+fn row_wakes(
+    normal: &[u32],
+    wrap: &[u32],
+    record_kind: &[u32],
+    record_target: &[u32],
+    row: usize,
+) -> bool
+    requires { ⌜ Records (now normal) (now wrap) (now «record_kind») (now «record_target») × (row < length (now «record_kind»)) ⌝ }
+    ensures { λ r. ⌜ r ≡ wakes (now (normal .entry)) (now (wrap .entry)) (now («record_kind» .entry)) (now («record_target» .entry)) row ⌝ }
+{
+    if record_kind[row] != 0 {
+        return false;
+    }
+    let found = resolve(normal, record_target, row);
+    let Target::Normal(t) = found else {
+        return false;
+    };
+    let at = t as usize;
+    wrap[at] != 0
+}
+
+// Whether one of the statements `first` to `end` is included and uses such a record; the first that does stops the search. The
+// uses of a statement are threaded.
+fn search_uses(
+    normal: &[u32],
+    wrap: &[u32],
+    record_kind: &[u32],
+    record_target: &[u32],
+    statement_included: &[u32],
+    use_statement: &[u32],
+    use_record: &[u32],
+    heads: &[u32],
+    nexts: &[u32],
+    first: usize,
+    end: usize,
+) -> bool
+    requires records { ⌜ Records (now normal) (now wrap) (now «record_kind») (now «record_target») ⌝ }
+    requires uses { ⌜ Uses (now «statement_included») (now «use_statement») (now «use_record») (now heads) (now nexts) (length (now «record_kind»)) ⌝ }
+    requires range { ⌜ (first ≤ end) × (end ≤ length (now «statement_included»)) ⌝ }
+    ensures { λ r. ⌜ r ≡ any (statementWakes (now (normal .entry)) (now (wrap .entry)) (now («record_kind» .entry)) (now («record_target» .entry)) (now («statement_included» .entry)) (now («use_statement» .entry)) (now («use_record» .entry))) (countFrom first (end - first)) ⌝ }
+{
+    let mut found = false;
+    let mut s = first;
+    'search: while s < end {
+        if statement_included[s] == 1 {
+            let mut u = heads[s] as usize;
+            while u < use_statement.len() {
+                let row = use_record[u] as usize;
+                if row_wakes(normal, wrap, record_kind, record_target, row) {
+                    found = true;
+                    break 'search;
+                }
+                u = nexts[u] as usize;
+            }
+        }
+        s += 1;
+    }
+    found
+}
+
+// Whether a module uses, in an included statement, such a record. Its statements are the rows from its start to the next one's
+// (`statement_module` is named by the contract alone).
+fn eagerly_triggers_interop_module(
+    normal: &[u32],
+    wrap: &[u32],
+    record_kind: &[u32],
+    record_target: &[u32],
+    statement_module: &[u32],
+    starts: &[u32],
+    statement_included: &[u32],
+    use_statement: &[u32],
+    use_record: &[u32],
+    heads: &[u32],
+    nexts: &[u32],
+    m: usize,
+) -> bool
+    requires records { ⌜ Records (now normal) (now wrap) (now «record_kind») (now «record_target») ⌝ }
+    requires uses { ⌜ Uses (now «statement_included») (now «use_statement») (now «use_record») (now heads) (now nexts) (length (now «record_kind»)) ⌝ }
+    requires statements { ⌜ Statements (now «statement_module») (now «statement_included») × (m < length (now normal)) ⌝ }
+    requires starts { ⌜ FirstRows (now «statement_module») (now starts) × (length (now starts) ≡ length (now normal) + 1) ⌝ }
+    ensures { λ r. ⌜ r ≡ usesWrapped (now (normal .entry)) (now (wrap .entry)) (now («record_kind» .entry)) (now («record_target» .entry)) (now («statement_module» .entry)) (now («statement_included» .entry)) (now («use_statement» .entry)) (now («use_record» .entry)) m ⌝ }
+{
+    let first = starts[m] as usize;
+    let end = starts[m + 1] as usize;
+    search_uses(
+        normal,
+        wrap,
+        record_kind,
+        record_target,
+        statement_included,
+        use_statement,
+        use_record,
+        heads,
+        nexts,
+        first,
+        end,
+    )
+}
+
+// Whether a module is sensitive.
+fn is_order_sensitive(
+    normal: &[u32],
+    included: &[u32],
+    sensitive: &[u32],
+    wrap: &[u32],
+    record_kind: &[u32],
+    record_target: &[u32],
+    statement_module: &[u32],
+    starts: &[u32],
+    statement_included: &[u32],
+    use_statement: &[u32],
+    use_record: &[u32],
+    heads: &[u32],
+    nexts: &[u32],
+    runtime: u32,
+    m: usize,
+) -> bool
+    requires flags { ⌜ Flags (now normal) (now included) (now sensitive) ⌝ }
+    requires records { ⌜ Records (now normal) (now wrap) (now «record_kind») (now «record_target») ⌝ }
+    requires uses { ⌜ Uses (now «statement_included») (now «use_statement») (now «use_record») (now heads) (now nexts) (length (now «record_kind»)) ⌝ }
+    requires statements { ⌜ Statements (now «statement_module») (now «statement_included») × (m < length (now normal)) ⌝ }
+    requires starts { ⌜ FirstRows (now «statement_module») (now starts) × (length (now starts) ≡ length (now normal) + 1) ⌝ }
+    ensures { λ r. ⌜ r ≡ isSensitive runtime (now (normal .entry)) (now (included .entry)) (now (sensitive .entry)) (usesWrapped (now (normal .entry)) (now (wrap .entry)) (now («record_kind» .entry)) (now («record_target» .entry)) (now («statement_module» .entry)) (now («statement_included» .entry)) (now («use_statement» .entry)) (now («use_record» .entry))) m ⌝ }
+{
+    if m == (runtime as usize) {
+        return false;
+    }
+    if normal[m] != 1 {
+        return false;
+    }
+    if included[m] != 1 {
+        return false;
+    }
+    if sensitive[m] == 1 {
+        return true;
+    }
+    eagerly_triggers_interop_module(
+        normal,
+        wrap,
+        record_kind,
+        record_target,
+        statement_module,
+        starts,
+        statement_included,
+        use_statement,
+        use_record,
+        heads,
+        nexts,
+        m,
+    )
+}
+
+// Whether a module is eligible.
+fn is_order_wrap_eligible(
+    normal: &[u32],
+    included: &[u32],
+    exports: &[u32],
+    wrap: &[u32],
+    runtime: u32,
+    m: usize,
+) -> bool
+    requires { ⌜ Kinds (now normal) (now included) (now exports) (now wrap) × (m < length (now normal)) ⌝ }
+    ensures { λ r. ⌜ r ≡ isEligible runtime (now (normal .entry)) (now (included .entry)) (now (exports .entry)) (now (wrap .entry)) m ⌝ }
+{
+    if m == (runtime as usize) {
+        return false;
+    }
+    if included[m] != 1 {
+        return false;
+    }
+    if normal[m] != 1 {
+        return false;
+    }
+    if 1 < exports[m] {
+        return false;
+    }
+    wrap[m] == 0
+}
+
+// 1 for yes, 0 for no.
+fn mark(yes: bool) -> u32
+    ensures { λ r. ⌜ r ≡ bit yes ⌝ }
+{
+    if yes {
+        return 1;
+    }
+    0
+}
+
+// Marks the eligible modules.
+pub fn mark_eligible(
+    normal: &[u32],
+    included: &[u32],
+    exports: &[u32],
+    wrap: &[u32],
+    marks: &mut [u32],
+    runtime: u32,
+)
+    requires { ⌜ Kinds (now normal) (now included) (now exports) (now wrap) × (length (now marks) ≡ length (now normal)) ⌝ }
+    ensures { λ _. ⌜ now (marks .exit) ≡ marksOf (isEligible runtime (now (normal .entry)) (now (included .entry)) (now (exports .entry)) (now (wrap .entry))) (length (now (marks .entry))) ⌝ }
+{
+    let mut m = 0;
+    while m < marks.len() {
+        let eligible = is_order_wrap_eligible(normal, included, exports, wrap, runtime, m);
+        marks[m] = mark(eligible);
+        m += 1;
+    }
+}
+
+// Marks the sensitive modules. The uses of each statement are threaded, and each module's statements start where `starts` says.
+fn mark_with_threads(
+    normal: &[u32],
+    included: &[u32],
+    sensitive: &[u32],
+    wrap: &[u32],
+    record_kind: &[u32],
+    record_target: &[u32],
+    statement_module: &[u32],
+    starts: &[u32],
+    statement_included: &[u32],
+    use_statement: &[u32],
+    use_record: &[u32],
+    heads: &[u32],
+    nexts: &[u32],
+    marks: &mut [u32],
+    runtime: u32,
+)
+    requires flags { ⌜ Flags (now normal) (now included) (now sensitive) ⌝ }
+    requires records { ⌜ Records (now normal) (now wrap) (now «record_kind») (now «record_target») ⌝ }
+    requires uses { ⌜ Uses (now «statement_included») (now «use_statement») (now «use_record») (now heads) (now nexts) (length (now «record_kind»)) ⌝ }
+    requires statements { ⌜ Statements (now «statement_module») (now «statement_included») × (length (now marks) ≡ length (now normal)) ⌝ }
+    requires starts { ⌜ FirstRows (now «statement_module») (now starts) × (length (now starts) ≡ length (now normal) + 1) ⌝ }
+    ensures { λ _. ⌜ now (marks .exit) ≡ marksOf (isSensitive runtime (now (normal .entry)) (now (included .entry)) (now (sensitive .entry)) (usesWrapped (now (normal .entry)) (now (wrap .entry)) (now («record_kind» .entry)) (now («record_target» .entry)) (now («statement_module» .entry)) (now («statement_included» .entry)) (now («use_statement» .entry)) (now («use_record» .entry)))) (length (now (marks .entry))) ⌝ }
+{
+    let mut m = 0;
+    while m < marks.len() {
+        let yes = is_order_sensitive(
+            normal,
+            included,
+            sensitive,
+            wrap,
+            record_kind,
+            record_target,
+            statement_module,
+            starts,
+            statement_included,
+            use_statement,
+            use_record,
+            heads,
+            nexts,
+            runtime,
+            m,
+        );
+        marks[m] = mark(yes);
+        m += 1;
+    }
+}
+
+// Marks the sensitive modules.
+pub fn mark_sensitive(
+    normal: &[u32],
+    included: &[u32],
+    sensitive: &[u32],
+    wrap: &[u32],
+    record_kind: &[u32],
+    record_target: &[u32],
+    statement_module: &[u32],
+    statement_included: &[u32],
+    use_statement: &[u32],
+    use_record: &[u32],
+    marks: &mut [u32],
+    runtime: u32,
+)
+    requires flags { ⌜ Flags (now normal) (now included) (now sensitive) ⌝ }
+    requires records { ⌜ Records (now normal) (now wrap) (now «record_kind») (now «record_target») ⌝ }
+    requires rows { ⌜ UseRows (now «statement_module») (now «use_statement») (now «use_record») (length (now «record_kind»)) ⌝ }
+    requires statements { ⌜ Statements (now «statement_module») (now «statement_included») × (length (now marks) ≡ length (now normal)) ⌝ }
+    requires few { ⌜ length (now marks) ≤ 4096 ⌝ }
+    ensures { λ _. ⌜ now (marks .exit) ≡ marksOf (isSensitive runtime (now (normal .entry)) (now (included .entry)) (now (sensitive .entry)) (usesWrapped (now (normal .entry)) (now (wrap .entry)) (now («record_kind» .entry)) (now («record_target» .entry)) (now («statement_module» .entry)) (now («statement_included» .entry)) (now («use_statement» .entry)) (now («use_record» .entry)))) (length (now (marks .entry))) ⌝ }
+{
+    let statements = statement_included.len();
+    let places = marks.len() + 1;
+    let mut heads = [0u32; 16384];
+    let mut nexts = [0u32; 16384];
+    let mut starts = [0u32; 4097];
+    thread(use_statement, &mut heads[..statements], &mut nexts);
+    first_rows(statement_module, &mut starts[..places]);
+    mark_with_threads(
+        normal,
+        included,
+        sensitive,
+        wrap,
+        record_kind,
+        record_target,
+        statement_module,
+        &starts[..places],
+        statement_included,
+        use_statement,
+        use_record,
+        &heads[..statements],
+        &nexts,
+        marks,
+        runtime,
+    );
+}

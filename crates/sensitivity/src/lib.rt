@@ -1,0 +1,2 @@
+// Which modules are sensitive, and which are eligible.
+pub mod core;
