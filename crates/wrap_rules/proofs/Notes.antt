@@ -2,7 +2,7 @@
 -- Assumes nothing.
 use mathlib.Core.Path.{_≡_, refl, sym, ap, subst, _∙_}
 use mathlib.Core.Logic.{_⊎_, ⊎-elim}
-use mathlib.Core.Bool.{Bool, true, false, _&&_, _||_, true≢false}
+use mathlib.Core.Bool.{Bool, true, false, not, _&&_, _||_, true≢false}
 use mathlib.Core.List.{List, [], _∷_, _++_, map, map-append, List·Memᴰ, List·Memᴰ·not-nil, List·Memᴰ·cases-cons}
 use Prim.Native.Nat.{ℕ, suc, _+_, _≤_, _<_}
 use native.Mathlib.Omega.{arith}
@@ -10,12 +10,13 @@ use native.Mathlib.Nat.{zero-add}
 use native.Mathlib.Decide.{ℕ-discrete}
 use lib.ListN.{length, getD, set, take, length-set, length-append}
 use lib.Seq.{length-take-le, getD-set-same, getD-set-other}
-use Rattle.lists.specs.Words.{keep, has, upTo, countFrom, Distinct}
+use Rattle.lists.specs.Words.{isZero, keep, has, upTo, countFrom, Distinct}
 use Rattle.lists.proofs.Laws.{both, and-parts, and-join, has-in, length-keep, keep-append, length-countFrom, countFrom-append, upTo-mem, take-more}
 use Rattle.walk.specs.Close.{Within, Closed, Bits}
 use Rattle.tables.specs.Project.{missing}
 use Rattle.tables.specs.Accepted.{Below}
 use Rattle.expected_order.specs.Expected.{expected}
+use Rattle.chunk_cycles.proofs.Lists.{mark-in}
 use Rattle.at_risk.specs.Risk.{before}
 use Rattle.at_risk.proofs.Early.{before-take}
 use Rattle.wrap_rules.specs.Rules.{suffixAsks}
@@ -129,9 +130,9 @@ module _ (order sensitive eligible : List ℕ) (few : length sensitive ≤ 4096)
       before-it m T i from l p q = record { sensitives = i .sensitives; from = from; at = i .at; after = l; there = i .there; first = p; planned = q; named = i .named }
 
 -- of an order with no note nothing is said
-pub noted-none : (order sensitive eligible S : List ℕ) → Noted order sensitive eligible 0 S
+pub noted-none : (order sensitive eligible : List ℕ) (note : ℕ) (S : List ℕ) → (not (isZero note) ≡ true → ⊥) → Noted order sensitive eligible note S
 unfolding noteOf
-noted-none order sensitive eligible S = record { all = λ e. absurd (omega arith); same = λ T w e. absurd (omega arith) }
+noted-none order sensitive eligible note S h = record { all = λ e. absurd (h (mark-in note (λ z. omega arith))); same = λ T w e. absurd (h (mark-in note (λ z. omega arith))) }
 
 -- what is noted holds of a larger plan
 pub noted-more : (order sensitive eligible : List ℕ) (note : ℕ) (s t : List ℕ) → Within s t → Noted order sensitive eligible note s → Noted order sensitive eligible note t
