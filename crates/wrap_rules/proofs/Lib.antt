@@ -13,4 +13,5 @@ pub mod Edging
 pub mod Parts
 pub mod Marking
 pub mod Extending
+pub mod Notes
 pub mod Listing

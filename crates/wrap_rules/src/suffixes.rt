@@ -3,7 +3,7 @@ ghost use mathlib.Core.Path.{_≡_};
 ghost use mathlib.Core.Bool.{true};
 ghost use Prim.Native.Nat.{ℕ, _≤_, _<_};
 ghost use lib.ListN.{length, getD};
-ghost use Rattle.lists.specs.Words.{has};
+ghost use Rattle.lists.specs.Words.{has, Distinct};
 ghost use Rattle.walk.specs.Close.{Bits};
 ghost use Rattle.tables.specs.Accepted.{Below};
 ghost use Rattle.expected_order.specs.Expected.{expected};
@@ -11,10 +11,11 @@ ghost use Rattle.wrap_rules.specs.Passes.{Passed};
 ghost use Rattle.wrap_rules.specs.Rules.{suffixAsks};
 ghost use Rattle.wrap_rules.specs.Steps.{Added};
 ghost use Rattle.wrap_rules.specs.Asked.{Marks};
-ghost use Rattle.wrap_rules.specs.Suffix.{FirstIn, InSuffix, WholeSuffix, Extended, sensitiveOrders, Settled, Suffixes};
+ghost use Rattle.wrap_rules.specs.Suffix.{FirstIn, InSuffix, WholeSuffix, noteOf, Extended, sensitiveOrders, AllNoted, Suffixes};
 use crate::marks::add;
 use crate::marks::mark_owners;
 use expected_order::core::expected_order_for_root;
+use tables::ModuleIdx;
 
 // The place of the first member of an order that is in two sets, or the order's length.
 fn first_in(order: &[u32], first: &[u32], second: &[u32]) -> usize
@@ -71,27 +72,50 @@ fn add_suffix(order: &[u32], sensitive: &[u32], eligible: &[u32], plan: &mut [u3
     add(&marks[..n], eligible, eligible, plan)
 }
 
-// Plans the suffix of an order, and settles its entry if it is the whole sensitive order. Whether any module was added.
+// One more than the number of planned sensitive modules.
+fn note_of(sensitive: &[u32], plan: &[u32]) -> u32
+    requires rows { ⌜ length (now plan) ≡ length (now sensitive) ⌝ }
+    requires few { ⌜ length (now sensitive) ≤ 4096 ⌝ }
+    ensures { λ r. ⌜ r ≡ noteOf (now (sensitive .entry)) (now (plan .entry)) ⌝ }
+{
+    let mut note = 1;
+    for m in 0..sensitive.len() {
+        if sensitive[m] == 0 {
+            continue;
+        }
+        if plan[m] == 0 {
+            continue;
+        }
+        note += 1;
+    }
+    note
+}
+
+// Plans the suffix of an order, and notes what is planned then, or the mark if the suffix is the whole sensitive order. Whether any module was added.
 fn extend_order(
     order: &[u32],
     sensitive: &[u32],
     eligible: &[u32],
-    settled: &mut [u32],
+    notes: &mut [u32],
     plan: &mut [u32],
     k: usize,
 ) -> bool
     requires members { ⌜ Below (length (now plan)) (now order) ⌝ }
+    requires once { ⌜ Distinct (now order) ⌝ }
     requires sensitive { ⌜ length (now sensitive) ≡ length (now plan) ⌝ }
     requires eligible { ⌜ length (now eligible) ≡ length (now plan) ⌝ }
     requires few { ⌜ length (now plan) ≤ 4096 ⌝ }
-    requires entry { ⌜ k < length (now settled) ⌝ }
-    ensures { λ r. ⌜ Extended (now (order .entry)) (now (sensitive .entry)) (now (eligible .entry)) k (now (settled .entry)) (now (settled .exit)) (now (plan .entry)) (now (plan .exit)) r ⌝ }
+    requires entry { ⌜ k < length (now notes) ⌝ }
+    ensures { λ r. ⌜ Extended (now (order .entry)) (now (sensitive .entry)) (now (eligible .entry)) k (now (notes .entry)) (now (notes .exit)) (now (plan .entry)) (now (plan .exit)) r ⌝ }
 {
     let whole = is_whole(order, sensitive, plan);
     let changed = add_suffix(order, sensitive, eligible, plan);
     if whole {
-        settled[k] = 1;
+        notes[k] = ModuleIdx::MISSING;
+        return changed;
     }
+    let note = note_of(sensitive, plan);
+    notes[k] = note;
     changed
 }
 
@@ -104,15 +128,15 @@ fn extend_entry<'a>(
     record_target: &'a [u32],
     sensitive: &[u32],
     eligible: &[u32],
-    settled: &mut [u32],
+    notes: &mut [u32],
     plan: &mut [u32],
     root: u32,
     k: usize,
 ) -> bool
     requires columns { ⌜ Suffixes (now normal) (now included) (now «record_module») (now «record_kind») (now «record_target») (now sensitive) (now eligible) (length (now plan)) ⌝ }
     requires root { ⌜ root < length (now plan) ⌝ }
-    requires entry { ⌜ k < length (now settled) ⌝ }
-    ensures { λ r. ⌜ Extended (expected (now (normal .entry)) (now (included .entry)) (now («record_module» .entry)) (now («record_kind» .entry)) (now («record_target» .entry)) root) (now (sensitive .entry)) (now (eligible .entry)) k (now (settled .entry)) (now (settled .exit)) (now (plan .entry)) (now (plan .exit)) r ⌝ }
+    requires entry { ⌜ k < length (now notes) ⌝ }
+    ensures { λ r. ⌜ Extended (expected (now (normal .entry)) (now (included .entry)) (now («record_module» .entry)) (now («record_kind» .entry)) (now («record_target» .entry)) root) (now (sensitive .entry)) (now (eligible .entry)) k (now (notes .entry)) (now (notes .exit)) (now (plan .entry)) (now (plan .exit)) r ⌝ }
 {
     let n = plan.len();
     let mut marks = [0u32; 4096];
@@ -127,10 +151,11 @@ fn extend_entry<'a>(
         &mut order[..n],
         root,
     );
-    extend_order(&order[..count], sensitive, eligible, settled, plan, k)
+    extend_order(&order[..count], sensitive, eligible, notes, plan, k)
 }
 
-// One pass of rule (i) over the entries' roots; a settled one isn't walked again. Whether any module was added.
+// One pass of rule (i) over the entries' roots. One whose suffix was the whole sensitive order isn't walked again, the others only if a sensitive module was
+// planned since. Whether any module was added.
 pub fn close_expected_sensitive_suffixes<'a>(
     normal: &'a [u32],
     included: &'a [u32],
@@ -140,20 +165,24 @@ pub fn close_expected_sensitive_suffixes<'a>(
     roots: &[u32],
     sensitive: &[u32],
     eligible: &[u32],
-    settled: &mut [u32],
+    notes: &mut [u32],
     plan: &mut [u32],
 ) -> bool
     requires columns { ⌜ Suffixes (now normal) (now included) (now «record_module») (now «record_kind») (now «record_target») (now sensitive) (now eligible) (length (now plan)) ⌝ }
     requires roots { ⌜ Below (length (now plan)) (now roots) ⌝ }
-    requires marks { ⌜ length (now settled) ≡ length (now roots) ⌝ }
-    requires settled { ⌜ Settled (now normal) (now included) (now «record_module») (now «record_kind») (now «record_target») (now roots) (now sensitive) (now eligible) (now settled) (now plan) ⌝ }
+    requires marks { ⌜ length (now notes) ≡ length (now roots) ⌝ }
+    requires noted { ⌜ AllNoted (now normal) (now included) (now «record_module») (now «record_kind») (now «record_target») (now roots) (now sensitive) (now eligible) (now notes) (now plan) ⌝ }
     requires bits { ⌜ Bits (now plan) ⌝ }
-    ensures settled { λ _. ⌜ Settled (now (normal .entry)) (now (included .entry)) (now («record_module» .entry)) (now («record_kind» .entry)) (now («record_target» .entry)) (now (roots .entry)) (now (sensitive .entry)) (now (eligible .entry)) (now (settled .exit)) (now (plan .exit)) ⌝ }
+    ensures noted { λ _. ⌜ AllNoted (now (normal .entry)) (now (included .entry)) (now («record_module» .entry)) (now («record_kind» .entry)) (now («record_target» .entry)) (now (roots .entry)) (now (sensitive .entry)) (now (eligible .entry)) (now (notes .exit)) (now (plan .exit)) ⌝ }
     ensures plan { λ r. ⌜ Passed (suffixAsks (has (now (eligible .entry))) (sensitiveOrders (now (normal .entry)) (now (included .entry)) (now («record_module» .entry)) (now («record_kind» .entry)) (now («record_target» .entry)) (now (sensitive .entry)) (now (roots .entry)))) (now (plan .entry)) (now (plan .exit)) r ⌝ }
 {
     let mut changed = false;
+    let mut note = note_of(sensitive, plan);
     for k in 0..roots.len() {
-        if settled[k] != 0 {
+        if notes[k] == ModuleIdx::MISSING {
+            continue;
+        }
+        if notes[k] == note {
             continue;
         }
         if !extend_entry(
@@ -164,7 +193,7 @@ pub fn close_expected_sensitive_suffixes<'a>(
             record_target,
             sensitive,
             eligible,
-            settled,
+            notes,
             plan,
             roots[k],
             k,
@@ -172,6 +201,7 @@ pub fn close_expected_sensitive_suffixes<'a>(
             continue;
         }
         changed = true;
+        note = note_of(sensitive, plan);
     }
     changed
 }

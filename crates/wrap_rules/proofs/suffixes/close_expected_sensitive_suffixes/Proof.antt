@@ -3,18 +3,19 @@
 use Prim.Native.Nat.{ℕ, _+_, _-_, _≤_, _<_}
 use mathlib.Core.Path.{_≡_, refl, sym, ap, subst, _∙_}
 use mathlib.Core.Bool.{Bool, true, false, _||_}
+use mathlib.Core.Logic.{_⊎_, inl, inr}
 use mathlib.Core.List.{List}
 use native.Mathlib.Omega.{arith}
 use lib.ListN.{length, getD, take}
 use lib.Seq.{take-length}
 use borrow.Author.Needs.{needs}
-use Rattle.chunk_cycles.proofs.Lists.{mark-in}
 use Rattle.lists.specs.Words.{has}
+use Rattle.tables.specs.Project.{missing}
 use Rattle.lists.proofs.Laws.{not-true, not-false}
 use Rattle.wrap_rules.specs.Passes.{Passed}
 use Rattle.wrap_rules.specs.Rules.{suffixAsks}
-use Rattle.wrap_rules.specs.Suffix.{sensitiveOrders, Suffixes}
-use Rattle.wrap_rules.proofs.Extending.{Walked, walked-start, walked-skip, walked-step}
+use Rattle.wrap_rules.specs.Suffix.{noteOf, sensitiveOrders, Suffixes}
+use Rattle.wrap_rules.proofs.Notes.{Walked, walked-start, walked-skip, walked-step}
 use Rattle.wrap_rules.proofs.suffixes.close_expected_sensitive_suffixes.Statement.{
   statement,
 }
@@ -22,34 +23,51 @@ use Rattle.wrap_rules.proofs.suffixes.close_expected_sensitive_suffixes
 use Rattle.wrap_rules.proofs.suffixes.close_expected_sensitive_suffixes.Reads as reads
 use Rattle.wrap_rules.proofs.suffixes.close_expected_sensitive_suffixes.Lts as lts
 use Rattle.wrap_rules.proofs.suffixes.extend_entry.Reads as extend-entry-reads
+use Rattle.wrap_rules.proofs.suffixes.note_of.Reads as note-of-reads
 
 abbrev Inv-loop : tie.InvT-loop
-Inv-loop normal included record-module record-kind record-target roots sensitive eligible settled₀ plan₀ changed₀ k₀ k-end settled plan changed k = (k-end ≡ length roots) × (k ≤ k-end) × Walked normal included record-module record-kind record-target roots sensitive eligible plan₀ k settled plan changed
+Inv-loop normal included record-module record-kind record-target roots sensitive eligible notes₀ plan₀ changed₀ note₀ k₀ k-end notes plan changed note k =
+    (k-end ≡ length roots) × (k ≤ k-end) × Walked normal included record-module record-kind record-target roots sensitive eligible plan₀ k notes plan changed × (note ≡ noteOf sensitive plan)
 
 abbrev μ-loop : tie.MeasureT-loop
-μ-loop normal included record-module record-kind record-target roots sensitive eligible settled₀ plan₀ changed₀ k₀ k-end settled plan changed k = k-end - k
+μ-loop normal included record-module record-kind record-target roots sensitive eligible notes₀ plan₀ changed₀ note₀ k₀ k-end notes plan changed note k = k-end - k
 
 abbrev Loop : Type 0
 Loop = tie.At-loop Inv-loop μ-loop
 
 abbrev entry : Loop → tie.Start Inv-loop μ-loop
-entry l = l .before .before .before .before .before .before .before .before .before .before .before
+entry l = l .before .before .before .before .before .before .before .before .before .before .before .before .before
 
 -- one more root is done
 abbrev Done : Loop → List ℕ → List ℕ → Bool → Type 0
-Done l settled plan changed =
+Done l notes plan changed =
     let a = entry l .args in
-    Walked (a .normal .now) (a .included .now) (a .record-module .now) (a .record-kind .now) (a .record-target .now) (a .roots .now) (a .sensitive .now) (a .eligible .now) (a .plan .now) (l .loop .k + 1) settled plan changed
+    Walked (a .normal .now) (a .included .now) (a .record-module .now) (a .record-kind .now) (a .record-target .now) (a .roots .now) (a .sensitive .now) (a .eligible .now) (a .plan .now) (l .loop .k + 1) notes plan changed
+
+-- nothing is to be asked of this root
+skip : (l : Loop) → let a = entry l .args in let at = getD (l .loop .notes) (l .loop .k) 0 in l .loop .k < length (a .roots .now) → (at ≡ missing) ⊎ (at ≡ noteOf (a .sensitive .now) (l .loop .plan)) → Done l (l .loop .notes) (l .loop .plan) (l .loop .changed)
+skip l = let a = entry l .args in walked-skip (a .normal .now) (a .included .now) (a .record-module .now) (a .record-kind .now) (a .record-target .now) (a .roots .now) (a .sensitive .now) (a .eligible .now) (a .plan .now) (l .loop .k) (l .loop .notes) (l .loop .plan) (l .loop .changed) (l .loop .inv .2)
 
 -- the entry's suffix was planned
 abbrev Turn : Type 0
 Turn = tie.After-extend-entry Inv-loop μ-loop
 
-step : (t : Turn) → let l = t .before .before .before .before .before .before .before in Done l (t .extend-entry .last .1 .1 .1 .1 .1 .1 .1 .0) (t .extend-entry .last .1 .1 .1 .1 .1 .1 .1 .1 .0) (l .loop .changed || t .extend-entry .result)
+abbrev loop : Turn → Loop
+loop t = t .before .before .before .before .before .before .before .before .before
+
+-- the notes and the plan then
+
+abbrev noted : Turn → List ℕ
+noted t = t .extend-entry .last .1 .1 .1 .1 .1 .1 .1 .0
+
+abbrev planned : Turn → List ℕ
+planned t = t .extend-entry .last .1 .1 .1 .1 .1 .1 .1 .1 .0
+
+step : (t : Turn) → Done (loop t) (noted t) (planned t) (loop t .loop .changed || t .extend-entry .result)
 step t =
-    let l = t .before .before .before .before .before .before .before in
+    let l = loop t in
     let a = entry l .args in
-    walked-step (a .normal .now) (a .included .now) (a .record-module .now) (a .record-kind .now) (a .record-target .now) (a .roots .now) (a .sensitive .now) (a .eligible .now) (a .plan .now) (l .loop .k) (l .loop .settled) (l .loop .plan) (l .loop .changed) (l .loop .inv .2) (t .before .before .before .before .before .before .loop-test .taken) (t .extend-entry .ensures)
+    walked-step (a .normal .now) (a .included .now) (a .record-module .now) (a .record-kind .now) (a .record-target .now) (a .roots .now) (a .sensitive .now) (a .eligible .now) (a .plan .now) (l .loop .k) (l .loop .notes) (l .loop .plan) (l .loop .changed) (l .loop .inv .2) (t .before .before .before .before .before .before .before .before .loop-test .taken) (t .extend-entry .ensures)
 
 or-none : (b : Bool) → (b || false) ≡ b
 or-none true = refl
@@ -59,14 +77,19 @@ or-some : (b : Bool) → (b || true) ≡ true
 or-some true = refl
 or-some false = refl
 
+note-of-requires : tie.Need-note-of-requires Inv-loop μ-loop
+note-of-requires c κs =
+    let f = c .before .before .before .before .before .before .before .before .before .before .before .pre .0 in
+    (sym (f .sensitives), omega (arith, f .sensitives, f .few))
+
 loop-holds : tie.Need-loop-holds Inv-loop μ-loop
 loop-holds c =
-    let e = c .before .before .before .before .before .before .before .before .before .before in
+    let e = c .before .before .before .before .before .before .before .before .before .before .before .before in
     let a = e .args in
-    (refl, omega arith, walked-start (a .normal .now) (a .included .now) (a .record-module .now) (a .record-kind .now) (a .record-target .now) (a .roots .now) (a .sensitive .now) (a .eligible .now) (a .plan .now) (a .settled .now) (e .pre .1 .1 .0) (e .pre .1 .1 .1 .0) (e .pre .1 .1 .1 .1))
+    (refl, omega arith, walked-start (a .normal .now) (a .included .now) (a .record-module .now) (a .record-kind .now) (a .record-target .now) (a .roots .now) (a .sensitive .now) (a .eligible .now) (a .plan .now) (a .notes .now) (e .pre .1 .1 .0) (e .pre .1 .1 .1 .0) (e .pre .1 .1 .1 .1), c .note-of .ensures)
 
 mul-if1 : tie.Need-mul-if1 Inv-loop μ-loop
-mul-if1 c = omega (arith, c .loop-test .taken, c .before .before .before .before .before .before .before .before .before .before .before .before .good)
+mul-if1 c = omega (arith, c .loop-test .taken, c .before .before .before .before .before .before .before .before .before .before .before .before .before .before .good)
 
 slice-read-if1 : tie.Need-slice-read-if1 Inv-loop μ-loop
 slice-read-if1 c = omega (arith, c .before .loop-test .taken, c .before .before .loop .inv .2 .len)
@@ -80,22 +103,14 @@ loop-less c = search needs
 loop-again : tie.Need-loop-again Inv-loop μ-loop
 loop-again c =
     let l = c .before .before .before in
-    let a = entry l .args in
-    (refl, omega (arith, c .before .before .loop-test .taken), walked-skip (a .normal .now) (a .included .now) (a .record-module .now) (a .record-kind .now) (a .record-target .now) (a .roots .now) (a .sensitive .now) (a .eligible .now) (a .plan .now) (l .loop .k) (l .loop .settled) (l .loop .plan) (l .loop .changed) (l .loop .inv .2) (c .before .before .loop-test .taken) (mark-in (getD (l .loop .settled) (l .loop .k) 0) (c .if1 .taken)))
+    let q = c .before .before .loop-test .taken in
+    (refl, omega (arith, q), skip l q (inl (c .if1 .taken)), l .loop .inv .3)
 
-mul-extend-entry : tie.Need-mul-extend-entry Inv-loop μ-loop
-mul-extend-entry c = search needs
+mul-if2 : tie.Need-mul-if2 Inv-loop μ-loop
+mul-if2 c = omega (arith, c .before .before .loop-test .taken, c .before .before .before .before .before .before .before .before .before .before .before .before .before .before .before .before .good)
 
-shared-slice-read-extend-entry : tie.Need-shared-slice-read-extend-entry Inv-loop μ-loop
-shared-slice-read-extend-entry c = search needs
-
-extend-entry-requires : tie.Need-extend-entry-requires Inv-loop μ-loop
-extend-entry-requires c κs =
-    let l = c .before .before .before .before .before .before in
-    let e = entry l in
-    let a = e .args in
-    let n : length (l .loop .plan) ≡ length (a .plan .now) = l .loop .inv .2 .passed .len in
-    (subst (Suffixes (a .normal .now) (a .included .now) (a .record-module .now) (a .record-kind .now) (a .record-target .now) (a .sensitive .now) (a .eligible .now)) (sym n) (e .pre .0), (omega (arith, n, e .pre .1 .0 (l .loop .k) (c .before .before .before .before .before .loop-test .taken)), omega (arith, c .before .before .before .before .before .loop-test .taken, l .loop .inv .2 .len)))
+slice-read-if2 : tie.Need-slice-read-if2 Inv-loop μ-loop
+slice-read-if2 c = omega (arith, c .before .before .before .loop-test .taken, c .before .before .before .before .loop .inv .2 .len)
 
 add-k-2 : tie.Need-add-k-2 Inv-loop μ-loop
 add-k-2 c = search needs
@@ -105,24 +120,67 @@ loop-less-2 c = search needs
 
 loop-again-2 : tie.Need-loop-again-2 Inv-loop μ-loop
 loop-again-2 c =
-    let l = c .before .before .before .before .before .before .before .before .before .before .before .before in
-    let t = c .before .before .before .before .before in
-    (refl, omega (arith, c .before .before .before .before .before .before .before .before .before .before .before .loop-test .taken), subst (Done l (t .extend-entry .last .1 .1 .1 .1 .1 .1 .1 .0) (t .extend-entry .last .1 .1 .1 .1 .1 .1 .1 .1 .0)) (ap (λ (b : Bool). l .loop .changed || b) (not-true (t .extend-entry .result) (c .if2 .taken)) ∙ or-none (l .loop .changed)) (step t))
+    let l = c .before .before .before .before .before in
+    let q = c .before .before .before .before .loop-test .taken in
+    (refl, omega (arith, q), skip l q (inr (c .if2 .taken ∙ l .loop .inv .3)), l .loop .inv .3)
+
+mul-extend-entry : tie.Need-mul-extend-entry Inv-loop μ-loop
+mul-extend-entry c = search needs
+
+shared-slice-read-extend-entry : tie.Need-shared-slice-read-extend-entry Inv-loop μ-loop
+shared-slice-read-extend-entry c = search needs
+
+extend-entry-requires : tie.Need-extend-entry-requires Inv-loop μ-loop
+extend-entry-requires c κs =
+    let l = c .before .before .before .before .before .before .before .before in
+    let q = c .before .before .before .before .before .before .before .loop-test .taken in
+    let e = entry l in
+    let a = e .args in
+    let n : length (l .loop .plan) ≡ length (a .plan .now) = l .loop .inv .2 .passed .len in
+    (subst (Suffixes (a .normal .now) (a .included .now) (a .record-module .now) (a .record-kind .now) (a .record-target .now) (a .sensitive .now) (a .eligible .now)) (sym n) (e .pre .0), (omega (arith, n, e .pre .1 .0 (l .loop .k) q), omega (arith, q, l .loop .inv .2 .len)))
 
 add-k-3 : tie.Need-add-k-3 Inv-loop μ-loop
-add-k-3 c = search needs
+add-k-3 c = omega (arith, c .before .before .before .before .before .before .before .before .before .before .before .before .before .loop-test .taken, entry (loop (c .before .before .before .before .before)) .good)
 
 loop-less-3 : tie.Need-loop-less-3 Inv-loop μ-loop
 loop-less-3 c = search needs
 
 loop-again-3 : tie.Need-loop-again-3 Inv-loop μ-loop
 loop-again-3 c =
-    let l = c .before .before .before .before .before .before .before .before .before .before .before .before in
     let t = c .before .before .before .before .before in
-    (refl, omega (arith, c .before .before .before .before .before .before .before .before .before .before .before .loop-test .taken), subst (Done l (t .extend-entry .last .1 .1 .1 .1 .1 .1 .1 .0) (t .extend-entry .last .1 .1 .1 .1 .1 .1 .1 .1 .0)) (ap (λ (b : Bool). l .loop .changed || b) (not-false (t .extend-entry .result) (c .if2 .left)) ∙ or-some (l .loop .changed)) (step t))
+    let l = loop t in
+    let none = not-true (t .extend-entry .result) (c .if3 .taken) in (
+      refl,
+      omega (arith, c .before .before .before .before .before .before .before .before .before .before .before .before .before .loop-test .taken),
+      subst (Done l (noted t) (planned t)) (ap (λ (b : Bool). l .loop .changed || b) none ∙ or-none (l .loop .changed)) (step t),
+      l .loop .inv .3 ∙ ap (noteOf (entry l .args .sensitive .now)) (sym (t .extend-entry .ensures .added .same none)),
+    )
+
+note-of-requires-2 : tie.Need-note-of-requires-2 Inv-loop μ-loop
+note-of-requires-2 c κs =
+    let t = c .before .before .before .before .before .before in
+    let f = entry (loop t) .pre .0 in
+    (t .extend-entry .ensures .added .len ∙ loop t .loop .inv .2 .passed .len ∙ sym (f .sensitives), omega (arith, f .sensitives, f .few))
+
+add-k-4 : tie.Need-add-k-4 Inv-loop μ-loop
+add-k-4 c = omega (arith, c .before .before .before .before .before .before .before .before .before .before .before .before .before .before .before .loop-test .taken, entry (loop (c .before .before .before .before .before .before .before)) .good)
+
+loop-less-4 : tie.Need-loop-less-4 Inv-loop μ-loop
+loop-less-4 c = search needs
+
+loop-again-4 : tie.Need-loop-again-4 Inv-loop μ-loop
+loop-again-4 c =
+    let t = c .before .before .before .before .before .before .before in
+    let l = loop t in
+    let some = not-false (t .extend-entry .result) (c .before .before .if3 .left) in (
+      refl,
+      omega (arith, c .before .before .before .before .before .before .before .before .before .before .before .before .before .before .before .loop-test .taken),
+      subst (Done l (noted t) (planned t)) (ap (λ (b : Bool). l .loop .changed || b) some ∙ or-some (l .loop .changed)) (step t),
+      c .note-of2 .ensures,
+    )
 
 same-length : tie.Need-same-length Inv-loop μ-loop
-same-length c = let l = c .before in l .loop .inv .2 .len ∙ sym (c .before .before .before .before .before .before .before .before .before .before .before .before .pre .1 .1 .0)
+same-length c = let l = c .before in l .loop .inv .2 .len ∙ sym (entry l .pre .1 .1 .0)
 
 same-length-2 : tie.Need-same-length-2 Inv-loop μ-loop
 same-length-2 c = c .before .loop .inv .2 .passed .len
@@ -132,7 +190,7 @@ returns c =
     let l = c .before in
     let a = entry l .args in
     let n : l .loop .k ≡ length (a .roots .now) = omega (arith, c .loop-test .left, l .loop .inv .0, l .loop .inv .1) in
-    (l .loop .inv .2 .settles, subst (λ (roots : List ℕ). Passed (suffixAsks (has (a .eligible .now)) (sensitiveOrders (a .normal .now) (a .included .now) (a .record-module .now) (a .record-kind .now) (a .record-target .now) (a .sensitive .now) roots)) (a .plan .now) (l .loop .plan) (l .loop .changed)) (ap (λ (i : ℕ). take i (a .roots .now)) n ∙ take-length (a .roots .now)) (l .loop .inv .2 .passed))
+    (l .loop .inv .2 .noted, subst (λ (roots : List ℕ). Passed (suffixAsks (has (a .eligible .now)) (sensitiveOrders (a .normal .now) (a .included .now) (a .record-module .now) (a .record-kind .now) (a .record-target .now) (a .sensitive .now) roots)) (a .plan .now) (l .loop .plan) (l .loop .changed)) (ap (λ (i : ℕ). take i (a .roots .now)) n ∙ take-length (a .roots .now)) (l .loop .inv .2 .passed))
 
 pub close-expected-sensitive-suffixes-spec : {M : Type 1} → statement M
 close-expected-sensitive-suffixes-spec =
@@ -140,21 +198,28 @@ close-expected-sensitive-suffixes-spec =
     (tie.spec
     Inv-loop
     μ-loop
+    note-of-requires
     loop-holds
     mul-if1
     slice-read-if1
     add-k
     loop-less
     loop-again
-    mul-extend-entry
-    shared-slice-read-extend-entry
-    extend-entry-requires
+    mul-if2
+    slice-read-if2
     add-k-2
     loop-less-2
     loop-again-2
+    mul-extend-entry
+    shared-slice-read-extend-entry
+    extend-entry-requires
     add-k-3
     loop-less-3
     loop-again-3
+    note-of-requires-2
+    add-k-4
+    loop-less-4
+    loop-again-4
     same-length
     same-length-2
     returns)
