@@ -1,7 +1,7 @@
 -- What a project that no test refuses is known to be.
 -- Assumes nothing.
-use mathlib.Core.Path.{_≡_, refl, sym, ap, _∙_}
-use mathlib.Core.Logic.{_⊎_, inl, inr, ⊎-elim, ⊎-map}
+use mathlib.Core.Path.{_≡_, refl, sym, _∙_}
+use mathlib.Core.Logic.{_⊎_, ⊎-map}
 use mathlib.Core.Bool.{Bool, true, false, cond, not, _&&_, _||_, true≢false}
 use mathlib.Core.List.{List, [], _∷_, zip, zipWith, List·Memᴰ, List·Memᴰ·head, List·Memᴰ·tail}
 use Prim.Native.Nat.{ℕ, zero, suc, _≤_, _<_}
@@ -10,9 +10,9 @@ use lib.ListN.{length, getD}
 use lib.Dec.{eqb, ltb, leb}
 use borrow.Author.Tests.{ltb-true, leb-true, eqb-true, eqb-false, eq-eqb}
 use Rattle.lists.specs.Words.{isZero, upTo, any, every, twice, Distinct}
-use Rattle.lists.proofs.Laws.{both, and-parts, and-join, or-parts, not-true, every-mem, upTo-mem, mem-elem, mem-any}
+use Rattle.lists.proofs.Laws.{and-parts, and-join, or-parts, not-true, every-mem, upTo-mem, mem-elem, mem-any}
 use Rattle.tables.specs.Project.{Project, missing}
-use Rattle.tables.specs.Readings.{modules, chunks, isNormal}
+use Rattle.tables.specs.Readings.{modules, isNormal}
 use Rattle.tables.specs.Refusal.{moduleLimit, chunkLimit, rowLimit, sized, codeSized, symbolsSized, chunksSized, sizesFit, below, belowOrMissing, codeIn, symbolsIn, chunksIn, valuesFit, rowsRise, samePair, allNormal, usesOwn, dependedResolved, plainSymbols, entriesOnce, importsOnce, rowsAgree, refusal}
 use Rattle.tables.specs.Accepted.{Below, BelowOrMissing, Sizes, Values, Rises, Agrees, Accepted}
 use Rattle.tables.proofs.Rise.{rises-rising}

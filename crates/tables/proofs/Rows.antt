@@ -1,7 +1,7 @@
 -- The rows of an owner in a rising column are those from its first row to the next owner's first.
 -- Assumes nothing.
 use mathlib.Core.Path.{_≡_, refl, sym, ap, _∙_}
-use mathlib.Core.Bool.{Bool, true, false, cond}
+use mathlib.Core.Bool.{Bool}
 use mathlib.Core.List.{List, [], _∷_, _++_, append-nil, map, flatMap}
 use Prim.Native.Nat.{ℕ, zero, suc, _+_, _-_, _≤_, _<_}
 use native.Mathlib.Nat.{zero-add}
@@ -12,7 +12,7 @@ use lib.ListN.{length, getD, take, drop}
 use lib.Seq.{drop-cons}
 use lib.Dec.{eqb}
 use borrow.Author.Tests.{eq-eqb, ne-eqb}
-use Rattle.lists.specs.Words.{countFrom, upTo, keep}
+use Rattle.lists.specs.Words.{countFrom, keep}
 use Rattle.lists.proofs.Laws.{countFrom-append, mem-countFrom, keep-append, keep-none, keep-all}
 use Rattle.tables.specs.declared.Target.{Target}
 use Rattle.tables.specs.Lookups.{FirstRow}

@@ -3,12 +3,12 @@
 use mathlib.Core.Path.{_≡_, refl, sym, _∙_}
 use mathlib.Core.Logic.{⊎-elim}
 use mathlib.Core.Bool.{Bool, true, false, true≢false}
-use mathlib.Core.List.{List, [], _∷_, List·Memᴰ}
-use Prim.Native.Nat.{ℕ, zero, suc, _≤_, _<_}
+use mathlib.Core.List.{List, [], _∷_}
+use Prim.Native.Nat.{ℕ, suc, _≤_, _<_}
 use native.Mathlib.Omega.{arith}
 use lib.ListN.{length, getD}
-use Rattle.lists.specs.Words.{upTo, every}
-use Rattle.lists.proofs.Laws.{both, every-mem, mem-every, upTo-mem, mem-upTo}
+use Rattle.lists.specs.Words.{every}
+use Rattle.lists.proofs.Laws.{both}
 use Rattle.tables.proofs.Accepted.{every-at}
 
 -- one that fails
@@ -27,12 +27,3 @@ module _ (f : ℕ → Bool) (xs : List ℕ) (i : ℕ) where
   -- a row of a column failed
   pub row-fails : i < length xs → f (getD xs i 0) ≡ false → false ≡ every f xs
   row-fails l e = fails (every f xs) (λ t. true≢false (sym (every-at f xs t i l) ∙ e))
-
-module _ (f : ℕ → Bool) (n i : ℕ) where
-  -- all numbers below n passed
-  pub counts-pass : n ≤ i → ((k : ℕ) → k < i → f k ≡ true) → true ≡ every f (upTo n)
-  counts-pass l h = sym (mem-every f (upTo n) (λ k m. h k (omega (arith, mem-upTo {n = n} m))))
-
-  -- a number below n failed
-  pub count-fails : i < n → f i ≡ false → false ≡ every f (upTo n)
-  count-fails l e = fails (every f (upTo n)) (λ t. true≢false (sym (every-mem f (upTo n) t (upTo-mem l)) ∙ e))

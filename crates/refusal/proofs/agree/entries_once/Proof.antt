@@ -1,10 +1,9 @@
 -- `refusal::agree::entries_once` meets its contract: what is left, from the marks at hand, answers as all entries from no mark.
 -- Assumes nothing.
-use mathlib.Core.Path.{_≡_, refl, sym, ap, _∙_}
-use Prim.Native.Nat.{ℕ, _+_, _-_, _≤_, _<_}
+use mathlib.Core.Path.{_≡_, sym, ap, _∙_}
+use Prim.Native.Nat.{ℕ, _-_}
 use native.Mathlib.Omega.{arith}
-use lib.ListN.{length, getD, drop, drop-of-length-le}
-use borrow.Author.Needs.{needs}
+use lib.ListN.{length, drop, drop-of-length-le}
 use mathlib.Core.Bool.{not}
 use Rattle.lists.specs.Words.{isZero}
 use Rattle.tables.specs.Refusal.{entriesOnce}

@@ -1,10 +1,9 @@
 -- `refusal::agree::imports_once` meets its contract: what is left, from the stamps at hand, answers as all pairs from no stamp.
 -- Assumes nothing.
-use mathlib.Core.Path.{_≡_, refl, sym, ap, _∙_}
-use Prim.Native.Nat.{ℕ, _+_, _-_, _≤_, _<_}
+use mathlib.Core.Path.{_≡_, sym, ap, _∙_}
+use Prim.Native.Nat.{_-_}
 use native.Mathlib.Omega.{arith}
-use lib.ListN.{length, getD, drop, drop-of-length-le}
-use borrow.Author.Needs.{needs}
+use lib.ListN.{length, drop}
 use mathlib.Core.List.{zip}
 use borrow.Author.Tests.{eq-eqb, ne-eqb}
 use Rattle.tables.specs.Refusal.{importsOnce}

@@ -1,6 +1,6 @@
 -- `refusal::agree::plain_symbols` meets its contract: the rows looked at and the rows left are all, and a row that has no symbol column passes.
 -- Assumes nothing.
-use mathlib.Core.Path.{_≡_, refl}
+use mathlib.Core.Path.{_≡_}
 use mathlib.Core.Logic.{⊎-elim}
 use mathlib.Core.Bool.{Bool, true, not, _&&_, _||_}
 use mathlib.Core.List.{List}

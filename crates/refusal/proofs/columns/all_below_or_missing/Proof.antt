@@ -1,6 +1,5 @@
 -- `refusal::columns::all_below_or_missing` meets its contract: every value is below a bound that is over the largest.
 -- Assumes nothing.
-use Prim.Native.Nat.{ℕ}
 use native.Mathlib.Nat.{le-refl}
 use native.Mathlib.Omega.{arith}
 use lib.ListN.{length, getD}
