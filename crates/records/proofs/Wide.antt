@@ -23,10 +23,10 @@ use denote.Slice.{ShrSlice, slice-vals, shr-slice-tells}
 use denote.Steps.{nothing}
 use denote.Triple.Spec.{tripleOf}
 use denote.Triple.Statement.{Contract}
-use Rattle.records.specs.declared.Record.{Record}
-use Rattle.records.proofs.Record as Row
-use Rattle.records.proofs.Around.{and-nothing}
-use Rattle.records.proofs.columns_of as g
+use Rattle.record_columns.specs.declared.Record.{Record}
+use Rattle.record_columns.proofs.Record as Row
+use Rattle.record_columns.proofs.Around.{and-nothing}
+use Rattle.record_columns.proofs.core.columns_of as g
 
 abbrev pub Records : Lft → RattleType
 Records κ = ShrSlice (named 0) κ Row.the-row

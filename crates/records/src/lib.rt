@@ -1,98 +1,19 @@
-// Import records, lent as a slice of records under thin functions, for the column core.
+// Sort, expected order and whole analysis with the import records lent as a slice of records.
 ghost use mathlib.Core.Path.{_≡_};
 ghost use mathlib.Core.List.{List};
-ghost use Prim.Native.Nat.{_<_};
-ghost use lib.ListN.{length, getD};
 ghost use Rattle.tables.specs.Project.{project};
 ghost use Rattle.sort_modules.specs.OfProject.{SortModules};
 ghost use Rattle.expected_order.specs.OfProject.{ExpectedOrder};
 ghost use Rattle.order_analysis.specs.Whole.{WholeAnalysis};
-ghost use Rattle.records.specs.declared.Record.{Record};
-ghost use Rattle.records.specs.Rows.{noRow, copied, columnsOf, importersOf, kindsOf, targetsOf};
+ghost use Rattle.record_columns.specs.declared.Record.{Record};
+ghost use Rattle.record_columns.specs.Rows.{columnsOf, importersOf, kindsOf, targetsOf};
 use expected_order::expected_order;
 use order_analysis::analyze_execution_order;
+use record_columns::Record;
+use record_columns::core::Columns;
+use record_columns::core::columns_of;
 use sort_modules::sort_modules;
 use tables::Answer;
-
-// An import record: 01's row `module kind target`.
-pub struct Record {
-    pub importer: u32,
-    pub kind: u32,
-    pub target: u32,
-}
-
-// The columns of a list of records, from place 0, and how many rows the list has.
-struct Columns {
-    rows: usize,
-    importers: [u32; 16384],
-    kinds: [u32; 16384],
-    targets: [u32; 16384],
-}
-
-// How many records there are.
-fn count(records: &[Record]) -> usize
-    ensures { λ r. ⌜ r ≡ length (now (records .entry)) ⌝ }
-{
-    records.len()
-}
-
-// The importing module at a row.
-fn importer_at(records: &[Record], row: usize) -> u32
-    requires { ⌜ row < length (now records) ⌝ }
-    ensures { λ r. ⌜ r ≡ getD (now (records .entry)) row noRow .importer ⌝ }
-{
-    records[row].importer
-}
-
-// The kind at a row.
-fn kind_at(records: &[Record], row: usize) -> u32
-    requires { ⌜ row < length (now records) ⌝ }
-    ensures { λ r. ⌜ r ≡ getD (now (records .entry)) row noRow .kind ⌝ }
-{
-    records[row].kind
-}
-
-// The target at a row.
-fn target_at(records: &[Record], row: usize) -> u32
-    requires { ⌜ row < length (now records) ⌝ }
-    ensures { λ r. ⌜ r ≡ getD (now (records .entry)) row noRow .target ⌝ }
-{
-    records[row].target
-}
-
-// How many rows are copied of a list of so many: none of one over the limit.
-fn rows_copied(rows: usize) -> usize
-    ensures { λ r. ⌜ r ≡ copied rows ⌝ }
-{
-    if 16384 < rows {
-        return 0;
-    }
-    rows
-}
-
-// The columns of a list of records. Nothing is copied of one over the limit.
-fn columns_of(records: &[Record]) -> Columns
-    ensures { λ r. ⌜ r ≡ columnsOf (now (records .entry)) ⌝ }
-{
-    let mut importers = [0u32; 16384];
-    let mut kinds = [0u32; 16384];
-    let mut targets = [0u32; 16384];
-    let rows = count(records);
-    let end = rows_copied(rows);
-    let mut row = 0;
-    while row < end {
-        importers[row] = importer_at(records, row);
-        kinds[row] = kind_at(records, row);
-        targets[row] = target_at(records, row);
-        row += 1;
-    }
-    Columns {
-        rows: rows,
-        importers: importers,
-        kinds: kinds,
-        targets: targets,
-    }
-}
 
 // `sort_modules` over the columns of a list of records, which are refused if they are over their limit.
 fn sort_columns<'a>(

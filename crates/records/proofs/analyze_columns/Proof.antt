@@ -9,8 +9,8 @@ use borrow.Author.Needs.{needs}
 use Rattle.tables.specs.Project.{Project, project}
 use Rattle.order_analysis.specs.Whole.{WholeAnalysis}
 use Rattle.order_analysis.proofs.Promise.{project-refused}
-use Rattle.records.specs.Rows.{importersOf, kindsOf, targetsOf}
-use Rattle.records.proofs.Copied.{as-columns, too-many, Within, within}
+use Rattle.record_columns.specs.Rows.{importersOf, kindsOf, targetsOf}
+use Rattle.record_columns.proofs.Copied.{as-columns, too-many, Within, within}
 use Rattle.records.proofs.analyze_columns.Statement.{statement}
 use Rattle.records.proofs.analyze_columns.Tie as tie
 

@@ -37,17 +37,17 @@ use denote.Triple.Walked.{says}
 use Rattle.tables.specs.declared.Answer.{Answer}
 use Rattle.tables.proofs.Answer as Ans
 use Rattle.tables.proofs.Answer.Laws as Ans′
-use Rattle.records.specs.declared.Record.{Record}
-use Rattle.records.specs.declared.Columns.{Columns}
-use Rattle.records.specs.Rows.{columnsOf}
-use Rattle.records.proofs.Columns as Cols
-use Rattle.records.proofs.Columns.Laws as Cols′
-use Rattle.records.proofs.Around.{met-by, ends-as, and-nothing, withT, withD, withV, its, others, take, put}
+use Rattle.record_columns.specs.declared.Record.{Record}
+use Rattle.record_columns.specs.declared.core.Columns.{Columns}
+use Rattle.record_columns.specs.Rows.{columnsOf}
+use Rattle.record_columns.proofs.core.Columns as Cols
+use Rattle.record_columns.proofs.core.Columns.Laws as Cols′
+use Rattle.record_columns.proofs.Around.{met-by, ends-as, and-nothing, withT, withD, withV, its, others, take, put}
 use Rattle.records.proofs.Wide.{Shared, spelled, told, Copies, to-copies, goes-copies}
-use Rattle.records.proofs.columns_of as g
-use Rattle.records.proofs.columns_of.Symbol as g-def
-use Rattle.records.proofs.columns_of.Symbol.{name as #records·columns-of}
-use Rattle.records.proofs.columns_of.Met as g-thm
+use Rattle.record_columns.proofs.core.columns_of as g
+use Rattle.record_columns.proofs.core.columns_of.Symbol as g-def
+use Rattle.record_columns.proofs.core.columns_of.Symbol.{name as #record-columns·core·columns-of}
+use Rattle.record_columns.proofs.core.columns_of.Met as g-thm
 use Rattle.records.proofs.sort_columns as e
 use Rattle.records.proofs.sort_columns.Symbol as e-def
 use Rattle.records.proofs.sort_columns.Symbol.{name as #records·sort-columns}
@@ -103,7 +103,7 @@ module _ {M : Type 1} (𝓤 : URA M) (H : Heap 𝓤) (A : Atoms 𝓤) (W : Given
         qed W (some (λ (ws : Lasts e.ended κs (a′ c)). ‵ (lasts e.ended κs (a′ c) ws) ⊛ raw (e.clauses 𝓤 H A at-mem run κs (a′ c) .ensures tt r (atExit e.ended κs (a′ c) ws))) ∷ []) ∵ pick ! (λ ws. split ! $ move ! (1 ∷ []) $
         heard ! _ (λ d. show ! (λ (ws′ : Lasts f.ended κs a). sep 𝓤 (sem 𝓤 H A (lasts f.ended κs a ws′)) (f.clauses 𝓤 H A at-mem run κs a .ensures tt r (atExit f.ended κs a ws′))) ws $ says ! (d (records .now) is) $ done !))
 
-    module _ (C : Calls 𝓤 H) (Λ : Loops 𝓤 H) (fm : FmC 𝓤 H (W .laws) C) (known-copies : Triple 𝓤 (C #records·columns-of) (Copies 𝓤 H A W at-mem run)) (known-core : Triple 𝓤 (C #records·sort-columns) Core) where
+    module _ (C : Calls 𝓤 H) (Λ : Loops 𝓤 H) (fm : FmC 𝓤 H (W .laws) C) (known-copies : Triple 𝓤 (C #record-columns·core·columns-of) (Copies 𝓤 H A W at-mem run)) (known-core : Triple 𝓤 (C #records·sort-columns) Core) where
       walk : Are (Ts κs) (Ises (Ts κs)) a vals → ent 𝓤 (onEntry 𝓤 H A f.signature κs qs a vals) (WpFn 𝓤 H C Λ code.function (flat (Ts κs) vals) (tripleOf 𝓤 H A f.signature (f.spec 𝓤 H A at-mem run) .post end))
       walk are =
           qed W ((‵ (flft κ₀ q₀) ⊛ ‵ (flft κ₁ q₁) ⊛ ‵ (flft κ₂ q₂) ⊛ ‵ ftrue) ∷ ‵ (owns (Ts κs) a vals) ∷ []) ∵ enter ! C Λ code.function (flat (Ts κs) vals) _ $
@@ -135,7 +135,7 @@ module _ {M : Type 1} (𝓤 : URA M) (H : Heap 𝓤) (A : Atoms 𝓤) (W : Given
           move ! (84 ∷ 85 ∷ []) $ free1 ! $ move ! (82 ∷ 83 ∷ []) $ free1 ! $ move ! (80 ∷ 81 ∷ []) $ free1 ! $ move ! (78 ∷ 79 ∷ []) $ free1 ! $ move ! (76 ∷ 77 ∷ []) $ free1 ! $ move ! (74 ∷ 75 ∷ []) $ free1 ! $ move ! (72 ∷ 73 ∷ []) $ free1 ! $ move ! (70 ∷ 71 ∷ []) $ free1 ! $ move ! (68 ∷ 69 ∷ []) $ free1 ! $ move ! (66 ∷ 67 ∷ []) $ free1 ! $ move ! (64 ∷ 65 ∷ []) $ free1 ! $ move ! (62 ∷ 63 ∷ []) $ free1 ! $ move ! (60 ∷ 61 ∷ []) $ free1 ! $ move ! (58 ∷ 59 ∷ []) $ free1 ! $ move ! (56 ∷ 57 ∷ []) $ free1 ! $ move ! (54 ∷ 55 ∷ []) $ free1 ! $ move ! (52 ∷ 53 ∷ []) $ free1 ! $ move ! (50 ∷ 51 ∷ []) $ free1 ! $ move ! (48 ∷ 49 ∷ []) $ free1 ! $ move ! (46 ∷ 47 ∷ []) $ free1 ! $ move ! (44 ∷ 45 ∷ []) $ free1 ! $ move ! (42 ∷ 43 ∷ []) $ free1 ! $ move ! (40 ∷ 41 ∷ []) $ free1 ! $ move ! (38 ∷ 39 ∷ []) $ free1 ! $ move ! (36 ∷ 37 ∷ []) $ free1 ! $ move ! (34 ∷ 35 ∷ []) $ free1 ! $ move ! (32 ∷ 33 ∷ []) $ free1 ! $ move ! (30 ∷ 31 ∷ []) $ free1 ! $ move ! (28 ∷ 29 ∷ []) $ free1 ! $ move ! (26 ∷ 27 ∷ []) $ free1 ! $ move ! (24 ∷ 25 ∷ []) $ free1 ! $ move ! (22 ∷ 23 ∷ []) $ free1 ! $ move ! (20 ∷ 21 ∷ []) $ free1 ! $ move ! (18 ∷ 19 ∷ []) $ free1 ! $ move ! (16 ∷ 17 ∷ []) $ free1 ! $ move ! (14 ∷ 15 ∷ []) $ free1 ! $ move ! (12 ∷ 13 ∷ []) $ free1 ! $ move ! (10 ∷ 11 ∷ []) $ free1 ! $ move ! (8 ∷ 9 ∷ []) $ free1 ! $ move ! (6 ∷ 7 ∷ []) $ free1 ! $ move ! (4 ∷ 5 ∷ []) $ free1 ! $ free0 ! $
           keep ! (1 ∷ 0 ∷ 2 ∷ []) $ join ! $ by ! (ends-as 𝓤 H A W f.signature (f.spec 𝓤 H A at-mem run) end w r _ (same c r is)))))))))))))))))))))))))))))))))))))))))))))))))))
 
-  meets : (𝓣 : Tables 𝓤 H) → Triple 𝓤 (𝓣 .C #records·columns-of) (Copies 𝓤 H A W at-mem run) → Triple 𝓤 (𝓣 .C #records·sort-columns) Core → Meets 𝓤 H A f.signature (WpFn 𝓤 H (𝓣 .C) (𝓣 .Λ) code.function) (f.spec 𝓤 H A at-mem run)
+  meets : (𝓣 : Tables 𝓤 H) → Triple 𝓤 (𝓣 .C #record-columns·core·columns-of) (Copies 𝓤 H A W at-mem run) → Triple 𝓤 (𝓣 .C #records·sort-columns) Core → Meets 𝓤 H A f.signature (WpFn 𝓤 H (𝓣 .C) (𝓣 .Λ) code.function) (f.spec 𝓤 H A at-mem run)
   meets 𝓣 known-copies known-core = met-by 𝓤 H A f.ended (f.clauses 𝓤 H A at-mem run) (WpFn 𝓤 H (𝓣 .C) (𝓣 .Λ) code.function) spells tells (λ κs qs bounds a g are.
       via 𝓤 _ (fst∗ 𝓤 _ (emp 𝓤)) (walk (κs .0) (κs .1 .0) (κs .1 .1 .0) (qs .0) (qs .1 .0) (qs .1 .1 .0) a (𝓣 .C) (𝓣 .Λ) (fmOf 𝓤 H (W .laws) 𝓣) known-copies known-core are))
 
@@ -145,5 +145,5 @@ sort-records-spec 𝓤 H 𝓜 𝓖 𝓡 =
     entered 𝓤 H (tripleOf 𝓤 H (𝓖 .A) f.signature (f.spec 𝓤 H (𝓖 .A) (𝓜 .mem) (𝓡 .run)))
     (tables 𝓤 H 𝓜 𝓡 code.env .C) (tables 𝓤 H 𝓜 𝓡 code.env .Λ) #records·sort-records code.function (code.unfolded 𝓤 H 𝓜 𝓡)
     (meets 𝓤 H (𝓖 .A) (givenOf 𝓤 H 𝓜 𝓖) (𝓜 .mem) (𝓡 .run) (tablesOf 𝓤 H 𝓜 (tables 𝓤 H 𝓜 𝓡 code.env))
-    (cited 𝓤 H (Copies 𝓤 H (𝓖 .A) (givenOf 𝓤 H 𝓜 𝓖) (𝓜 .mem) (𝓡 .run)) 𝓜 𝓡 code.env #records·columns-of g-def.routine code.calls-records·columns-of (g-thm.met 𝓤 H 𝓜 𝓖 𝓡))
+    (cited 𝓤 H (Copies 𝓤 H (𝓖 .A) (givenOf 𝓤 H 𝓜 𝓖) (𝓜 .mem) (𝓡 .run)) 𝓜 𝓡 code.env #record-columns·core·columns-of g-def.routine code.calls-record-columns·core·columns-of (g-thm.met 𝓤 H 𝓜 𝓖 𝓡))
     (cited 𝓤 H (Core 𝓤 H (𝓖 .A) (givenOf 𝓤 H 𝓜 𝓖) (𝓜 .mem) (𝓡 .run)) 𝓜 𝓡 code.env #records·sort-columns e-def.routine code.calls-records·sort-columns (e-thm.met 𝓤 H 𝓜 𝓖 𝓡)))

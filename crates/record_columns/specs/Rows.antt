@@ -6,8 +6,8 @@ use mathlib.Core.List.{List, map, _++_}
 use lib.ListN.{length, take, drop, replicate}
 use lib.Dec.{leb}
 use Rattle.tables.specs.Refusal.{rowLimit}
-use Rattle.records.specs.declared.Record.{Record}
-use Rattle.records.specs.declared.Columns.{Columns}
+use Rattle.record_columns.specs.declared.Record.{Record}
+use Rattle.record_columns.specs.declared.core.Columns.{Columns}
 
 -- what stands past the last row
 abbrev pub noRow : Record

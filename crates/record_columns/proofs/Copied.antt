@@ -17,10 +17,10 @@ use Rattle.tables.specs.Project.{Project}
 use Rattle.tables.specs.Refusal.{rowLimit, sizesFit, refusal}
 use Rattle.tables.proofs.Accepted.{sizes-fit}
 use Rattle.tables.proofs.Number.{number-1}
-use Rattle.records.specs.declared.Record.{Record}
-use Rattle.records.specs.declared.Columns.{Columns}
-use Rattle.records.specs.Rows.{importersOf, kindsOf, targetsOf, copied, table, columnsOf}
-use Rattle.records.proofs.Columns as Cols
+use Rattle.record_columns.specs.declared.Record.{Record}
+use Rattle.record_columns.specs.declared.core.Columns.{Columns}
+use Rattle.record_columns.specs.Rows.{importersOf, kindsOf, targetsOf, copied, table, columnsOf}
+use Rattle.record_columns.proofs.core.Columns as Cols
 
 pub copied-all : (n : ℕ) → n ≤ rowLimit → copied n ≡ n
 unfolding copied

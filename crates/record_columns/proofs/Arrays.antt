@@ -34,7 +34,7 @@ use denote.Steps.{owned, peeks}
 use denote.Triple.Walked.{says}
 use Rattle.lists.proofs.Laws.{front-more, take-more}
 use Rattle.tables.specs.Refusal.{rowLimit}
-use Rattle.records.specs.Rows.{table}
+use Rattle.record_columns.specs.Rows.{table}
 
 abbrev pub arrVal : List ℕ → Val
 arrVal xs = arrayVal (map (λ (x : ℕ). vint w32 x) xs)

@@ -37,12 +37,12 @@ use denote.Triple.Entry.{Args, Vals as Valued, alive, onEntry}
 use denote.Triple.Spec.{Meets, tripleOf}
 use denote.Triple.Clauses.{Clauses, Lasts, atExit, ensured, lasts, closing}
 use denote.Triple.Walked.{says, needs}
-use Rattle.records.specs.declared.Record.{Record}
-use Rattle.records.specs.Rows.{noRow}
-use Rattle.records.proofs.Record as Row
-use Rattle.records.proofs.Record.Laws as Row′
-use Rattle.records.proofs.Around.{met-by, same-value}
-use Rattle.records.proofs.kind_at as f
+use Rattle.record_columns.specs.declared.Record.{Record}
+use Rattle.record_columns.specs.Rows.{noRow}
+use Rattle.record_columns.proofs.Record as Row
+use Rattle.record_columns.proofs.Record.Laws as Row′
+use Rattle.record_columns.proofs.Around.{met-by, same-value}
+use Rattle.record_columns.proofs.kind_at as f
 
 -- a record's machine values
 abbrev cells : Record → Vals

@@ -1,9 +1,9 @@
--- `records::rows_copied` meets its contract.
+-- `record_columns::core::rows_copied` meets its contract.
 -- Assumes nothing.
 use mathlib.Core.Path.{sym}
-use Rattle.records.proofs.Copied.{copied-all, copied-none}
-use Rattle.records.proofs.rows_copied.Statement.{statement}
-use Rattle.records.proofs.rows_copied.Tie as tie
+use Rattle.record_columns.proofs.Copied.{copied-all, copied-none}
+use Rattle.record_columns.proofs.core.rows_copied.Statement.{statement}
+use Rattle.record_columns.proofs.core.rows_copied.Tie as tie
 
 returns : tie.Need-returns
 returns c = sym (copied-none _ (c .if1 .taken))

@@ -1,4 +1,4 @@
--- `records::columns_of` meets its contract: a walk of its MIR, by hand, with its loop. The three arrays are taken apart before the loop and put together after it. A turn calls the thin functions at the row, and stores what each answers.
+-- `record_columns::core::columns_of` meets its contract: a walk of its MIR, by hand, with its loop. The three arrays are taken apart before the loop and put together after it. A turn calls the thin functions at the row, and stores what each answers.
 -- All that the proof knows of the callees is that each meets its contract.
 -- Assumes nothing.
 use mathlib.Core.Path.{_≡_, refl, sym, ap, subst, _∙_}
@@ -46,39 +46,39 @@ use denote.Triple.Clauses.{Lasts, atExit, ensured, lasts}
 use denote.Triple.Table.{entered, cited}
 use denote.Triple.Walked.{says}
 use Rattle.tables.specs.Refusal.{rowLimit}
-use Rattle.records.specs.declared.Record.{Record}
-use Rattle.records.specs.Rows.{noRow, importersOf, kindsOf, targetsOf, copied, table, columnsOf}
-use Rattle.records.proofs.Record as Row
-use Rattle.records.proofs.Columns as Cols
-use Rattle.records.proofs.Columns.Laws as Cols′
-use Rattle.records.proofs.Around.{met-by, and-nothing}
-use Rattle.records.proofs.Arrays.{arrVal, arr-typed, zeros-are, zeros-typed, opened, closed, stored}
-use Rattle.records.proofs.Copied.{copied-le, copied-limit, table-long}
-use Rattle.records.proofs.count as n·
-use Rattle.records.proofs.count.Symbol as n·-def
-use Rattle.records.proofs.count.Symbol.{name as #records·count}
-use Rattle.records.proofs.count.Met as n·-thm
-use Rattle.records.proofs.rows_copied as m·
-use Rattle.records.proofs.rows_copied.Symbol as m·-def
-use Rattle.records.proofs.rows_copied.Symbol.{name as #records·rows-copied}
-use Rattle.records.proofs.rows_copied.Met as m·-thm
-use Rattle.records.proofs.importer_at as g₁
-use Rattle.records.proofs.importer_at.Symbol as g₁-def
-use Rattle.records.proofs.importer_at.Symbol.{name as #records·importer-at}
-use Rattle.records.proofs.importer_at.Met as g₁-thm
-use Rattle.records.proofs.kind_at as g₂
-use Rattle.records.proofs.kind_at.Symbol as g₂-def
-use Rattle.records.proofs.kind_at.Symbol.{name as #records·kind-at}
-use Rattle.records.proofs.kind_at.Met as g₂-thm
-use Rattle.records.proofs.target_at as g₃
-use Rattle.records.proofs.target_at.Symbol as g₃-def
-use Rattle.records.proofs.target_at.Symbol.{name as #records·target-at}
-use Rattle.records.proofs.target_at.Met as g₃-thm
-use Rattle.records.proofs.columns_of.Key.{name as #records·columns-of}
-use Rattle.records.proofs.columns_of as f
-use Rattle.records.proofs.columns_of.Statement as stated
-use Rattle.records.proofs.columns_of.Code as code
-use Rattle.records.proofs.columns_of.Code.Mir as steps
+use Rattle.record_columns.specs.declared.Record.{Record}
+use Rattle.record_columns.specs.Rows.{noRow, importersOf, kindsOf, targetsOf, copied, table, columnsOf}
+use Rattle.record_columns.proofs.Record as Row
+use Rattle.record_columns.proofs.core.Columns as Cols
+use Rattle.record_columns.proofs.core.Columns.Laws as Cols′
+use Rattle.record_columns.proofs.Around.{met-by, and-nothing}
+use Rattle.record_columns.proofs.Arrays.{arrVal, arr-typed, zeros-are, zeros-typed, opened, closed, stored}
+use Rattle.record_columns.proofs.Copied.{copied-le, copied-limit, table-long}
+use Rattle.record_columns.proofs.count as n·
+use Rattle.record_columns.proofs.count.Symbol as n·-def
+use Rattle.record_columns.proofs.count.Symbol.{name as #record-columns·count}
+use Rattle.record_columns.proofs.count.Met as n·-thm
+use Rattle.record_columns.proofs.core.rows_copied as m·
+use Rattle.record_columns.proofs.core.rows_copied.Symbol as m·-def
+use Rattle.record_columns.proofs.core.rows_copied.Symbol.{name as #record-columns·core·rows-copied}
+use Rattle.record_columns.proofs.core.rows_copied.Met as m·-thm
+use Rattle.record_columns.proofs.importer_at as g₁
+use Rattle.record_columns.proofs.importer_at.Symbol as g₁-def
+use Rattle.record_columns.proofs.importer_at.Symbol.{name as #record-columns·importer-at}
+use Rattle.record_columns.proofs.importer_at.Met as g₁-thm
+use Rattle.record_columns.proofs.kind_at as g₂
+use Rattle.record_columns.proofs.kind_at.Symbol as g₂-def
+use Rattle.record_columns.proofs.kind_at.Symbol.{name as #record-columns·kind-at}
+use Rattle.record_columns.proofs.kind_at.Met as g₂-thm
+use Rattle.record_columns.proofs.target_at as g₃
+use Rattle.record_columns.proofs.target_at.Symbol as g₃-def
+use Rattle.record_columns.proofs.target_at.Symbol.{name as #record-columns·target-at}
+use Rattle.record_columns.proofs.target_at.Met as g₃-thm
+use Rattle.record_columns.proofs.core.columns_of.Key.{name as #record-columns·core·columns-of}
+use Rattle.record_columns.proofs.core.columns_of as f
+use Rattle.record_columns.proofs.core.columns_of.Statement as stated
+use Rattle.record_columns.proofs.core.columns_of.Code as code
+use Rattle.record_columns.proofs.core.columns_of.Code.Mir as steps
 
 -- a list as a struct's array field has it
 abbrev same-as : List ℕ → List ℕ
@@ -105,7 +105,7 @@ module _ {M : Type 1} (𝓤 : URA M) (H : Heap 𝓤) (A : Atoms 𝓤) (W : Given
   Thin-target = tripleOf 𝓤 H A g₃.signature (g₃.spec 𝓤 H A at-mem run)
 
   abbrev Known : Calls 𝓤 H → Type 1
-  Known C = Triple 𝓤 (C #records·count) Count × Triple 𝓤 (C #records·rows-copied) Rows × Triple 𝓤 (C #records·importer-at) Thin-importer × Triple 𝓤 (C #records·kind-at) Thin-kind × Triple 𝓤 (C #records·target-at) Thin-target
+  Known C = Triple 𝓤 (C #record-columns·count) Count × Triple 𝓤 (C #record-columns·core·rows-copied) Rows × Triple 𝓤 (C #record-columns·importer-at) Thin-importer × Triple 𝓤 (C #record-columns·kind-at) Thin-kind × Triple 𝓤 (C #record-columns·target-at) Thin-target
 
   module _ (κ : Lft) (q : Share) (records : RefT (List Record)) (room : Room Row.the-row (length (records .now))) where
     abbrev ys : List Record
@@ -282,11 +282,11 @@ pub columns-of-spec : {M : Type 1} → stated.statement M
 unfolding code.routine tablesOf
 columns-of-spec 𝓤 H 𝓜 𝓖 𝓡 =
     entered 𝓤 H (tripleOf 𝓤 H (𝓖 .A) f.signature (f.spec 𝓤 H (𝓖 .A) (𝓜 .mem) (𝓡 .run)))
-    (tables 𝓤 H 𝓜 𝓡 code.env .C) (tables 𝓤 H 𝓜 𝓡 code.env .Λ) #records·columns-of code.function (code.unfolded 𝓤 H 𝓜 𝓡)
+    (tables 𝓤 H 𝓜 𝓡 code.env .C) (tables 𝓤 H 𝓜 𝓡 code.env .Λ) #record-columns·core·columns-of code.function (code.unfolded 𝓤 H 𝓜 𝓡)
     (meets 𝓤 H (𝓖 .A) (givenOf 𝓤 H 𝓜 𝓖) (𝓜 .mem) (𝓡 .run) (tablesOf 𝓤 H 𝓜 (tables 𝓤 H 𝓜 𝓡 code.env)) (
-      cited 𝓤 H (Count 𝓤 H (𝓖 .A) (givenOf 𝓤 H 𝓜 𝓖) (𝓜 .mem) (𝓡 .run)) 𝓜 𝓡 code.env #records·count n·-def.routine code.calls-records·count (n·-thm.met 𝓤 H 𝓜 𝓖 𝓡),
-      cited 𝓤 H (Rows 𝓤 H (𝓖 .A) (givenOf 𝓤 H 𝓜 𝓖) (𝓜 .mem) (𝓡 .run)) 𝓜 𝓡 code.env #records·rows-copied m·-def.routine code.calls-records·rows-copied (m·-thm.met 𝓤 H 𝓜 𝓖 𝓡),
-      cited 𝓤 H (Thin-importer 𝓤 H (𝓖 .A) (givenOf 𝓤 H 𝓜 𝓖) (𝓜 .mem) (𝓡 .run)) 𝓜 𝓡 code.env #records·importer-at g₁-def.routine code.calls-records·importer-at (g₁-thm.met 𝓤 H 𝓜 𝓖 𝓡),
-      cited 𝓤 H (Thin-kind 𝓤 H (𝓖 .A) (givenOf 𝓤 H 𝓜 𝓖) (𝓜 .mem) (𝓡 .run)) 𝓜 𝓡 code.env #records·kind-at g₂-def.routine code.calls-records·kind-at (g₂-thm.met 𝓤 H 𝓜 𝓖 𝓡),
-      cited 𝓤 H (Thin-target 𝓤 H (𝓖 .A) (givenOf 𝓤 H 𝓜 𝓖) (𝓜 .mem) (𝓡 .run)) 𝓜 𝓡 code.env #records·target-at g₃-def.routine code.calls-records·target-at (g₃-thm.met 𝓤 H 𝓜 𝓖 𝓡),
+      cited 𝓤 H (Count 𝓤 H (𝓖 .A) (givenOf 𝓤 H 𝓜 𝓖) (𝓜 .mem) (𝓡 .run)) 𝓜 𝓡 code.env #record-columns·count n·-def.routine code.calls-record-columns·count (n·-thm.met 𝓤 H 𝓜 𝓖 𝓡),
+      cited 𝓤 H (Rows 𝓤 H (𝓖 .A) (givenOf 𝓤 H 𝓜 𝓖) (𝓜 .mem) (𝓡 .run)) 𝓜 𝓡 code.env #record-columns·core·rows-copied m·-def.routine code.calls-record-columns·core·rows-copied (m·-thm.met 𝓤 H 𝓜 𝓖 𝓡),
+      cited 𝓤 H (Thin-importer 𝓤 H (𝓖 .A) (givenOf 𝓤 H 𝓜 𝓖) (𝓜 .mem) (𝓡 .run)) 𝓜 𝓡 code.env #record-columns·importer-at g₁-def.routine code.calls-record-columns·importer-at (g₁-thm.met 𝓤 H 𝓜 𝓖 𝓡),
+      cited 𝓤 H (Thin-kind 𝓤 H (𝓖 .A) (givenOf 𝓤 H 𝓜 𝓖) (𝓜 .mem) (𝓡 .run)) 𝓜 𝓡 code.env #record-columns·kind-at g₂-def.routine code.calls-record-columns·kind-at (g₂-thm.met 𝓤 H 𝓜 𝓖 𝓡),
+      cited 𝓤 H (Thin-target 𝓤 H (𝓖 .A) (givenOf 𝓤 H 𝓜 𝓖) (𝓜 .mem) (𝓡 .run)) 𝓜 𝓡 code.env #record-columns·target-at g₃-def.routine code.calls-record-columns·target-at (g₃-thm.met 𝓤 H 𝓜 𝓖 𝓡),
     ))

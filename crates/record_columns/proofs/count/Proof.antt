@@ -1,4 +1,4 @@
--- `records::count` meets its contract: a walk of its MIR, by hand. The count stands beside the slice's pointer.
+-- `record_columns::count` meets its contract: a walk of its MIR, by hand. The count stands beside the slice's pointer.
 -- Assumes nothing.
 use mathlib.Core.Path.{refl}
 use Prim.Native.Nat.{ℕ, _<_, _^_}
@@ -30,13 +30,13 @@ use denote.Triple.Spec.{Meets, tripleOf}
 use denote.Triple.Clauses.{Lasts, atExit, ensured, lasts}
 use denote.Triple.Table.{entered}
 use denote.Triple.Walked.{says}
-use Rattle.records.specs.declared.Record.{Record}
-use Rattle.records.proofs.Record as Row
-use Rattle.records.proofs.Around.{met-by}
-use Rattle.records.proofs.count.Key.{name as #records·count}
-use Rattle.records.proofs.count as f
-use Rattle.records.proofs.count.Statement as stated
-use Rattle.records.proofs.count.Code as code
+use Rattle.record_columns.specs.declared.Record.{Record}
+use Rattle.record_columns.proofs.Record as Row
+use Rattle.record_columns.proofs.Around.{met-by}
+use Rattle.record_columns.proofs.count.Key.{name as #record-columns·count}
+use Rattle.record_columns.proofs.count as f
+use Rattle.record_columns.proofs.count.Statement as stated
+use Rattle.record_columns.proofs.count.Code as code
 
 module _ {M : Type 1} (𝓤 : URA M) (H : Heap 𝓤) (A : Atoms 𝓤) (W : Given 𝓤 H A) (at-mem : Memory → SProp 𝓤) (run : Routine → Fun 𝓤) where
   module _ (κ : Lft) (q : Share) (records : RefT (List Record)) where
@@ -68,5 +68,5 @@ pub count-spec : {M : Type 1} → stated.statement M
 unfolding code.routine tablesOf
 count-spec 𝓤 H 𝓜 𝓖 𝓡 =
     entered 𝓤 H (tripleOf 𝓤 H (𝓖 .A) f.signature (f.spec 𝓤 H (𝓖 .A) (𝓜 .mem) (𝓡 .run)))
-    (tables 𝓤 H 𝓜 𝓡 code.env .C) (tables 𝓤 H 𝓜 𝓡 code.env .Λ) #records·count code.function (code.unfolded 𝓤 H 𝓜 𝓡)
+    (tables 𝓤 H 𝓜 𝓡 code.env .C) (tables 𝓤 H 𝓜 𝓡 code.env .Λ) #record-columns·count code.function (code.unfolded 𝓤 H 𝓜 𝓡)
     (meets 𝓤 H (𝓖 .A) (givenOf 𝓤 H 𝓜 𝓖) (𝓜 .mem) (𝓡 .run) (tablesOf 𝓤 H 𝓜 (tables 𝓤 H 𝓜 𝓡 code.env)))
