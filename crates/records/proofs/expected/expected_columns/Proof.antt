@@ -1,4 +1,4 @@
--- `records::expected_columns` meets its contract: a list over the limit has the project's number 1, and the first rows of the other columns are the records' own.
+-- `records::expected::expected_columns` meets its contract: a list over the limit has the project's number 1, and the first rows of the other columns are the records' own.
 -- Assumes nothing.
 use mathlib.Core.Path.{refl, sym}
 use mathlib.Core.List.{List}
@@ -11,8 +11,8 @@ use Rattle.expected_order.specs.OfProject.{ExpectedOrder}
 use Rattle.expected_order.proofs.Promise.{project-refused}
 use Rattle.record_columns.specs.Rows.{importersOf, kindsOf, targetsOf}
 use Rattle.record_columns.proofs.Copied.{as-columns, too-many, Within, within}
-use Rattle.records.proofs.expected_columns.Statement.{statement}
-use Rattle.records.proofs.expected_columns.Tie as tie
+use Rattle.records.proofs.expected.expected_columns.Statement.{statement}
+use Rattle.records.proofs.expected.expected_columns.Tie as tie
 
 -- the entry, seen from the test, and the project with three columns for its records
 abbrev entry : tie.After-slice-known → tie.Start
@@ -31,22 +31,22 @@ returns c = λ records is.
     project-refused p (e .args .root) (e .args .expected .now) 1 (too-many (e .args .columns) records is (c .if1 .taken) p refl) (λ z. omega arith)
 
 array-share-prefix-importers : tie.Need-array-share-prefix-importers
-array-share-prefix-importers c = fits (c .before .before .before) .0
+array-share-prefix-importers c = let w = fits (c .before .before .before) in omega (arith, w .0, w .1, w .2)
 
 slice-aggregate-expected-order : tie.Need-slice-aggregate-expected-order
-slice-aggregate-expected-order c = sym (length-take-le _ _ (fits (c .before .before .before .before) .0))
+slice-aggregate-expected-order c = sym (length-take-le _ _ (let w = fits (c .before .before .before .before) in omega (arith, w .0, w .1, w .2)))
 
 array-share-prefix-kinds : tie.Need-array-share-prefix-kinds
-array-share-prefix-kinds c = fits (c .before .before .before .before) .1
+array-share-prefix-kinds c = let w = fits (c .before .before .before .before) in omega (arith, w .0, w .1, w .2)
 
 slice-aggregate-expected-order-2 : tie.Need-slice-aggregate-expected-order-2
-slice-aggregate-expected-order-2 c = sym (length-take-le _ _ (fits (c .before .before .before .before .before) .1))
+slice-aggregate-expected-order-2 c = sym (length-take-le _ _ (let w = fits (c .before .before .before .before .before) in omega (arith, w .0, w .1, w .2)))
 
 array-share-prefix-targets : tie.Need-array-share-prefix-targets
-array-share-prefix-targets c = fits (c .before .before .before .before .before) .2
+array-share-prefix-targets c = let w = fits (c .before .before .before .before .before) in omega (arith, w .0, w .1, w .2)
 
 slice-aggregate-expected-order-3 : tie.Need-slice-aggregate-expected-order-3
-slice-aggregate-expected-order-3 c = sym (length-take-le _ _ (fits (c .before .before .before .before .before .before) .2))
+slice-aggregate-expected-order-3 c = sym (length-take-le _ _ (let w = fits (c .before .before .before .before .before .before) in omega (arith, w .0, w .1, w .2)))
 
 expected-order-requires : tie.Need-expected-order-requires
 expected-order-requires c κs = search needs

@@ -1,4 +1,4 @@
--- `records::sort_columns` meets its contract: a list over the limit has the project's number 1, and the first rows of the other columns are the records' own.
+-- `records::sort::sort_columns` meets its contract: a list over the limit has the project's number 1, and the first rows of the other columns are the records' own.
 -- Assumes nothing.
 use mathlib.Core.Path.{refl, sym}
 use mathlib.Core.List.{List}
@@ -11,8 +11,8 @@ use Rattle.sort_modules.specs.OfProject.{SortModules}
 use Rattle.sort_modules.proofs.Promise.{project-refused}
 use Rattle.record_columns.specs.Rows.{importersOf, kindsOf, targetsOf}
 use Rattle.record_columns.proofs.Copied.{as-columns, too-many, Within, within}
-use Rattle.records.proofs.sort_columns.Statement.{statement}
-use Rattle.records.proofs.sort_columns.Tie as tie
+use Rattle.records.proofs.sort.sort_columns.Statement.{statement}
+use Rattle.records.proofs.sort.sort_columns.Tie as tie
 
 -- the entry, seen from the test, and the project with three columns for its records
 abbrev entry : tie.After-slice-known2 → tie.Start
@@ -31,22 +31,22 @@ returns c = λ records is.
     project-refused p (e .args .numbers .now) (e .args .sorted .now) 1 (too-many (e .args .columns) records is (c .if1 .taken) p refl) (λ z. omega arith)
 
 array-share-prefix-importers : tie.Need-array-share-prefix-importers
-array-share-prefix-importers c = fits (c .before .before .before) .0
+array-share-prefix-importers c = let w = fits (c .before .before .before) in omega (arith, w .0, w .1, w .2)
 
 slice-aggregate-sort-modules : tie.Need-slice-aggregate-sort-modules
-slice-aggregate-sort-modules c = sym (length-take-le _ _ (fits (c .before .before .before .before) .0))
+slice-aggregate-sort-modules c = sym (length-take-le _ _ (let w = fits (c .before .before .before .before) in omega (arith, w .0, w .1, w .2)))
 
 array-share-prefix-kinds : tie.Need-array-share-prefix-kinds
-array-share-prefix-kinds c = fits (c .before .before .before .before) .1
+array-share-prefix-kinds c = let w = fits (c .before .before .before .before) in omega (arith, w .0, w .1, w .2)
 
 slice-aggregate-sort-modules-2 : tie.Need-slice-aggregate-sort-modules-2
-slice-aggregate-sort-modules-2 c = sym (length-take-le _ _ (fits (c .before .before .before .before .before) .1))
+slice-aggregate-sort-modules-2 c = sym (length-take-le _ _ (let w = fits (c .before .before .before .before .before) in omega (arith, w .0, w .1, w .2)))
 
 array-share-prefix-targets : tie.Need-array-share-prefix-targets
-array-share-prefix-targets c = fits (c .before .before .before .before .before) .2
+array-share-prefix-targets c = let w = fits (c .before .before .before .before .before) in omega (arith, w .0, w .1, w .2)
 
 slice-aggregate-sort-modules-3 : tie.Need-slice-aggregate-sort-modules-3
-slice-aggregate-sort-modules-3 c = sym (length-take-le _ _ (fits (c .before .before .before .before .before .before) .2))
+slice-aggregate-sort-modules-3 c = sym (length-take-le _ _ (let w = fits (c .before .before .before .before .before .before) in omega (arith, w .0, w .1, w .2)))
 
 sort-modules-requires : tie.Need-sort-modules-requires
 sort-modules-requires c κs = search needs
