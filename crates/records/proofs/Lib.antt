@@ -1,6 +1,3 @@
--- What the walks by hand have in common, and what holds of the columns.
-pub mod Around
-pub mod Thin
-pub mod Arrays
-pub mod Copied
+-- What the walks by hand of the three operations have in common.
+pub mod Frame
 pub mod Wide
