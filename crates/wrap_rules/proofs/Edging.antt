@@ -1,7 +1,7 @@
 -- The kind 0 records as edges: what holds after each row, and that sets are closed along the edges as they are along the records.
 -- Assumes nothing.
 use mathlib.Core.Path.{_≡_, refl, sym, ap, subst, _∙_}
-use mathlib.Core.Bool.{true}
+use mathlib.Core.Bool.{true, cond}
 use mathlib.Core.List.{List, [], _∷_}
 use Prim.Native.Nat.{ℕ, zero, suc, _+_, _≤_, _<_}
 use native.Mathlib.Omega.{arith}
@@ -12,8 +12,10 @@ use Rattle.lists.specs.Words.{has}
 use Rattle.lists.proofs.Laws.{has-in}
 use Rattle.walk.specs.Close.{Within}
 use Rattle.tables.specs.Project.{missing}
+use Rattle.tables.specs.Readings.{isImport}
+use Rattle.chunk_cycles.proofs.Lists.{getD-map-upTo, length-map-upTo}
 use Rattle.chunk_cycles.specs.Threads.{Threadable, Threads, Linked}
-use Rattle.wrap_rules.specs.Spread.{Along, Under, Spreads, Spreadable, ModuleGraph, EdgesBelow, Edges}
+use Rattle.wrap_rules.specs.Spread.{Along, Under, Spreads, Spreadable, ModuleGraph, EdgesBelow, Edges, importTargets}
 use Rattle.wrap_rules.specs.Asked.{Row}
 use Rattle.wrap_rules.specs.Roots.{Chosen}
 
@@ -167,3 +169,13 @@ spreadable-none {from} {to} {heads} {nexts} {s} {t} {n} g h a b c none = record 
   along = λ row l e. absurd (none (getD from row 0) e);
   under = λ M k w d m e. absurd (none m e);
 }
+
+-- the targets of the kind 0 records
+
+pub length-targets : (kind target : List ℕ) → length (importTargets kind target) ≡ length target
+unfolding importTargets
+length-targets kind target = length-map-upTo (λ (row : ℕ). cond (isImport (getD kind row 0)) (getD target row 0) missing) (length target)
+
+pub target-at : (kind target : List ℕ) (row d : ℕ) → row < length target → getD (importTargets kind target) row d ≡ cond (isImport (getD kind row 0)) (getD target row 0) missing
+unfolding importTargets
+target-at kind target row d l = getD-map-upTo (λ (i : ℕ). cond (isImport (getD kind i 0)) (getD target i 0) missing) (length target) row d l

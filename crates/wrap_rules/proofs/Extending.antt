@@ -16,12 +16,13 @@ use Rattle.tables.specs.Accepted.{Below}
 use Rattle.tables.proofs.Accepted.{getD-mem}
 use Rattle.wrap_rules.specs.Rules.{fromFirst, suffixAsks}
 use Rattle.wrap_rules.specs.Passes.{Passed}
-use Rattle.wrap_rules.specs.Steps.{looked, Owners, Added}
+use Rattle.marks.specs.Steps.{looked, Owners, Added}
+use Rattle.marks.proofs.Steps.{set-has}
 use Rattle.wrap_rules.specs.Asked.{Marks, Row}
 use Rattle.expected_order.specs.Expected.{expected}
 use Rattle.wrap_rules.specs.Suffix.{FirstIn, InSuffix, WholeSuffix, AllPlanned, Extended, sensitiveOrders, Settled}
 use Rattle.wrap_rules.proofs.Monotone.{suffix-more}
-use Rattle.wrap_rules.proofs.Passes.{set-has, join, pass-then}
+use Rattle.wrap_rules.proofs.Passes.{join, pass-then}
 use Rattle.wrap_rules.proofs.Rows.{mem-at, fromFirst-places, places-fromFirst}
 use Rattle.wrap_rules.proofs.Marking.{owners-row, row-owners}
 

@@ -2,8 +2,7 @@
 ghost use mathlib.Core.Path.{_≡_};
 ghost use Prim.Native.Nat.{_≤_};
 ghost use lib.ListN.{length};
-ghost use Rattle.wrap_rules.specs.Steps.{importTargets};
-ghost use Rattle.wrap_rules.specs.Spread.{Spreads, Spreadable, Edges};
+ghost use Rattle.wrap_rules.specs.Spread.{Spreads, Spreadable, Edges, importTargets};
 use chunk_cycles::core::visit;
 use tables::ModuleIdx;
 

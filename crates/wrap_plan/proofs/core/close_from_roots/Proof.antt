@@ -14,8 +14,7 @@ use Rattle.tables.specs.Readings.{modules}
 use Rattle.chunk_cycles.specs.Threads.{Threads}
 use Rattle.at_risk.specs.Marks.{eligible}
 use Rattle.wrap_rules.specs.Plan.{roots}
-use Rattle.wrap_rules.specs.Steps.{importTargets}
-use Rattle.wrap_rules.specs.Spread.{ModuleGraph, Edges}
+use Rattle.wrap_rules.specs.Spread.{ModuleGraph, Edges, importTargets}
 use Rattle.wrap_rules.specs.Roots.{Chosen}
 use Rattle.wrap_plan.specs.Closing.{Rest, whole, Made, Kept, Ready, Finished, Basis, Rooted, ClosedFrom}
 use Rattle.wrap_rules.proofs.Parts.{Lent, view, part-none, part-length, view-room, view-is, view-length}

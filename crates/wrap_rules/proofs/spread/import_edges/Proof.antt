@@ -9,10 +9,8 @@ use lib.ListN.{length, getD, length-set}
 use borrow.Author.Needs.{needs}
 use borrow.Author.Tests.{eq-eqb, ne-eqb}
 use Rattle.tables.specs.Project.{missing}
-use Rattle.wrap_rules.specs.Steps.{importTargets}
-use Rattle.wrap_rules.specs.Spread.{EdgesBelow}
-use Rattle.wrap_rules.proofs.Steps.{target-at}
-use Rattle.wrap_rules.proofs.Edging.{edges-start, edges-pass, edges-put}
+use Rattle.wrap_rules.specs.Spread.{EdgesBelow, importTargets}
+use Rattle.wrap_rules.proofs.Edging.{edges-start, edges-pass, edges-put, target-at}
 use Rattle.wrap_rules.proofs.spread.import_edges.Statement.{statement}
 use Rattle.wrap_rules.proofs.spread.import_edges.Tie as tie
 use Rattle.wrap_rules.proofs.spread.import_edges.Reads as reads
