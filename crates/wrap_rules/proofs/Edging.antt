@@ -2,22 +2,43 @@
 -- Assumes nothing.
 use mathlib.Core.Path.{_≡_, refl, sym, ap, subst, _∙_}
 use mathlib.Core.Bool.{true, cond}
+use mathlib.Core.Logic.{⊎-elim}
 use mathlib.Core.List.{List, [], _∷_}
 use Prim.Native.Nat.{ℕ, zero, suc, _+_, _≤_, _<_}
 use native.Mathlib.Omega.{arith}
 use native.Mathlib.Decide.{ℕ-discrete}
 use lib.ListN.{length, getD, set, take}
 use lib.Seq.{getD-set-same, getD-set-other}
+use lib.Dec.{eqb}
+use borrow.Author.Tests.{eqb-true, eqb-false}
 use Rattle.lists.specs.Words.{has}
-use Rattle.lists.proofs.Laws.{has-in}
+use Rattle.lists.proofs.Laws.{both, has-in}
 use Rattle.walk.specs.Close.{Within}
 use Rattle.tables.specs.Project.{missing}
-use Rattle.tables.specs.Readings.{isImport}
+use Rattle.tables.specs.Readings.{isImport, resolved, anyTarget}
 use Rattle.chunk_cycles.proofs.Lists.{getD-map-upTo, length-map-upTo}
 use Rattle.chunk_cycles.specs.Threads.{Threadable, Threads, Linked}
 use Rattle.wrap_rules.specs.Spread.{Along, Under, Spreads, Spreadable, ModuleGraph, EdgesBelow, Edges, importTargets}
 use Rattle.wrap_rules.specs.Asked.{Row}
 use Rattle.wrap_rules.specs.Roots.{Chosen}
+use Rattle.wrap_rules.proofs.Rows.{any-resolved}
+
+-- the target of a row, by what it resolves to
+module _ (normal target : List ℕ) (row : ℕ) where
+  pub target-none : anyTarget (resolved normal target row) ≡ [] → getD target row 0 ≡ missing
+  target-none e =
+      ⊎-elim (λ q. eqb-true (getD target row 0) missing q)
+      (λ q. let z : _≡_ {A = ℕ} 1 0 = ap length (rw q at (sym (any-resolved normal target row) ∙ e)) in absurd (omega arith))
+      (both (eqb (getD target row 0) missing))
+
+  pub target-there : (t : ℕ) → anyTarget (resolved normal target row) ≡ t ∷ [] → (t ≡ getD target row 0) × (t ≡ missing → ⊥)
+  target-there t e =
+      ⊎-elim (λ q. let z : _≡_ {A = ℕ} 0 1 = ap length (rw q at (sym (any-resolved normal target row) ∙ e)) in absurd (omega arith))
+      (λ q. let h : t ≡ getD target row 0 = same (rw q at (sym (any-resolved normal target row) ∙ e)) in (h, λ z. eqb-false (getD target row 0) missing q (sym h ∙ z)))
+      (both (eqb (getD target row 0) missing))
+    where
+      same : getD target row 0 ∷ [] ≡ t ∷ [] → t ≡ getD target row 0
+      same q = cc
 
 -- writing the edges
 
