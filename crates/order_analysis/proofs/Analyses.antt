@@ -33,10 +33,10 @@ use Rattle.at_risk.proofs.Joins.{join-zero}
 use Rattle.sensitivity.proofs.Marks.{eligible-marks, sensitive-marks}
 use Rattle.wrap_rules.specs.Plan.{roots, start, planFrom, asked}
 use Rattle.wrap_plan.specs.Planned.{ordersOf, planOf}
-use Rattle.wrap_rules.specs.Steps.{looked, Owners}
+use Rattle.marks.specs.Steps.{looked, Owners}
 use Rattle.wrap_plan.specs.Closing.{Basis}
 use Rattle.wrap_rules.proofs.Lists.{marksOf-bits}
-use Rattle.wrap_rules.proofs.Steps.{looked-has, has-looked, looked-bits}
+use Rattle.marks.proofs.Steps.{looked-has, has-looked, looked-bits}
 use Rattle.wrap_rules.proofs.Rows.{mem-at}
 use Rattle.wrap_plan.proofs.AtProject.{eligible-has, length-labels}
 use Rattle.order_analysis.specs.Whole.{seedsOf, wholePlan}

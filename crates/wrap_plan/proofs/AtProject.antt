@@ -30,13 +30,13 @@ use Rattle.wrap_rules.specs.Rules.{suffixAsks, sameComponent, importsOf, leads,
 use Rattle.wrap_rules.specs.Plan.{suffixRule, componentRule, importRule, readRule, roots, reached, asks}
 use Rattle.wrap_plan.specs.Planned.{ordersOf}
 use Rattle.wrap_rules.specs.Passes.{Passed}
-use Rattle.wrap_rules.specs.Steps.{importTargets, Added}
-use Rattle.wrap_rules.specs.Spread.{Along, Under, Spreads, ModuleGraph, Edges}
+use Rattle.marks.specs.Steps.{Added}
+use Rattle.wrap_rules.specs.Spread.{Along, Under, Spreads, ModuleGraph, Edges, importTargets}
 use Rattle.wrap_rules.specs.Asked.{Together, Members, Row, Importer, Importing, ChainTouch, SymbolTouch, Touching, bySymbol, byDepended, TopLevelRead, Symbols, Reading}
 use Rattle.wrap_rules.specs.Suffix.{Suffixes, sensitiveOrders}
 use Rattle.wrap_plan.specs.Closing.{sensitiveMarks, eligibleMarks, candidateMarks}
 use Rattle.wrap_rules.proofs.Monotone.{asks-monotone}
-use Rattle.wrap_rules.proofs.Steps.{length-targets, target-at}
+use Rattle.wrap_rules.proofs.Edging.{length-targets, target-at}
 use Rattle.wrap_rules.proofs.Extending.{passed-added}
 use Rattle.wrap_rules.proofs.Rows.{component-asks, component-rows, import-row, row-import, import-asks, import-rows, read-asks, read-rows}
 use Rattle.wrap_rules.proofs.Leads.{Backward, leads-in, in-leads}

@@ -29,12 +29,12 @@ use Rattle.sensitivity.specs.Marks.{eligible}
 use Rattle.sensitivity.proofs.Marks.{eligible-normal, eligible-in}
 use Rattle.wrap_rules.specs.Rules.{importsOf}
 use Rattle.wrap_rules.specs.Plan.{roots, reached}
-use Rattle.wrap_rules.specs.Steps.{looked, importTargets, Owners}
-use Rattle.wrap_rules.specs.Spread.{Along, Under, Spreads}
+use Rattle.marks.specs.Steps.{looked, Owners}
+use Rattle.wrap_rules.specs.Spread.{Along, Under, Spreads, importTargets}
 use Rattle.wrap_rules.specs.Roots.{rootsOver, Reaching, Chosen}
 use Rattle.wrap_plan.specs.Closing.{eligibleMarks, candidateMarks}
 use Rattle.wrap_rules.proofs.Rows.{mem-at, flat-mem, mem-rows, rows-mem, import-row}
-use Rattle.wrap_rules.proofs.Steps.{looked-has}
+use Rattle.marks.proofs.Steps.{looked-has}
 use Rattle.wrap_plan.proofs.AtProject.{eligible-has, candidate-has, target-row, row-target}
 
 -- a project's roots, over columns

@@ -20,16 +20,16 @@ use Rattle.wrap_rules.specs.Rules.{suffixAsks}
 use Rattle.wrap_rules.specs.Plan.{suffixRule, componentRule, importRule, readRule, roots, reached, asks, asked}
 use Rattle.wrap_plan.specs.Planned.{ordersOf}
 use Rattle.wrap_rules.specs.Passes.{Passed}
-use Rattle.wrap_rules.specs.Steps.{importTargets, Added}
-use Rattle.wrap_rules.specs.Spread.{Along, Under, Spreads, Spreadable}
+use Rattle.marks.specs.Steps.{Added}
+use Rattle.wrap_rules.specs.Spread.{Along, Under, Spreads, Spreadable, importTargets}
 use Rattle.wrap_rules.specs.Asked.{Together, Members, Importer, Importing, TopLevelRead, Reading}
 use Rattle.wrap_rules.specs.Suffix.{Suffixes, sensitiveOrders, AllNoted}
 use Rattle.wrap_plan.specs.Closing.{sensitiveMarks, eligibleMarks, candidateMarks, Made, Kept}
 use Rattle.wrap_rules.proofs.Monotone.{asked-monotone}
 use Rattle.wrap_rules.proofs.Passes.{pass-rules, Spread, spread-start, spread-step, spread-end}
 use Rattle.wrap_rules.proofs.Notes.{noted-more}
-use Rattle.wrap_rules.proofs.Steps.{added-cong, length-targets}
-use Rattle.wrap_rules.proofs.Edging.{RowsIn, rows-back, edges-rows, rows-edges, along-rows, under-rows, spreads-rows, row-rows, graph-linked}
+use Rattle.marks.proofs.Steps.{added-cong}
+use Rattle.wrap_rules.proofs.Edging.{RowsIn, rows-back, edges-rows, rows-edges, along-rows, under-rows, spreads-rows, row-rows, graph-linked, length-targets}
 use Rattle.wrap_plan.proofs.AtProject.{suffixes-fit, suffix-pass, members-fit, component-pass, importing-fit, import-pass, reading-fit, read-pass}
 use Rattle.wrap_plan.proofs.Reached.{root-in}
 

@@ -21,10 +21,10 @@ use Rattle.sensitivity.specs.Ready.{Records, Flags, Statements, Kinds, UseRows}
 use Rattle.sensitivity.proofs.Marks.{eligible-in}
 use Rattle.wrap_rules.specs.Plan.{start, planFrom, asked}
 use Rattle.wrap_plan.specs.Planned.{ordersOf, planOf}
-use Rattle.wrap_rules.specs.Steps.{looked, Owners}
+use Rattle.marks.specs.Steps.{looked, Owners}
 use Rattle.wrap_plan.specs.Closing.{sensitiveMarks, eligibleMarks, Basis, Marked}
 use Rattle.wrap_rules.proofs.Lists.{marksOf-bits}
-use Rattle.wrap_rules.proofs.Steps.{looked-has, has-looked, looked-bits}
+use Rattle.marks.proofs.Steps.{looked-has, has-looked, looked-bits}
 use Rattle.wrap_rules.proofs.Rows.{mem-at}
 use Rattle.wrap_plan.proofs.AtProject.{eligible-has}
 

@@ -11,9 +11,8 @@ use Rattle.tables.specs.Project.{Project, missing}
 use Rattle.tables.specs.Readings.{modules}
 use Rattle.tables.specs.Accepted.{Accepted}
 use Rattle.wrap_rules.specs.Plan.{roots}
-use Rattle.wrap_rules.specs.Steps.{importTargets}
 use Rattle.tables.specs.Threads.{Threads}
-use Rattle.wrap_rules.specs.Spread.{Along, Under, Edges}
+use Rattle.wrap_rules.specs.Spread.{Along, Under, Edges, importTargets}
 use Rattle.wrap_rules.specs.Suffix.{AllNoted}
 use Rattle.wrap_rules.specs.Roots.{rootsOver, Written, Chosen}
 use Rattle.wrap_plan.specs.Closing.{eligibleMarks, candidateMarks, Made, Kept, Basis}

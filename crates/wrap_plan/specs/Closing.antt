@@ -16,8 +16,7 @@ use Rattle.sensitivity.specs.Marks.{sensitive, eligible}
 use Rattle.wrap_rules.specs.Plan.{roots, reached, asked}
 use Rattle.wrap_plan.specs.Planned.{ordersOf, planOf}
 use Rattle.wrap_rules.specs.Passes.{Passed}
-use Rattle.wrap_rules.specs.Steps.{importTargets}
-use Rattle.wrap_rules.specs.Spread.{Along, Under, ModuleGraph, Edges}
+use Rattle.wrap_rules.specs.Spread.{Along, Under, ModuleGraph, Edges, importTargets}
 use Rattle.wrap_rules.specs.Suffix.{AllNoted}
 
 -- the columns that closing doesn't read, or reads only at first

@@ -227,6 +227,7 @@ fn close_from_roots<'a>(
     let mut importers = [0u32; 16384];
     let mut targets = [0u32; 16384];
     let edges = import_edges(
+        normal,
         record_module,
         record_kind,
         record_target,

@@ -1,22 +1,45 @@
 -- The kind 0 records as edges: what holds after each row, and that sets are closed along the edges as they are along the records.
 -- Assumes nothing.
 use mathlib.Core.Path.{_≡_, refl, sym, ap, subst, _∙_}
-use mathlib.Core.Bool.{true}
+use mathlib.Core.Bool.{true, cond}
+use mathlib.Core.Logic.{⊎-elim}
 use mathlib.Core.List.{List, [], _∷_}
 use Prim.Native.Nat.{ℕ, zero, suc, _+_, _≤_, _<_}
 use native.Mathlib.Omega.{arith}
 use native.Mathlib.Decide.{ℕ-discrete}
 use lib.ListN.{length, getD, set, take}
 use lib.Seq.{getD-set-same, getD-set-other}
+use lib.Dec.{eqb}
+use borrow.Author.Tests.{eqb-true, eqb-false}
 use Rattle.lists.specs.Words.{has}
-use Rattle.lists.proofs.Laws.{has-in}
+use Rattle.lists.proofs.Laws.{both, has-in}
 use Rattle.walk.specs.Close.{Within}
 use Rattle.tables.specs.Project.{missing}
+use Rattle.tables.specs.Readings.{isImport, resolved, anyTarget}
 use Rattle.tables.specs.Threads.{Threadable, Threads}
+use Rattle.chunk_cycles.proofs.Lists.{getD-map-upTo, length-map-upTo}
 use Rattle.chunk_cycles.specs.Threads.{Linked}
-use Rattle.wrap_rules.specs.Spread.{Along, Under, Spreads, Spreadable, ModuleGraph, EdgesBelow, Edges}
+use Rattle.wrap_rules.specs.Spread.{Along, Under, Spreads, Spreadable, ModuleGraph, EdgesBelow, Edges, importTargets}
 use Rattle.wrap_rules.specs.Asked.{Row}
 use Rattle.wrap_rules.specs.Roots.{Chosen}
+use Rattle.wrap_rules.proofs.Rows.{any-resolved}
+
+-- the target of a row, by what it resolves to
+module _ (normal target : List ℕ) (row : ℕ) where
+  pub target-none : anyTarget (resolved normal target row) ≡ [] → getD target row 0 ≡ missing
+  target-none e =
+      ⊎-elim (λ q. eqb-true (getD target row 0) missing q)
+      (λ q. let z : _≡_ {A = ℕ} 1 0 = ap length (rw q at (sym (any-resolved normal target row) ∙ e)) in absurd (omega arith))
+      (both (eqb (getD target row 0) missing))
+
+  pub target-there : (t : ℕ) → anyTarget (resolved normal target row) ≡ t ∷ [] → (t ≡ getD target row 0) × (t ≡ missing → ⊥)
+  target-there t e =
+      ⊎-elim (λ q. let z : _≡_ {A = ℕ} 0 1 = ap length (rw q at (sym (any-resolved normal target row) ∙ e)) in absurd (omega arith))
+      (λ q. let h : t ≡ getD target row 0 = same (rw q at (sym (any-resolved normal target row) ∙ e)) in (h, λ z. eqb-false (getD target row 0) missing q (sym h ∙ z)))
+      (both (eqb (getD target row 0) missing))
+    where
+      same : getD target row 0 ∷ [] ≡ t ∷ [] → t ≡ getD target row 0
+      same q = cc
 
 -- writing the edges
 
@@ -168,3 +191,13 @@ spreadable-none {from} {to} {heads} {nexts} {s} {t} {n} g h a b c none = record 
   along = λ row l e. absurd (none (getD from row 0) e);
   under = λ M k w d m e. absurd (none m e);
 }
+
+-- the targets of the kind 0 records
+
+pub length-targets : (kind target : List ℕ) → length (importTargets kind target) ≡ length target
+unfolding importTargets
+length-targets kind target = length-map-upTo (λ (row : ℕ). cond (isImport (getD kind row 0)) (getD target row 0) missing) (length target)
+
+pub target-at : (kind target : List ℕ) (row d : ℕ) → row < length target → getD (importTargets kind target) row d ≡ cond (isImport (getD kind row 0)) (getD target row 0) missing
+unfolding importTargets
+target-at kind target row d l = getD-map-upTo (λ (i : ℕ). cond (isImport (getD kind i 0)) (getD target i 0) missing) (length target) row d l

@@ -16,7 +16,7 @@ use Rattle.tables.specs.Accepted.{Below}
 use Rattle.tables.proofs.Accepted.{getD-mem}
 use Rattle.wrap_rules.specs.Rules.{fromFirst, suffixAsks}
 use Rattle.wrap_rules.specs.Passes.{Passed}
-use Rattle.wrap_rules.specs.Steps.{looked, Owners, Added}
+use Rattle.marks.specs.Steps.{looked, Owners, Added}
 use Rattle.wrap_rules.specs.Asked.{Marks}
 use Rattle.wrap_rules.specs.Suffix.{FirstIn, InSuffix, WholeSuffix, AllPlanned}
 use Rattle.wrap_rules.proofs.Monotone.{suffix-more}

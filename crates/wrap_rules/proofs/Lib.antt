@@ -7,7 +7,6 @@ pub mod Leads
 pub mod Suffix
 pub mod Rows
 pub mod Touches
-pub mod Steps
 pub mod Spreading
 pub mod Edging
 pub mod Parts

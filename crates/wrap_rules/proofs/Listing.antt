@@ -13,10 +13,10 @@ use Rattle.lists.specs.Words.{upTo, keep, has}
 use Rattle.lists.proofs.Laws.{keep-append, countFrom-append, length-keep, length-countFrom, front-more}
 use Rattle.tables.specs.Project.{missing}
 use Rattle.tables.specs.Readings.{flagged}
-use Rattle.wrap_rules.specs.Steps.{looked, Owners}
+use Rattle.marks.specs.Steps.{looked, Owners}
 use Rattle.wrap_rules.specs.Spread.{Spreads}
 use Rattle.wrap_rules.specs.Roots.{rootsOver, Written, Reaching}
-use Rattle.wrap_rules.proofs.Steps.{looked-has}
+use Rattle.marks.proofs.Steps.{looked-has}
 
 -- listing the roots: the rows below `row` are done
 module _ (included entry entryChunk : List ℕ) where

@@ -16,9 +16,9 @@ use Rattle.tables.specs.Lookups.{greaterOf}
 use Rattle.tables.specs.Project.{missing}
 use Rattle.tables.proofs.Greater.{greater-first, greater-second, greater-one}
 use Rattle.chunk_cycles.proofs.Lists.{mark-in, mark-out, getD-in}
-use Rattle.wrap_rules.specs.Steps.{looked, Owners, InAll}
+use Rattle.marks.specs.Steps.{looked, Owners, InAll}
 use Rattle.wrap_rules.specs.Asked.{Marks, Together, Row, Importer, ChainTouch, SymbolTouch, ReferenceTouch, Touching, bySymbol, byDepended, Reader, TopLevelRead}
-use Rattle.wrap_rules.proofs.Steps.{length-looked, looked-at, looked-has, has-looked}
+use Rattle.marks.proofs.Steps.{length-looked, looked-at, looked-has, has-looked}
 
 -- owners of rows, from a set that holds nothing
 module _ (owner value S s t : List ℕ) (none : (m : ℕ) → has s m ≡ true → ⊥) (lengths : length value ≡ length owner) (o : Owners owner (looked 0 S value) (length owner) s t) where

@@ -21,7 +21,7 @@ use Rattle.at_risk.specs.Risk.{before}
 use Rattle.at_risk.proofs.Early.{before-take}
 use Rattle.wrap_rules.specs.Rules.{suffixAsks}
 use Rattle.wrap_rules.specs.Passes.{Passed}
-use Rattle.wrap_rules.specs.Steps.{Added}
+use Rattle.marks.specs.Steps.{Added}
 use Rattle.wrap_rules.specs.Suffix.{InSuffix, AllPlanned, noteOf, Noted, Extended, sensitiveOrders, AllNoted}
 use Rattle.wrap_rules.proofs.Extending.{suffix-in, suffix-passed, planned-passed, passed-closed, planned-more, orders-then, no-orders}
 

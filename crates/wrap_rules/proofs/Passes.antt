@@ -2,40 +2,23 @@
 -- nothing changes end at the least closed set.
 -- Assumes nothing.
 use mathlib.Core.Path.{_≡_, refl, sym, ap, subst, _∙_}
-use mathlib.Core.Logic.{_⊎_, inl, inr, ⊎-elim}
-use mathlib.Core.Bool.{Bool, true, false, not, _||_, true≢false, false≢true}
-use mathlib.Core.List.{List, [], _∷_}
-use Prim.Native.Nat.{ℕ, zero, suc, _+_, _≤_, _<_}
+use mathlib.Core.Logic.{⊎-elim}
+use mathlib.Core.Bool.{Bool, true, false, _||_, true≢false, false≢true}
+use mathlib.Core.List.{List}
+use Prim.Native.Nat.{ℕ, _+_, _≤_, _<_}
 use native.Mathlib.Omega.{arith}
-use native.Mathlib.Decide.{ℕ-discrete}
 use lib.ListN.{length, getD, set, length-set}
-use lib.Seq.{getD-set-other}
-use Rattle.lists.specs.Words.{isZero, has, zeros, bit}
+use Rattle.lists.specs.Words.{has, zeros, bit}
 use Rattle.lists.proofs.Laws.{or-parts, or-left, or-right}
 use Rattle.walk.specs.Close.{close, Within, Closed, Monotone, Bits}
 use Rattle.walk.proofs.Visits.{fresh-zero, set-zeros, set-bits}
 use Rattle.walk.proofs.Closes.{close-unique}
 use Rattle.tables.specs.Project.{Project}
+use Rattle.marks.proofs.Steps.{has-set, set-has}
 use Rattle.wrap_rules.specs.Passes.{Passed}
 use Rattle.wrap_rules.specs.Plan.{suffixRule, componentRule, importRule, readRule, asks, asked, start, planFrom}
 use Rattle.wrap_rules.proofs.Monotone.{asked-monotone}
 use Rattle.wrap_rules.proofs.Plans.{start-bits}
-
--- marking one place
-
-pub has-set : (t : List ℕ) (m i : ℕ) → has t i ≡ true → has (set t m 1) i ≡ true
-has-set [] m i e = e
-has-set (x ∷ t) zero zero e = refl
-has-set (x ∷ t) zero (suc i) e = e
-has-set (x ∷ t) (suc m) zero e = e
-has-set (x ∷ t) (suc m) (suc i) e = has-set t m i e
-
-pub set-has : (t : List ℕ) (m i : ℕ) → has (set t m 1) i ≡ true → (i ≡ m) ⊎ (has t i ≡ true)
-set-has t m i e = go (ℕ-discrete i m)
-  where
-    go : Dec (i ≡ m) → (i ≡ m) ⊎ (has t i ≡ true)
-    go (yes p) = inl p
-    go (no n) = inr (ap (λ (x : ℕ). not (isZero x)) (sym (getD-set-other t m i 1 0 n)) ∙ e)
 
 module _ (rule : List ℕ → ℕ → Bool) where
   -- a pass under way: from s to t, some places looked at

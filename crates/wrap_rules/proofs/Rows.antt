@@ -106,7 +106,7 @@ flat-mem {x} f (z ∷ ys) h k =
     ⊎-elim (λ e. Memᴰ·append-left (flatMap f ys) (subst (λ (w : ℕ). List·Memᴰ x (f w)) e k)) (λ t. Memᴰ·append-right (f z) (flat-mem f ys t k)) (List·Memᴰ·cases-cons h)
 
 -- the module of a target is there unless it is missing
-any-resolved : (normal target : List ℕ) (row : ℕ) → anyTarget (resolved normal target row) ≡ cond (eqb (getD target row 0) missing) [] (getD target row 0 ∷ [])
+pub any-resolved : (normal target : List ℕ) (row : ℕ) → anyTarget (resolved normal target row) ≡ cond (eqb (getD target row 0) missing) [] (getD target row 0 ∷ [])
 unfolding resolved
 any-resolved normal target row =
     ⊎-elim (λ e. rw e) (λ e. rw e (⊎-elim (λ q. rw q) (λ q. rw q) (both (isNormal normal (getD target row 0))))) (both (eqb (getD target row 0) missing))

@@ -2,7 +2,6 @@
 pub mod Rules
 pub mod Plan
 pub mod Passes
-pub mod Steps
 pub mod Spread
 pub mod Asked
 pub mod Suffix

@@ -1,13 +1,14 @@
 -- Sets that are closed along rows: with the value of a row in one column, its value in another.
 -- Assumes nothing.
 use mathlib.Core.Path.{_≡_}
-use mathlib.Core.Bool.{true}
-use mathlib.Core.List.{List}
+use mathlib.Core.Bool.{true, cond}
+use mathlib.Core.List.{List, map}
 use Prim.Native.Nat.{ℕ, _≤_, _<_}
 use lib.ListN.{length, getD}
-use Rattle.lists.specs.Words.{has}
+use Rattle.lists.specs.Words.{upTo, has}
 use Rattle.walk.specs.Close.{Within}
 use Rattle.tables.specs.Project.{missing}
+use Rattle.tables.specs.Readings.{isImport}
 use Rattle.tables.specs.Refusal.{moduleLimit, rowLimit}
 use Rattle.chunk_cycles.specs.Threads.{Linked}
 
@@ -45,6 +46,10 @@ pub record ModuleGraph (from to : List ℕ) (n : ℕ) : Type 0 where
   pub lengths : length to ≡ length from
   pub froms : (i : ℕ) → i < length from → getD from i 0 < n
   pub tos : (i : ℕ) → i < length from → getD to i 0 < n
+
+-- the targets of the kind 0 records, the mark in the other rows
+unfoldable pub importTargets : List ℕ → List ℕ → List ℕ
+importTargets kind target = map (λ (row : ℕ). cond (isImport (getD kind row 0)) (getD target row 0) missing) (upTo (length target))
 
 -- the first `count` places of two columns are the first `rows` rows of two others, but those without a target
 pub record EdgesBelow (recordModule recordTarget : List ℕ) (rows : ℕ) (importers targets : List ℕ) (count : ℕ) : Type 0 where

@@ -11,7 +11,7 @@ use Rattle.walk.specs.Close.{Within, Closed}
 use Rattle.expected_order.specs.Expected.{expected}
 use Rattle.expected_order.specs.Visit.{Fit}
 use Rattle.wrap_rules.specs.Rules.{suffixAsks}
-use Rattle.wrap_rules.specs.Steps.{Added}
+use Rattle.marks.specs.Steps.{Added}
 
 -- r is the first place of an order whose member is in both sets, or the order's length
 pub record FirstIn (first second order : List ℕ) (r : ℕ) : Type 0 where

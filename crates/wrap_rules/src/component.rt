@@ -3,12 +3,12 @@ ghost use mathlib.Core.Path.{_≡_};
 ghost use mathlib.Core.Bool.{true};
 ghost use lib.ListN.{length};
 ghost use Rattle.lists.specs.Words.{has};
-ghost use Rattle.wrap_rules.specs.Steps.{Added};
+ghost use Rattle.marks.specs.Steps.{Added};
 ghost use Rattle.wrap_rules.specs.Asked.{Together, Members};
-use crate::marks::add;
-use crate::marks::mark_owners_through;
-use crate::marks::mark_rows;
 use lists::core::count_marked;
+use marks::core::add;
+use marks::core::mark_owners_through;
+use marks::core::mark_rows;
 
 // One pass of rule (ii). Whether any module was added.
 pub fn close_cyclic_chunk_members(

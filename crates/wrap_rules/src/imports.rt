@@ -1,12 +1,12 @@
 // Rule (iii): a reached eligible module with a planned dependency and a kind 0 target that is planned or leads to a planned module.
 ghost use mathlib.Core.Path.{_≡_};
 ghost use lib.ListN.{length};
-ghost use Rattle.wrap_rules.specs.Steps.{Added};
+ghost use Rattle.marks.specs.Steps.{Added};
 ghost use Rattle.wrap_rules.specs.Spread.{Spreads, Spreadable};
 ghost use Rattle.wrap_rules.specs.Asked.{Importer, Importing};
-use crate::marks::add;
-use crate::marks::mark_owners;
 use crate::spread::spread;
+use marks::core::add;
+use marks::core::mark_owners;
 
 // One pass of rule (iii) over the candidates, the reached eligible modules. Whether any module was added.
 // `leads` has what leads to an earlier, smaller plan, so that a pass visits only from what is newly planned.

@@ -1,7 +1,6 @@
 // The four rules: one pass of each over a set of marks, and what the passes start from. For crates above, on tested tables.
 pub mod component;
 pub mod imports;
-mod marks;
 pub mod reads;
 pub mod roots;
 pub mod seeds;

@@ -5,14 +5,14 @@ ghost use mathlib.Core.Logic.{_⊎_};
 ghost use Prim.Native.Nat.{ℕ, _<_};
 ghost use lib.ListN.{length, getD};
 ghost use Rattle.lists.specs.Words.{has};
-ghost use Rattle.wrap_rules.specs.Steps.{Added};
+ghost use Rattle.marks.specs.Steps.{Added};
 ghost use Rattle.wrap_rules.specs.Asked.{Marks, ChainTouch, SymbolTouch, ReferenceTouch, Touching, Reader, Symbols, Reading, TopLevelRead};
-use crate::marks::add;
-use crate::marks::look_up;
-use crate::marks::mark_owners;
-use crate::marks::mark_owners_through;
-use crate::marks::mark_rows;
-use crate::marks::value_at;
+use marks::core::add;
+use marks::core::look_up;
+use marks::core::mark_owners;
+use marks::core::mark_owners_through;
+use marks::core::mark_rows;
+use marks::core::value_at;
 use tables::core::greater;
 
 // Marks the symbols whose owner is planned, or a link owner in whose chain.

@@ -7,9 +7,9 @@ ghost use Rattle.lists.specs.Words.{has};
 ghost use Rattle.tables.specs.Accepted.{Below};
 ghost use Rattle.wrap_rules.specs.Spread.{ModuleGraph};
 ghost use Rattle.wrap_rules.specs.Roots.{rootsOver, Written, Reaching, Chosen};
-use crate::marks::add;
-use crate::marks::mark_owners;
 use crate::spread::spread;
+use marks::core::add;
+use marks::core::mark_owners;
 use tables::ModuleIdx;
 use tables::core::thread;
 

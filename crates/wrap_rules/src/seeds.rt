@@ -5,8 +5,8 @@ ghost use Prim.Native.Nat.{_≤_};
 ghost use lib.ListN.{length};
 ghost use lib.Dec.{leb};
 ghost use Rattle.tables.specs.Refusal.{rowLimit, below};
-ghost use Rattle.wrap_rules.specs.Steps.{looked, Owners};
-use crate::marks::mark_owners;
+ghost use Rattle.marks.specs.Steps.{looked, Owners};
+use marks::core::mark_owners;
 
 // Whether there are at most 16,384 seeds, and each has one of n rows.
 pub fn seeds_fit(seeds: &[u32], n: usize) -> bool

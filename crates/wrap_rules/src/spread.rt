@@ -2,13 +2,14 @@
 ghost use mathlib.Core.Path.{_≡_};
 ghost use Prim.Native.Nat.{_≤_};
 ghost use lib.ListN.{length};
-ghost use Rattle.wrap_rules.specs.Steps.{importTargets};
-ghost use Rattle.wrap_rules.specs.Spread.{Spreads, Spreadable, Edges};
+ghost use Rattle.wrap_rules.specs.Spread.{Spreads, Spreadable, Edges, importTargets};
 use chunk_cycles::core::visit;
-use tables::ModuleIdx;
+use tables::Target;
+use tables::core::resolve;
 
 // Writes the importer and the target of each kind 0 record that has a target. How many there are.
 pub fn import_edges(
+    normal: &[u32],
     record_module: &[u32],
     record_kind: &[u32],
     record_target: &[u32],
@@ -25,10 +26,10 @@ pub fn import_edges(
         if record_kind[row] != 0 {
             continue;
         }
-        let target = record_target[row];
-        if target == ModuleIdx::MISSING {
+        let found = resolve(normal, record_target, row);
+        let (Target::External(target) | Target::Normal(target)) = found else {
             continue;
-        }
+        };
         importers[count] = record_module[row];
         targets[count] = target;
         count += 1;

@@ -9,12 +9,12 @@ ghost use Rattle.tables.specs.Accepted.{Below};
 ghost use Rattle.expected_order.specs.Expected.{expected};
 ghost use Rattle.wrap_rules.specs.Passes.{Passed};
 ghost use Rattle.wrap_rules.specs.Rules.{suffixAsks};
-ghost use Rattle.wrap_rules.specs.Steps.{Added};
+ghost use Rattle.marks.specs.Steps.{Added};
 ghost use Rattle.wrap_rules.specs.Asked.{Marks};
 ghost use Rattle.wrap_rules.specs.Suffix.{FirstIn, InSuffix, WholeSuffix, noteOf, Extended, sensitiveOrders, AllNoted, Suffixes};
-use crate::marks::add;
-use crate::marks::mark_owners;
 use expected_order::core::expected_order_for_root;
+use marks::core::add;
+use marks::core::mark_owners;
 use tables::ModuleIdx;
 
 // The place of the first member of an order that is in two sets, or the order's length.

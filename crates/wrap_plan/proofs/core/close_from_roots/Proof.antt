@@ -14,8 +14,7 @@ use Rattle.tables.specs.Readings.{modules}
 use Rattle.tables.specs.Threads.{Threads}
 use Rattle.sensitivity.specs.Marks.{eligible}
 use Rattle.wrap_rules.specs.Plan.{roots}
-use Rattle.wrap_rules.specs.Steps.{importTargets}
-use Rattle.wrap_rules.specs.Spread.{ModuleGraph, Edges}
+use Rattle.wrap_rules.specs.Spread.{ModuleGraph, Edges, importTargets}
 use Rattle.wrap_rules.specs.Roots.{Chosen}
 use Rattle.wrap_plan.specs.Closing.{Rest, whole, Made, Kept, Ready, Finished, Basis, Rooted, ClosedFrom}
 use Rattle.wrap_rules.proofs.Parts.{Lent, view, part-none, part-length, view-room, view-is, view-length}
@@ -64,25 +63,25 @@ module _ (k : tie.After-import-edges) where
   count = k .import-edges .result
 
   abbrev importers : List ℕ
-  importers = take count (k .import-edges .last .1 .1 .1 .0)
+  importers = take count (k .import-edges .last .1 .1 .1 .1 .0)
 
   abbrev targets : List ℕ
-  targets = take count (k .import-edges .last .1 .1 .1 .1 .0)
+  targets = take count (k .import-edges .last .1 .1 .1 .1 .1 .0)
 
   few-edges : count ≤ 16384
   few-edges = omega (arith, k .import-edges .ensures .few, rooted entry .1 .accepted .sizes .recordModule)
 
-  importers-room : count ≤ length (k .import-edges .last .1 .1 .1 .0)
-  importers-room = omega (arith, few-edges, k .import-edges .kept .1 .1 .1 .0)
+  importers-room : count ≤ length (k .import-edges .last .1 .1 .1 .1 .0)
+  importers-room = omega (arith, few-edges, k .import-edges .kept .1 .1 .1 .1 .0)
 
-  targets-room : count ≤ length (k .import-edges .last .1 .1 .1 .1 .0)
-  targets-room = omega (arith, few-edges, k .import-edges .kept .1 .1 .1 .1 .0)
+  targets-room : count ≤ length (k .import-edges .last .1 .1 .1 .1 .1 .0)
+  targets-room = omega (arith, few-edges, k .import-edges .kept .1 .1 .1 .1 .1 .0)
 
   importers-length : length importers ≡ count
-  importers-length = length-take-le count (k .import-edges .last .1 .1 .1 .0) importers-room
+  importers-length = length-take-le count (k .import-edges .last .1 .1 .1 .1 .0) importers-room
 
   targets-length : length targets ≡ count
-  targets-length = length-take-le count (k .import-edges .last .1 .1 .1 .1 .0) targets-room
+  targets-length = length-take-le count (k .import-edges .last .1 .1 .1 .1 .1 .0) targets-room
 
   edges : let a = entry .args in Edges (a .record-module .now) (importTargets (a .record-kind .now) (a .record-target .now)) importers targets (length importers)
   edges =

@@ -13,8 +13,7 @@ use Rattle.chunk_cycles.specs.Cycles.{labelsOf}
 use Rattle.wrap_rules.specs.Plan.{asked}
 use Rattle.wrap_plan.specs.Planned.{ordersOf}
 use Rattle.wrap_rules.specs.Passes.{Passed}
-use Rattle.wrap_rules.specs.Steps.{importTargets}
-use Rattle.wrap_rules.specs.Spread.{Under}
+use Rattle.wrap_rules.specs.Spread.{Under, importTargets}
 use Rattle.wrap_plan.specs.Closing.{Rest, whole, Made, Kept, Ready, Once}
 use Rattle.lists.proofs.Laws.{or-left, or-right}
 use Rattle.wrap_rules.proofs.Lists.{or-skip}

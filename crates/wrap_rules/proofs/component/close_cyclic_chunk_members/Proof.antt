@@ -8,9 +8,9 @@ use native.Mathlib.Omega.{arith}
 use lib.ListN.{length, take, replicate}
 use Rattle.lists.specs.Words.{ones}
 use Rattle.tables.specs.Project.{missing}
-use Rattle.wrap_rules.specs.Steps.{looked, Owners, Added, InAll}
+use Rattle.marks.specs.Steps.{looked, Owners, Added, InAll}
 use Rattle.wrap_rules.proofs.Parts.{Lent, part-none, part-length, view-room, view-is, view-length}
-use Rattle.wrap_rules.proofs.Steps.{added-none, added-cong}
+use Rattle.marks.proofs.Steps.{added-none, added-cong}
 use Rattle.wrap_rules.proofs.Marking.{ones-none, together-hit, members-together, together-members}
 use borrow.Author.Needs.{needs}
 use Rattle.wrap_rules.proofs.component.close_cyclic_chunk_members.Statement.{statement}
@@ -18,9 +18,9 @@ use Rattle.wrap_rules.proofs.component.close_cyclic_chunk_members.Tie a
 use Rattle.wrap_rules.proofs.component.close_cyclic_chunk_members.Reads as reads
 use Rattle.wrap_rules.proofs.component.close_cyclic_chunk_members.Lts as lts
 use Rattle.lists.proofs.core.count_marked.Reads as count-marked-reads
-use Rattle.wrap_rules.proofs.marks.add.Reads as add-reads
-use Rattle.wrap_rules.proofs.marks.mark_owners_through.Reads as mark-owners-through-reads
-use Rattle.wrap_rules.proofs.marks.mark_rows.Reads as mark-rows-reads
+use Rattle.marks.proofs.core.add.Reads as add-reads
+use Rattle.marks.proofs.core.mark_owners_through.Reads as mark-owners-through-reads
+use Rattle.marks.proofs.core.mark_rows.Reads as mark-rows-reads
 
 abbrev size : tie.Start → ℕ
 size e = length (e .args .plan .now)

@@ -8,17 +8,17 @@ use mathlib.Core.List.{List}
 use native.Mathlib.Omega.{arith}
 use lib.ListN.{length, take, replicate}
 use borrow.Author.Needs.{needs}
-use Rattle.wrap_rules.specs.Steps.{looked, Owners, Added, InAll}
+use Rattle.marks.specs.Steps.{looked, Owners, Added, InAll}
 use Rattle.wrap_rules.specs.Asked.{Importer}
-use Rattle.wrap_rules.proofs.Steps.{added-cong}
+use Rattle.marks.proofs.Steps.{added-cong}
 use Rattle.wrap_rules.proofs.Marking.{marked-importer, importer-marked}
 use Rattle.wrap_rules.proofs.Parts.{Lent, view, part-none, part-length, view-room, view-is, view-length}
 use Rattle.wrap_rules.proofs.imports.close_static_importers.Statement.{statement}
 use Rattle.wrap_rules.proofs.imports.close_static_importers.Tie as tie
 use Rattle.wrap_rules.proofs.imports.close_static_importers.Reads as reads
 use Rattle.wrap_rules.proofs.imports.close_static_importers.Lts as lts
-use Rattle.wrap_rules.proofs.marks.add.Reads as add-reads
-use Rattle.wrap_rules.proofs.marks.mark_owners.Reads as mark-owners-reads
+use Rattle.marks.proofs.core.add.Reads as add-reads
+use Rattle.marks.proofs.core.mark_owners.Reads as mark-owners-reads
 use Rattle.wrap_rules.proofs.spread.spread.Reads as spread-reads
 
 abbrev size : tie.Start → ℕ

@@ -6,17 +6,17 @@ use mathlib.Core.List.{List}
 use native.Mathlib.Omega.{arith}
 use lib.ListN.{length}
 use Rattle.lists.proofs.Laws.{not-true}
-use Rattle.wrap_rules.specs.Steps.{Added, InAll}
+use Rattle.marks.specs.Steps.{Added, InAll}
 use Rattle.wrap_rules.specs.Asked.{Marks, Reader}
 use Rattle.wrap_rules.proofs.Parts.{Lent, part-none, part-length, made-length, view-room, view-is, view-length}
-use Rattle.wrap_rules.proofs.Steps.{added-none, added-cong}
+use Rattle.marks.proofs.Steps.{added-none, added-cong}
 use Rattle.wrap_rules.proofs.Marking.{marked-read, read-marked}
 use borrow.Author.Needs.{needs}
 use Rattle.wrap_rules.proofs.reads.close_top_level_readers.Statement.{statement}
 use Rattle.wrap_rules.proofs.reads.close_top_level_readers.Tie as tie
 use Rattle.wrap_rules.proofs.reads.close_top_level_readers.Reads as reads
 use Rattle.wrap_rules.proofs.reads.close_top_level_readers.Lts as lts
-use Rattle.wrap_rules.proofs.marks.add.Reads as add-reads
+use Rattle.marks.proofs.core.add.Reads as add-reads
 use Rattle.wrap_rules.proofs.reads.any_open.Reads as any-open-reads
 use Rattle.wrap_rules.proofs.reads.mark_readers.Reads as mark-readers-reads
 use Rattle.wrap_rules.proofs.reads.mark_touching.Reads as mark-touching-reads

@@ -12,7 +12,7 @@ use Rattle.wrap_rules.proofs.reads.mark_canonicals.Tie as tie
 use Rattle.wrap_rules.proofs.reads.mark_canonicals.Reads as reads
 use Rattle.wrap_rules.proofs.reads.mark_canonicals.Lts as lts
 use Rattle.tables.proofs.core.greater.Reads as greater-reads
-use Rattle.wrap_rules.proofs.marks.value_at.Reads as value-at-reads
+use Rattle.marks.proofs.core.value_at.Reads as value-at-reads
 
 abbrev Inv-loop : tie.InvT-loop
 Inv-loop canonical chains symbols₀ y₀ y-end symbols y = (y-end ≡ length symbols₀) × (y ≤ y-end) × (length symbols ≡ length symbols₀) × Joined canonical chains y symbols

@@ -6,8 +6,8 @@ use Rattle.wrap_rules.proofs.reads.mark_chains.Statement.{statement}
 use Rattle.wrap_rules.proofs.reads.mark_chains.Tie as tie
 use Rattle.wrap_rules.proofs.reads.mark_chains.Reads as reads
 use Rattle.wrap_rules.proofs.reads.mark_chains.Lts as lts
-use Rattle.wrap_rules.proofs.marks.look_up.Reads as look-up-reads
-use Rattle.wrap_rules.proofs.marks.mark_owners_through.Reads as mark-owners-through-reads
+use Rattle.marks.proofs.core.look_up.Reads as look-up-reads
+use Rattle.marks.proofs.core.mark_owners_through.Reads as mark-owners-through-reads
 
 look-up-requires : tie.Need-look-up-requires
 look-up-requires c κs = search needs

@@ -6,7 +6,7 @@ use Rattle.wrap_rules.proofs.reads.mark_readers.Statement.{statement}
 use Rattle.wrap_rules.proofs.reads.mark_readers.Tie as tie
 use Rattle.wrap_rules.proofs.reads.mark_readers.Reads as reads
 use Rattle.wrap_rules.proofs.reads.mark_readers.Lts as lts
-use Rattle.wrap_rules.proofs.marks.mark_rows.Reads as mark-rows-reads
+use Rattle.marks.proofs.core.mark_rows.Reads as mark-rows-reads
 
 mark-rows-requires : tie.Need-mark-rows-requires
 mark-rows-requires c κs = c .before .before .before .before .before .pre .0

@@ -6,8 +6,8 @@ use Rattle.wrap_rules.proofs.reads.mark_references.Statement.{statement
 use Rattle.wrap_rules.proofs.reads.mark_references.Tie as tie
 use Rattle.wrap_rules.proofs.reads.mark_references.Reads as reads
 use Rattle.wrap_rules.proofs.reads.mark_references.Lts as lts
-use Rattle.wrap_rules.proofs.marks.look_up.Reads as look-up-reads
-use Rattle.wrap_rules.proofs.marks.mark_owners.Reads as mark-owners-reads
+use Rattle.marks.proofs.core.look_up.Reads as look-up-reads
+use Rattle.marks.proofs.core.mark_owners.Reads as mark-owners-reads
 
 look-up-requires : tie.Need-look-up-requires
 look-up-requires c κs = c .before .before .before .before .before .before .pre .0

@@ -5,7 +5,7 @@ use mathlib.Core.Path.{_≡_, refl, sym, ap, subst, _∙_}
 use mathlib.Core.Logic.{⊎-elim}
 use mathlib.Core.List.{List}
 use lib.ListN.{length}
-use Rattle.wrap_rules.specs.Steps.{Added, InAll}
+use Rattle.marks.specs.Steps.{Added, InAll}
 use Rattle.wrap_rules.specs.Spread.{ModuleGraph}
 use Rattle.wrap_rules.specs.Roots.{Reaching}
 use Rattle.wrap_rules.proofs.Parts.{Lent, view, part-none, part-length, view-room, view-is, view-length}
@@ -14,7 +14,7 @@ use Rattle.wrap_rules.proofs.roots.mark_candidates.Statement.{statement
 use Rattle.wrap_rules.proofs.roots.mark_candidates.Tie as tie
 use Rattle.wrap_rules.proofs.roots.mark_candidates.Reads as reads
 use Rattle.wrap_rules.proofs.roots.mark_candidates.Lts as lts
-use Rattle.wrap_rules.proofs.marks.add.Reads as add-reads
+use Rattle.marks.proofs.core.add.Reads as add-reads
 use Rattle.wrap_rules.proofs.roots.source_reachable_modules.Reads as source-reachable-modules-reads
 
 abbrev size : tie.Start → ℕ

@@ -17,7 +17,7 @@ use Rattle.wrap_rules.proofs.roots.source_reachable_modules.Tie as tie
 use Rattle.wrap_rules.proofs.roots.source_reachable_modules.Reads as reads
 use Rattle.wrap_rules.proofs.roots.source_reachable_modules.Lts as lts
 use Rattle.tables.proofs.core.thread.Reads as thread-reads
-use Rattle.wrap_rules.proofs.marks.mark_owners.Reads as mark-owners-reads
+use Rattle.marks.proofs.core.mark_owners.Reads as mark-owners-reads
 use Rattle.wrap_rules.proofs.spread.spread.Reads as spread-reads
 
 abbrev size : tie.Start → ℕ

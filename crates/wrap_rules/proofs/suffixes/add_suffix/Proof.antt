@@ -5,15 +5,15 @@ use mathlib.Core.Path.{_≡_, refl, sym, ap, subst, _∙_}
 use mathlib.Core.List.{List}
 use native.Mathlib.Omega.{arith}
 use lib.ListN.{length, getD}
-use Rattle.wrap_rules.specs.Steps.{Added, InAll}
+use Rattle.marks.specs.Steps.{Added, InAll}
 use Rattle.wrap_rules.proofs.Parts.{Lent, view, part-none, part-length, made-length, view-room, view-is, view-length}
-use Rattle.wrap_rules.proofs.Steps.{added-cong}
+use Rattle.marks.proofs.Steps.{added-cong}
 use borrow.Author.Needs.{needs}
 use Rattle.wrap_rules.proofs.suffixes.add_suffix.Statement.{statement}
 use Rattle.wrap_rules.proofs.suffixes.add_suffix.Tie as tie
 use Rattle.wrap_rules.proofs.suffixes.add_suffix.Reads as reads
 use Rattle.wrap_rules.proofs.suffixes.add_suffix.Lts as lts
-use Rattle.wrap_rules.proofs.marks.add.Reads as add-reads
+use Rattle.marks.proofs.core.add.Reads as add-reads
 use Rattle.wrap_rules.proofs.suffixes.mark_suffix.Reads as mark-suffix-reads
 
 abbrev size : tie.Start → ℕ

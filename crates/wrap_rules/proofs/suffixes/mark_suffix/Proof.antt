@@ -4,14 +4,14 @@ use mathlib.Core.Path.{subst}
 use mathlib.Core.List.{List}
 use Prim.Native.Nat.{ℕ}
 use lib.ListN.{length}
-use Rattle.wrap_rules.specs.Steps.{looked, Owners}
+use Rattle.marks.specs.Steps.{looked, Owners}
 use Rattle.wrap_rules.proofs.Extending.{take-rest, suffix-marked}
 use borrow.Author.Needs.{needs}
 use Rattle.wrap_rules.proofs.suffixes.mark_suffix.Statement.{statement}
 use Rattle.wrap_rules.proofs.suffixes.mark_suffix.Tie as tie
 use Rattle.wrap_rules.proofs.suffixes.mark_suffix.Reads as reads
 use Rattle.wrap_rules.proofs.suffixes.mark_suffix.Lts as lts
-use Rattle.wrap_rules.proofs.marks.mark_owners.Reads as mark-owners-reads
+use Rattle.marks.proofs.core.mark_owners.Reads as mark-owners-reads
 use Rattle.wrap_rules.proofs.suffixes.first_in.Reads as first-in-reads
 
 first-in-requires : tie.Need-first-in-requires

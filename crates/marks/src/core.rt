@@ -1,8 +1,8 @@
-// Steps over one table: values looked up, owners of rows marked, marks added to a set.
+// For crates above, on tested tables.
 ghost use mathlib.Core.Path.{_≡_};
 ghost use lib.ListN.{length, getD};
 ghost use Rattle.tables.specs.Project.{missing};
-ghost use Rattle.wrap_rules.specs.Steps.{looked, Raised, Owners, Added, InAll};
+ghost use Rattle.marks.specs.Steps.{looked, Raised, Owners, Added, InAll};
 use tables::ModuleIdx;
 use tables::core::greater;
 

@@ -1,7 +1,7 @@
 -- What the steps of the code do to columns and to sets of marks.
 -- Assumes nothing.
 use mathlib.Core.Path.{_≡_}
-use mathlib.Core.Bool.{Bool, true, false, cond}
+use mathlib.Core.Bool.{Bool, true, false}
 use mathlib.Core.Logic.{_⊎_}
 use mathlib.Core.List.{List, map}
 use Prim.Native.Nat.{ℕ, _≤_, _<_}
@@ -9,16 +9,10 @@ use lib.ListN.{length, getD}
 use Rattle.lists.specs.Words.{upTo, has, zeros}
 use Rattle.walk.specs.Close.{Within, Bits}
 use Rattle.tables.specs.Lookups.{greaterOf}
-use Rattle.tables.specs.Project.{missing}
-use Rattle.tables.specs.Readings.{isImport}
 
 -- each row's value in a table, `other` where the table has no such place
 unfoldable pub looked : ℕ → List ℕ → List ℕ → List ℕ
 looked other table column = map (λ (row : ℕ). getD table (getD column row 0) other) (upTo (length column))
-
--- the targets of the kind 0 records, the mark in the other rows
-unfoldable pub importTargets : List ℕ → List ℕ → List ℕ
-importTargets kind target = map (λ (row : ℕ). cond (isImport (getD kind row 0)) (getD target row 0) missing) (upTo (length target))
 
 -- t is s with at least x at place m, where it has one
 pub record Raised (m x : ℕ) (s t : List ℕ) : Type 0 where

@@ -1,4 +1,4 @@
--- `wrap_rules::marks::add` meets its contract: the places below m are added.
+-- `marks::core::add` meets its contract: the places below m are added.
 -- Assumes nothing.
 use Prim.Native.Nat.{ℕ, _+_, _-_, _≤_, _<_}
 use mathlib.Core.Path.{_≡_, refl, sym, ap, subst, _∙_}
@@ -9,12 +9,12 @@ use lib.ListN.{length, getD}
 use borrow.Author.Needs.{needs}
 use Rattle.lists.specs.Words.{has}
 use Rattle.chunk_cycles.proofs.Lists.{mark-in, mark-out}
-use Rattle.wrap_rules.specs.Steps.{Adding, InAll}
-use Rattle.wrap_rules.proofs.Steps.{adding-start, adding-pass, adding-put}
-use Rattle.wrap_rules.proofs.marks.add.Statement.{statement}
-use Rattle.wrap_rules.proofs.marks.add.Tie as tie
-use Rattle.wrap_rules.proofs.marks.add.Reads as reads
-use Rattle.wrap_rules.proofs.marks.add.Lts as lts
+use Rattle.marks.specs.Steps.{Adding, InAll}
+use Rattle.marks.proofs.Steps.{adding-start, adding-pass, adding-put}
+use Rattle.marks.proofs.core.add.Statement.{statement}
+use Rattle.marks.proofs.core.add.Tie as tie
+use Rattle.marks.proofs.core.add.Reads as reads
+use Rattle.marks.proofs.core.add.Lts as lts
 
 abbrev Inv-loop : tie.InvT-loop
 Inv-loop first second third set₀ changed₀ m₀ m-end set changed m = (m-end ≡ length set₀) × (m ≤ m-end) × Adding (InAll first second third) m set₀ set changed

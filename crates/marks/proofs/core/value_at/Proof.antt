@@ -1,13 +1,13 @@
--- `wrap_rules::marks::value_at` meets its contract.
+-- `marks::core::value_at` meets its contract.
 -- Assumes nothing.
 use mathlib.Core.Path.{sym}
 use lib.ListN.{List·getD-eq-default}
 use Rattle.chunk_cycles.proofs.Lists.{getD-in}
 use borrow.Author.Needs.{needs}
-use Rattle.wrap_rules.proofs.marks.value_at.Statement.{statement}
-use Rattle.wrap_rules.proofs.marks.value_at.Tie as tie
-use Rattle.wrap_rules.proofs.marks.value_at.Reads as reads
-use Rattle.wrap_rules.proofs.marks.value_at.Lts as lts
+use Rattle.marks.proofs.core.value_at.Statement.{statement}
+use Rattle.marks.proofs.core.value_at.Tie as tie
+use Rattle.marks.proofs.core.value_at.Reads as reads
+use Rattle.marks.proofs.core.value_at.Lts as lts
 
 returns : tie.Need-returns
 returns c = let a = c .before .args in sym (List·getD-eq-default (a .table .now) (a .other) (c .if1 .taken))

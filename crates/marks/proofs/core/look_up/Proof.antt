@@ -1,17 +1,17 @@
--- `wrap_rules::marks::look_up` meets its contract: the rows below `row` are written.
+-- `marks::core::look_up` meets its contract: the rows below `row` are written.
 -- Assumes nothing.
 use Prim.Native.Nat.{ℕ, _-_}
 use mathlib.Core.Path.{_≡_, refl, sym, _∙_}
 use native.Mathlib.Omega.{arith}
 use lib.ListN.{length, getD}
 use borrow.Author.Needs.{needs}
-use Rattle.wrap_rules.specs.Steps.{looked}
-use Rattle.wrap_rules.proofs.Steps.{Writing, writing-start, writing-put, writing-end}
-use Rattle.wrap_rules.proofs.marks.look_up.Statement.{statement}
-use Rattle.wrap_rules.proofs.marks.look_up.Tie as tie
-use Rattle.wrap_rules.proofs.marks.look_up.Reads as reads
-use Rattle.wrap_rules.proofs.marks.look_up.Lts as lts
-use Rattle.wrap_rules.proofs.marks.value_at.Reads as value-at-reads
+use Rattle.marks.specs.Steps.{looked}
+use Rattle.marks.proofs.Steps.{Writing, writing-start, writing-put, writing-end}
+use Rattle.marks.proofs.core.look_up.Statement.{statement}
+use Rattle.marks.proofs.core.look_up.Tie as tie
+use Rattle.marks.proofs.core.look_up.Reads as reads
+use Rattle.marks.proofs.core.look_up.Lts as lts
+use Rattle.marks.proofs.core.value_at.Reads as value-at-reads
 
 abbrev Inv-loop : tie.InvT-loop
 Inv-loop column table out₀ other row₀ row-end out row = (row-end ≡ length column) × Writing (λ (i : ℕ). getD table (getD column i 0) other) (length column) row out

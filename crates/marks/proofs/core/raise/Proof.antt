@@ -1,13 +1,13 @@
--- `wrap_rules::marks::raise` meets its contract.
+-- `marks::core::raise` meets its contract.
 -- Assumes nothing.
 use mathlib.Core.Path.{refl}
 use native.Mathlib.Omega.{arith}
-use Rattle.wrap_rules.proofs.Steps.{raised-put}
+use Rattle.marks.proofs.Steps.{raised-put}
 use borrow.Author.Needs.{needs}
-use Rattle.wrap_rules.proofs.marks.raise.Statement.{statement}
-use Rattle.wrap_rules.proofs.marks.raise.Tie as tie
-use Rattle.wrap_rules.proofs.marks.raise.Reads as reads
-use Rattle.wrap_rules.proofs.marks.raise.Lts as lts
+use Rattle.marks.proofs.core.raise.Statement.{statement}
+use Rattle.marks.proofs.core.raise.Tie as tie
+use Rattle.marks.proofs.core.raise.Reads as reads
+use Rattle.marks.proofs.core.raise.Lts as lts
 use Rattle.tables.proofs.core.greater.Reads as greater-reads
 
 returns : tie.Need-returns

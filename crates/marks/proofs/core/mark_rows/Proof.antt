@@ -1,24 +1,25 @@
--- `wrap_rules::marks::mark_owners` meets its contract: the owners of the rows below `row` are marked.
+-- `marks::core::mark_rows` meets its contract: the owners of the rows below `row` are marked.
 -- Assumes nothing.
-use Prim.Native.Nat.{ℕ, _-_, _≤_, _<_}
+use Prim.Native.Nat.{ℕ, _-_, _≤_}
 use mathlib.Core.Path.{_≡_, refl, sym, subst, _∙_}
 use native.Mathlib.Omega.{arith}
 use lib.ListN.{length}
 use borrow.Author.Needs.{needs}
-use Rattle.wrap_rules.specs.Steps.{looked, Owners}
-use Rattle.wrap_rules.proofs.Steps.{looked-at, owners-start, owners-put}
-use Rattle.wrap_rules.proofs.marks.mark_owners.Statement.{statement}
-use Rattle.wrap_rules.proofs.marks.mark_owners.Tie as tie
-use Rattle.wrap_rules.proofs.marks.mark_owners.Reads as reads
-use Rattle.wrap_rules.proofs.marks.mark_owners.Lts as lts
-use Rattle.wrap_rules.proofs.marks.raise.Reads as raise-reads
-use Rattle.wrap_rules.proofs.marks.value_at.Reads as value-at-reads
+use Rattle.tables.specs.Project.{missing}
+use Rattle.marks.specs.Steps.{looked, Owners}
+use Rattle.marks.proofs.Steps.{looked-at, owners-start, owners-put}
+use Rattle.marks.proofs.core.mark_rows.Statement.{statement}
+use Rattle.marks.proofs.core.mark_rows.Tie as tie
+use Rattle.marks.proofs.core.mark_rows.Reads as reads
+use Rattle.marks.proofs.core.mark_rows.Lts as lts
+use Rattle.marks.proofs.core.raise.Reads as raise-reads
+use Rattle.marks.proofs.core.value_at.Reads as value-at-reads
 
 abbrev Inv-loop : tie.InvT-loop
-Inv-loop owner value set marks₀ row₀ row-end marks row = (row-end ≡ length owner) × (row ≤ row-end) × Owners owner (looked 0 set value) row marks₀ marks
+Inv-loop value owner rows marks₀ row₀ row-end marks row = (row-end ≡ length value) × (row ≤ row-end) × Owners (looked missing owner value) rows row marks₀ marks
 
 abbrev μ-loop : tie.MeasureT-loop
-μ-loop owner value set marks₀ row₀ row-end marks row = row-end - row
+μ-loop value owner rows marks₀ row₀ row-end marks row = row-end - row
 
 abbrev Loop : Type 0
 Loop = tie.At-loop Inv-loop μ-loop
@@ -56,8 +57,7 @@ loop-again c =
     let a = l .before .before .before .before .before .args in
     let row = l .loop .row in
     let v = c .before .before .before .before .before .value-at in
-    let b : row < length (a .value .now) = omega (arith, l .before .before .before .before .before .pre, c .before .before .before .before .before .before .before .loop-test .taken) in
-    (refl, omega arith, owners-put (a .owner .now) (looked 0 (a .set .now) (a .value .now)) (a .marks .now) row (l .loop .marks) (c .before .before .raise .last .0) (l .loop .inv .2) refl (looked-at 0 (a .set .now) (a .value .now) row 0 b ∙ sym (v .ensures)) (c .before .before .raise .ensures))
+    (refl, omega arith, owners-put (looked missing (a .owner .now) (a .value .now)) (a .rows .now) (a .marks .now) row (l .loop .marks) (c .before .before .raise .last .0) (l .loop .inv .2) (looked-at missing (a .owner .now) (a .value .now) row 0 (c .before .before .before .before .before .before .before .loop-test .taken) ∙ sym (v .ensures)) refl (c .before .before .raise .ensures))
 
 same-length : tie.Need-same-length Inv-loop μ-loop
 same-length c = c .before .loop .inv .2 .len
@@ -66,11 +66,11 @@ returns : tie.Need-returns Inv-loop μ-loop
 returns c =
     let l = c .before in
     let a = l .before .before .before .before .before .args in
-    let e : l .loop .row ≡ length (a .owner .now) = omega (arith, c .loop-test .left, l .loop .inv .0, l .loop .inv .1) in
-    subst (λ (n : ℕ). Owners (a .owner .now) (looked 0 (a .set .now) (a .value .now)) n (a .marks .now) (l .loop .marks)) e (l .loop .inv .2)
+    let e : l .loop .row ≡ length (a .value .now) = omega (arith, c .loop-test .left, l .loop .inv .0, l .loop .inv .1) in
+    subst (λ (n : ℕ). Owners (looked missing (a .owner .now) (a .value .now)) (a .rows .now) n (a .marks .now) (l .loop .marks)) e (l .loop .inv .2)
 
-pub mark-owners-spec : {M : Type 1} → statement M
-mark-owners-spec =
+pub mark-rows-spec : {M : Type 1} → statement M
+mark-rows-spec =
     tie.close
     (tie.spec
     Inv-loop

@@ -1,4 +1,4 @@
--- `wrap_rules::marks::mark_owners_through` meets its contract: the owners of the rows below `row` are marked.
+-- `marks::core::mark_owners_through` meets its contract: the owners of the rows below `row` are marked.
 -- Assumes nothing.
 use Prim.Native.Nat.{ℕ, _-_, _≤_, _<_}
 use mathlib.Core.Path.{_≡_, refl, sym, ap, subst, _∙_}
@@ -7,14 +7,14 @@ use native.Mathlib.Omega.{arith}
 use lib.ListN.{length, getD}
 use borrow.Author.Needs.{needs}
 use Rattle.tables.specs.Project.{missing}
-use Rattle.wrap_rules.specs.Steps.{looked, Owners}
-use Rattle.wrap_rules.proofs.Steps.{length-looked, looked-at, owners-start, owners-put}
-use Rattle.wrap_rules.proofs.marks.mark_owners_through.Statement.{statement}
-use Rattle.wrap_rules.proofs.marks.mark_owners_through.Tie as tie
-use Rattle.wrap_rules.proofs.marks.mark_owners_through.Reads as reads
-use Rattle.wrap_rules.proofs.marks.mark_owners_through.Lts as lts
-use Rattle.wrap_rules.proofs.marks.raise.Reads as raise-reads
-use Rattle.wrap_rules.proofs.marks.value_at.Reads as value-at-reads
+use Rattle.marks.specs.Steps.{looked, Owners}
+use Rattle.marks.proofs.Steps.{length-looked, looked-at, owners-start, owners-put}
+use Rattle.marks.proofs.core.mark_owners_through.Statement.{statement}
+use Rattle.marks.proofs.core.mark_owners_through.Tie as tie
+use Rattle.marks.proofs.core.mark_owners_through.Reads as reads
+use Rattle.marks.proofs.core.mark_owners_through.Lts as lts
+use Rattle.marks.proofs.core.raise.Reads as raise-reads
+use Rattle.marks.proofs.core.value_at.Reads as value-at-reads
 
 abbrev Inv-loop : tie.InvT-loop
 Inv-loop owner value through set marks₀ row₀ row-end marks row = (row-end ≡ length owner) × (row ≤ row-end) × Owners owner (looked 0 set (looked missing through value)) row marks₀ marks

@@ -2,9 +2,9 @@
 -- Assumes nothing.
 use mathlib.Core.Path.{_≡_, refl, sym, ap, subst, _∙_}
 use mathlib.Core.Logic.{_⊎_, inl, inr, ⊎-elim}
-use mathlib.Core.Bool.{Bool, true, false, cond, not, true≢false, false≢true}
-use mathlib.Core.List.{List, map}
-use Prim.Native.Nat.{ℕ, _+_, _≤_, _<_}
+use mathlib.Core.Bool.{Bool, true, false, not, true≢false, false≢true}
+use mathlib.Core.List.{List, [], _∷_, map}
+use Prim.Native.Nat.{ℕ, zero, suc, _+_, _≤_, _<_}
 use native.Mathlib.Omega.{arith}
 use native.Mathlib.Decide.{ℕ-discrete, decLt}
 use lib.ListN.{length, getD, set, length-set, List·getD-eq-default}
@@ -14,12 +14,9 @@ use Rattle.lists.proofs.Laws.{has-in}
 use Rattle.walk.specs.Close.{Within, Bits}
 use Rattle.walk.proofs.Visits.{fresh-zero, set-zeros, set-bits}
 use Rattle.tables.specs.Lookups.{greaterOf}
-use Rattle.tables.specs.Project.{missing}
-use Rattle.tables.specs.Readings.{isImport}
 use Rattle.tables.proofs.Greater.{greater-first, greater-second, greater-one}
 use Rattle.chunk_cycles.proofs.Lists.{mark-in, mark-out, getD-map-upTo, length-map-upTo}
-use Rattle.wrap_rules.specs.Steps.{looked, importTargets, Raised, Owners, Adding, Added}
-use Rattle.wrap_rules.proofs.Passes.{has-set, set-has}
+use Rattle.marks.specs.Steps.{looked, Raised, Owners, Adding, Added}
 
 -- writing a column from place 0
 
@@ -43,6 +40,22 @@ module _ (f : ℕ → ℕ) (n : ℕ) where
     writing-end l =
         ext-getD 0 out (map f (upTo n)) (g .len ∙ sym (length-map-upTo f n))
         (λ j k. let b : j < n = omega (arith, g .len) in g .done j (omega arith) ∙ sym (getD-map-upTo f n j 0 b))
+
+-- marking one place
+
+pub has-set : (t : List ℕ) (m i : ℕ) → has t i ≡ true → has (set t m 1) i ≡ true
+has-set [] m i e = e
+has-set (x ∷ t) zero zero e = refl
+has-set (x ∷ t) zero (suc i) e = e
+has-set (x ∷ t) (suc m) zero e = e
+has-set (x ∷ t) (suc m) (suc i) e = has-set t m i e
+
+pub set-has : (t : List ℕ) (m i : ℕ) → has (set t m 1) i ≡ true → (i ≡ m) ⊎ (has t i ≡ true)
+set-has t m i e = go (ℕ-discrete i m)
+  where
+    go : Dec (i ≡ m) → (i ≡ m) ⊎ (has t i ≡ true)
+    go (yes p) = inl p
+    go (no n) = inr (ap (λ (x : ℕ). not (isZero x)) (sym (getD-set-other t m i 1 0 n)) ∙ e)
 
 -- a mark that was just put is in
 pub set-in : (t : List ℕ) (m : ℕ) → m < length t → has (set t m 1) m ≡ true
@@ -224,13 +237,3 @@ looked-bits set column b row = go (decLt row (length column))
     go : Dec (row < length column) → getD (looked 0 set column) row 0 ≤ 1
     go (yes l) = rw (looked-at 0 set column row 0 l) (b (getD column row 0))
     go (no l) = let z : getD (looked 0 set column) row 0 ≡ 0 = List·getD-eq-default (looked 0 set column) 0 (omega (arith, length-looked 0 set column)) in omega arith
-
--- the targets of the kind 0 records
-
-pub length-targets : (kind target : List ℕ) → length (importTargets kind target) ≡ length target
-unfolding importTargets
-length-targets kind target = length-map-upTo (λ (row : ℕ). cond (isImport (getD kind row 0)) (getD target row 0) missing) (length target)
-
-pub target-at : (kind target : List ℕ) (row d : ℕ) → row < length target → getD (importTargets kind target) row d ≡ cond (isImport (getD kind row 0)) (getD target row 0) missing
-unfolding importTargets
-target-at kind target row d l = getD-map-upTo (λ (i : ℕ). cond (isImport (getD kind i 0)) (getD target i 0) missing) (length target) row d l

@@ -1,0 +1,2 @@
+-- The theory of the steps over one table.
+pub mod Steps

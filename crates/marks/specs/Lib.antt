@@ -1,0 +1,2 @@
+-- What the steps over one table do.
+pub mod Steps
