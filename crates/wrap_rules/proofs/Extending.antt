@@ -4,7 +4,7 @@ use mathlib.Core.Path.{_≡_, refl, sym, ap, subst, _∙_, fun-ext}
 use mathlib.Core.Logic.{_⊎_, ⊎-elim}
 use mathlib.Core.Bool.{Bool, true, false, _&&_, _||_, false≢true}
 use mathlib.Core.List.{List, [], _∷_, _++_, List·Memᴰ, List·Memᴰ·head}
-use Prim.Native.Nat.{ℕ, _+_, _-_, _<_}
+use Prim.Native.Nat.{ℕ, _+_, _-_, _≤_, _<_}
 use native.Mathlib.Omega.{arith}
 use native.Mathlib.Decide.{decLt}
 use lib.ListN.{length, getD, take, drop, length-drop}
@@ -24,14 +24,14 @@ use Rattle.wrap_rules.proofs.Passes.{join, pass-then}
 use Rattle.wrap_rules.proofs.Rows.{mem-at, fromFirst-places, places-fromFirst}
 use Rattle.wrap_rules.proofs.Marking.{owners-row, row-owners}
 
--- the first sensitive member is planned
-pub whole-suffix : (order sensitive S : List ℕ) (first from : ℕ) → FirstIn sensitive sensitive order first → FirstIn sensitive S order from → from ≡ first → WholeSuffix order sensitive S
+-- the first planned member stands no later than the first eligible one
+pub whole-suffix : (order sensitive eligible S : List ℕ) (first from : ℕ) → FirstIn sensitive eligible order first → FirstIn sensitive S order from → from ≤ first → WholeSuffix order sensitive eligible S
 unfolding WholeSuffix
-whole-suffix order sensitive S first from f g e k l h = go (decLt k first)
+whole-suffix order sensitive eligible S first from f g e k l h q = go (decLt k first)
   where
     go : Dec (k < first) → InSuffix order sensitive S (getD order k 0)
-    go (yes q) = absurd (f .none k q h h)
-    go (no q) =
+    go (yes p) = absurd (f .none k p h q)
+    go (no p) =
         let b = g .found (omega arith) in
         record { sensitives = h; from = from; at = k; after = omega arith; there = l; first = b .0; planned = b .1; named = refl }
 
@@ -158,15 +158,15 @@ module _ (sensitive eligible order : List ℕ) {s : List ℕ} (b : Bits s) where
       let i = suffix-in sensitive eligible order s m e in
       h m (subst (λ (x : ℕ). List·Memᴰ x order) (i .0 .named) (getD-mem order (i .0 .at) (i .0 .there))) (i .0 .sensitives) (i .1))
 
--- where the suffix is the whole sensitive order, all is planned then
-pub whole-planned : (order sensitive eligible : List ℕ) {s t : List ℕ} {changed : Bool} → Below (length s) order → WholeSuffix order sensitive s
+-- where no eligible member stands before the suffix, all is planned then
+pub whole-planned : (order sensitive eligible : List ℕ) {s t : List ℕ} {changed : Bool} → Below (length s) order → WholeSuffix order sensitive eligible s
     → Added (λ (m : ℕ). InSuffix order sensitive s m × (has eligible m ≡ true)) s t changed → AllPlanned order sensitive eligible t
 unfolding WholeSuffix AllPlanned
 whole-planned order sensitive eligible {s} inside w a m h q g =
     let r = mem-at order h in
     let e : getD order (r .0) 0 ≡ m = r .2 in
     a .all m (subst (λ (x : ℕ). x < length s) e (inside (r .0) (r .1)))
-    (subst (InSuffix order sensitive s) e (w (r .0) (r .1) (subst (λ (x : ℕ). has sensitive x ≡ true) (sym e) q)), g)
+    (subst (InSuffix order sensitive s) e (w (r .0) (r .1) (subst (λ (x : ℕ). has sensitive x ≡ true) (sym e) q) (subst (λ (x : ℕ). has eligible x ≡ true) (sym e) g)), g)
 
 -- what is planned stays so
 pub planned-more : (order sensitive eligible s t : List ℕ) → Within s t → AllPlanned order sensitive eligible s → AllPlanned order sensitive eligible t

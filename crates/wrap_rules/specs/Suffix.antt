@@ -30,9 +30,10 @@ pub record InSuffix (order sensitive S : List ℕ) (m : ℕ) : Type 0 where
   pub planned : has S (getD order from 0) ≡ true
   pub named : getD order at 0 ≡ m
 
--- the suffix is the whole sensitive order
-unfoldable pub WholeSuffix : List ℕ → List ℕ → List ℕ → Type 0
-WholeSuffix order sensitive S = (k : ℕ) → k < length order → has sensitive (getD order k 0) ≡ true → InSuffix order sensitive S (getD order k 0)
+-- no sensitive eligible member stands before the suffix
+unfoldable pub WholeSuffix : List ℕ → List ℕ → List ℕ → List ℕ → Type 0
+WholeSuffix order sensitive eligible S =
+    (k : ℕ) → k < length order → has sensitive (getD order k 0) ≡ true → has eligible (getD order k 0) ≡ true → InSuffix order sensitive S (getD order k 0)
 
 -- every sensitive eligible member of an order is planned
 unfoldable pub AllPlanned : List ℕ → List ℕ → List ℕ → List ℕ → Type 0

@@ -1,11 +1,13 @@
 // Rule (i): from the first planned module of an analysed entry's expected sensitive order on, every eligible one.
 ghost use mathlib.Core.Path.{_≡_};
 ghost use mathlib.Core.Bool.{true};
+ghost use mathlib.Core.Logic.{_⊎_};
 ghost use Prim.Native.Nat.{ℕ, _≤_, _<_};
 ghost use lib.ListN.{length, getD};
 ghost use Rattle.lists.specs.Words.{has, Distinct};
 ghost use Rattle.walk.specs.Close.{Bits};
 ghost use Rattle.tables.specs.Accepted.{Below};
+ghost use Rattle.tables.specs.Project.{missing};
 ghost use Rattle.expected_order.specs.Expected.{expected};
 ghost use Rattle.wrap_rules.specs.Passes.{Passed};
 ghost use Rattle.wrap_rules.specs.Rules.{suffixAsks};
@@ -35,15 +37,16 @@ fn first_in(order: &[u32], first: &[u32], second: &[u32]) -> usize
     order.len()
 }
 
-// Whether the first sensitive member of an order is planned.
-fn is_whole(order: &[u32], sensitive: &[u32], plan: &[u32]) -> bool
+// Whether no sensitive eligible member of an order stands before the first planned one.
+fn is_whole(order: &[u32], sensitive: &[u32], eligible: &[u32], plan: &[u32]) -> bool
     requires members { ⌜ Below (length (now sensitive)) (now order) ⌝ }
+    requires eligible { ⌜ length (now eligible) ≡ length (now sensitive) ⌝ }
     requires rows { ⌜ length (now plan) ≡ length (now sensitive) ⌝ }
-    ensures { λ r. ⌜ (r ≡ true → WholeSuffix (now (order .entry)) (now (sensitive .entry)) (now (plan .entry))) ⌝ }
+    ensures { λ r. ⌜ (r ≡ true → WholeSuffix (now (order .entry)) (now (sensitive .entry)) (now (eligible .entry)) (now (plan .entry))) ⌝ }
 {
-    let first = first_in(order, sensitive, sensitive);
+    let first = first_in(order, sensitive, eligible);
     let from = first_in(order, sensitive, plan);
-    from == first
+    from <= first
 }
 
 // Marks the sensitive members of an order from the first planned one on.
@@ -91,7 +94,23 @@ fn note_of(sensitive: &[u32], plan: &[u32]) -> u32
     note
 }
 
-// Plans the suffix of an order, and notes what is planned then, or the mark if the suffix is the whole sensitive order. Whether any module was added.
+// Whether a note says that an order asks for nothing.
+fn is_done(sensitive: &[u32], plan: &[u32], note: u32) -> bool
+    requires rows { ⌜ length (now plan) ≡ length (now sensitive) ⌝ }
+    requires few { ⌜ length (now sensitive) ≤ 4096 ⌝ }
+    ensures { λ r. ⌜ (r ≡ true → (note ≡ missing) ⊎ (note ≡ noteOf (now (sensitive .entry)) (now (plan .entry)))) ⌝ }
+{
+    if note == 0 {
+        return false;
+    }
+    if note == ModuleIdx::MISSING {
+        return true;
+    }
+    let current = note_of(sensitive, plan);
+    note == current
+}
+
+// Plans the suffix of an order, and notes what is planned then, or the mark if no eligible member stands before the suffix. Whether any module was added.
 fn extend_order(
     order: &[u32],
     sensitive: &[u32],
@@ -108,7 +127,7 @@ fn extend_order(
     requires entry { ⌜ k < length (now notes) ⌝ }
     ensures { λ r. ⌜ Extended (now (order .entry)) (now (sensitive .entry)) (now (eligible .entry)) k (now (notes .entry)) (now (notes .exit)) (now (plan .entry)) (now (plan .exit)) r ⌝ }
 {
-    let whole = is_whole(order, sensitive, plan);
+    let whole = is_whole(order, sensitive, eligible, plan);
     let changed = add_suffix(order, sensitive, eligible, plan);
     if whole {
         notes[k] = ModuleIdx::MISSING;
@@ -154,8 +173,8 @@ fn extend_entry<'a>(
     extend_order(&order[..count], sensitive, eligible, notes, plan, k)
 }
 
-// One pass of rule (i) over the entries' roots. One whose suffix was the whole sensitive order isn't walked again, the others only if a sensitive module was
-// planned since. Whether any module was added.
+// One pass of rule (i) over the entries' roots. One that has no eligible member before its suffix isn't walked again, the others only if a sensitive module
+// was planned since. Whether any module was added.
 pub fn close_expected_sensitive_suffixes<'a>(
     normal: &'a [u32],
     included: &'a [u32],
@@ -177,12 +196,8 @@ pub fn close_expected_sensitive_suffixes<'a>(
     ensures plan { λ r. ⌜ Passed (suffixAsks (has (now (eligible .entry))) (sensitiveOrders (now (normal .entry)) (now (included .entry)) (now («record_module» .entry)) (now («record_kind» .entry)) (now («record_target» .entry)) (now (sensitive .entry)) (now (roots .entry)))) (now (plan .entry)) (now (plan .exit)) r ⌝ }
 {
     let mut changed = false;
-    let mut note = note_of(sensitive, plan);
     for k in 0..roots.len() {
-        if notes[k] == ModuleIdx::MISSING {
-            continue;
-        }
-        if notes[k] == note {
+        if is_done(sensitive, plan, notes[k]) {
             continue;
         }
         if !extend_entry(
@@ -201,7 +216,6 @@ pub fn close_expected_sensitive_suffixes<'a>(
             continue;
         }
         changed = true;
-        note = note_of(sensitive, plan);
     }
     changed
 }

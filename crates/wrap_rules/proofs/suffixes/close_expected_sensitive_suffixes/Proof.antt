@@ -3,18 +3,16 @@
 use Prim.Native.Nat.{ℕ, _+_, _-_, _≤_, _<_}
 use mathlib.Core.Path.{_≡_, refl, sym, ap, subst, _∙_}
 use mathlib.Core.Bool.{Bool, true, false, _||_}
-use mathlib.Core.Logic.{_⊎_, inl, inr}
 use mathlib.Core.List.{List}
 use native.Mathlib.Omega.{arith}
 use lib.ListN.{length, getD, take}
 use lib.Seq.{take-length}
 use borrow.Author.Needs.{needs}
 use Rattle.lists.specs.Words.{has}
-use Rattle.tables.specs.Project.{missing}
 use Rattle.lists.proofs.Laws.{not-true, not-false}
 use Rattle.wrap_rules.specs.Passes.{Passed}
 use Rattle.wrap_rules.specs.Rules.{suffixAsks}
-use Rattle.wrap_rules.specs.Suffix.{noteOf, sensitiveOrders, Suffixes}
+use Rattle.wrap_rules.specs.Suffix.{sensitiveOrders, Suffixes}
 use Rattle.wrap_rules.proofs.Notes.{Walked, walked-start, walked-skip, walked-step}
 use Rattle.wrap_rules.proofs.suffixes.close_expected_sensitive_suffixes.Statement.{
   statement,
@@ -23,30 +21,25 @@ use Rattle.wrap_rules.proofs.suffixes.close_expected_sensitive_suffixes
 use Rattle.wrap_rules.proofs.suffixes.close_expected_sensitive_suffixes.Reads as reads
 use Rattle.wrap_rules.proofs.suffixes.close_expected_sensitive_suffixes.Lts as lts
 use Rattle.wrap_rules.proofs.suffixes.extend_entry.Reads as extend-entry-reads
-use Rattle.wrap_rules.proofs.suffixes.note_of.Reads as note-of-reads
+use Rattle.wrap_rules.proofs.suffixes.is_done.Reads as is-done-reads
 
 abbrev Inv-loop : tie.InvT-loop
-Inv-loop normal included record-module record-kind record-target roots sensitive eligible notes₀ plan₀ changed₀ note₀ k₀ k-end notes plan changed note k =
-    (k-end ≡ length roots) × (k ≤ k-end) × Walked normal included record-module record-kind record-target roots sensitive eligible plan₀ k notes plan changed × (note ≡ noteOf sensitive plan)
+Inv-loop normal included record-module record-kind record-target roots sensitive eligible notes₀ plan₀ changed₀ k₀ k-end notes plan changed k = (k-end ≡ length roots) × (k ≤ k-end) × Walked normal included record-module record-kind record-target roots sensitive eligible plan₀ k notes plan changed
 
 abbrev μ-loop : tie.MeasureT-loop
-μ-loop normal included record-module record-kind record-target roots sensitive eligible notes₀ plan₀ changed₀ note₀ k₀ k-end notes plan changed note k = k-end - k
+μ-loop normal included record-module record-kind record-target roots sensitive eligible notes₀ plan₀ changed₀ k₀ k-end notes plan changed k = k-end - k
 
 abbrev Loop : Type 0
 Loop = tie.At-loop Inv-loop μ-loop
 
 abbrev entry : Loop → tie.Start Inv-loop μ-loop
-entry l = l .before .before .before .before .before .before .before .before .before .before .before .before .before
+entry l = l .before .before .before .before .before .before .before .before .before .before .before
 
 -- one more root is done
 abbrev Done : Loop → List ℕ → List ℕ → Bool → Type 0
 Done l notes plan changed =
     let a = entry l .args in
     Walked (a .normal .now) (a .included .now) (a .record-module .now) (a .record-kind .now) (a .record-target .now) (a .roots .now) (a .sensitive .now) (a .eligible .now) (a .plan .now) (l .loop .k + 1) notes plan changed
-
--- nothing is to be asked of this root
-skip : (l : Loop) → let a = entry l .args in let at = getD (l .loop .notes) (l .loop .k) 0 in l .loop .k < length (a .roots .now) → (at ≡ missing) ⊎ (at ≡ noteOf (a .sensitive .now) (l .loop .plan)) → Done l (l .loop .notes) (l .loop .plan) (l .loop .changed)
-skip l = let a = entry l .args in walked-skip (a .normal .now) (a .included .now) (a .record-module .now) (a .record-kind .now) (a .record-target .now) (a .roots .now) (a .sensitive .now) (a .eligible .now) (a .plan .now) (l .loop .k) (l .loop .notes) (l .loop .plan) (l .loop .changed) (l .loop .inv .2)
 
 -- the entry's suffix was planned
 abbrev Turn : Type 0
@@ -77,22 +70,23 @@ or-some : (b : Bool) → (b || true) ≡ true
 or-some true = refl
 or-some false = refl
 
-note-of-requires : tie.Need-note-of-requires Inv-loop μ-loop
-note-of-requires c κs =
-    let f = c .before .before .before .before .before .before .before .before .before .before .before .pre .0 in
-    (sym (f .sensitives), omega (arith, f .sensitives, f .few))
-
 loop-holds : tie.Need-loop-holds Inv-loop μ-loop
 loop-holds c =
-    let e = c .before .before .before .before .before .before .before .before .before .before .before .before in
+    let e = c .before .before .before .before .before .before .before .before .before .before in
     let a = e .args in
-    (refl, omega arith, walked-start (a .normal .now) (a .included .now) (a .record-module .now) (a .record-kind .now) (a .record-target .now) (a .roots .now) (a .sensitive .now) (a .eligible .now) (a .plan .now) (a .notes .now) (e .pre .1 .1 .0) (e .pre .1 .1 .1 .0) (e .pre .1 .1 .1 .1), c .note-of .ensures)
+    (refl, omega arith, walked-start (a .normal .now) (a .included .now) (a .record-module .now) (a .record-kind .now) (a .record-target .now) (a .roots .now) (a .sensitive .now) (a .eligible .now) (a .plan .now) (a .notes .now) (e .pre .1 .1 .0) (e .pre .1 .1 .1 .0) (e .pre .1 .1 .1 .1))
 
-mul-if1 : tie.Need-mul-if1 Inv-loop μ-loop
-mul-if1 c = omega (arith, c .loop-test .taken, c .before .before .before .before .before .before .before .before .before .before .before .before .before .before .good)
+mul-is-done : tie.Need-mul-is-done Inv-loop μ-loop
+mul-is-done c = omega (arith, c .before .loop-test .taken, entry (c .before .before) .good)
 
-slice-read-if1 : tie.Need-slice-read-if1 Inv-loop μ-loop
-slice-read-if1 c = omega (arith, c .before .loop-test .taken, c .before .before .loop .inv .2 .len)
+slice-read-is-done : tie.Need-slice-read-is-done Inv-loop μ-loop
+slice-read-is-done c = omega (arith, c .before .before .loop-test .taken, c .before .before .before .loop .inv .2 .len)
+
+is-done-requires : tie.Need-is-done-requires Inv-loop μ-loop
+is-done-requires c κs =
+    let l = c .before .before .before in
+    let f = entry l .pre .0 in
+    (l .loop .inv .2 .passed .len ∙ sym (f .sensitives), omega (arith, f .sensitives, f .few))
 
 add-k : tie.Need-add-k Inv-loop μ-loop
 add-k c = search needs
@@ -102,27 +96,10 @@ loop-less c = search needs
 
 loop-again : tie.Need-loop-again Inv-loop μ-loop
 loop-again c =
-    let l = c .before .before .before in
-    let q = c .before .before .loop-test .taken in
-    (refl, omega (arith, q), skip l q (inl (c .if1 .taken)), l .loop .inv .3)
-
-mul-if2 : tie.Need-mul-if2 Inv-loop μ-loop
-mul-if2 c = omega (arith, c .before .before .loop-test .taken, c .before .before .before .before .before .before .before .before .before .before .before .before .before .before .before .before .good)
-
-slice-read-if2 : tie.Need-slice-read-if2 Inv-loop μ-loop
-slice-read-if2 c = omega (arith, c .before .before .before .loop-test .taken, c .before .before .before .before .loop .inv .2 .len)
-
-add-k-2 : tie.Need-add-k-2 Inv-loop μ-loop
-add-k-2 c = search needs
-
-loop-less-2 : tie.Need-loop-less-2 Inv-loop μ-loop
-loop-less-2 c = search needs
-
-loop-again-2 : tie.Need-loop-again-2 Inv-loop μ-loop
-loop-again-2 c =
     let l = c .before .before .before .before .before in
     let q = c .before .before .before .before .loop-test .taken in
-    (refl, omega (arith, q), skip l q (inr (c .if2 .taken ∙ l .loop .inv .3)), l .loop .inv .3)
+    let a = entry l .args in
+    (refl, omega (arith, q), walked-skip (a .normal .now) (a .included .now) (a .record-module .now) (a .record-kind .now) (a .record-target .now) (a .roots .now) (a .sensitive .now) (a .eligible .now) (a .plan .now) (l .loop .k) (l .loop .notes) (l .loop .plan) (l .loop .changed) (l .loop .inv .2) q (c .before .is-done .ensures (c .if1 .taken)))
 
 mul-extend-entry : tie.Need-mul-extend-entry Inv-loop μ-loop
 mul-extend-entry c = search needs
@@ -139,6 +116,18 @@ extend-entry-requires c κs =
     let n : length (l .loop .plan) ≡ length (a .plan .now) = l .loop .inv .2 .passed .len in
     (subst (Suffixes (a .normal .now) (a .included .now) (a .record-module .now) (a .record-kind .now) (a .record-target .now) (a .sensitive .now) (a .eligible .now)) (sym n) (e .pre .0), (omega (arith, n, e .pre .1 .0 (l .loop .k) q), omega (arith, q, l .loop .inv .2 .len)))
 
+add-k-2 : tie.Need-add-k-2 Inv-loop μ-loop
+add-k-2 c = omega (arith, c .before .before .before .before .before .before .before .before .before .before .before .before .before .loop-test .taken, entry (loop (c .before .before .before .before .before)) .good)
+
+loop-less-2 : tie.Need-loop-less-2 Inv-loop μ-loop
+loop-less-2 c = search needs
+
+loop-again-2 : tie.Need-loop-again-2 Inv-loop μ-loop
+loop-again-2 c =
+    let t = c .before .before .before .before .before in
+    let l = loop t in
+    (refl, omega (arith, c .before .before .before .before .before .before .before .before .before .before .before .before .before .loop-test .taken), subst (Done l (noted t) (planned t)) (ap (λ (b : Bool). l .loop .changed || b) (not-true (t .extend-entry .result) (c .if2 .taken)) ∙ or-none (l .loop .changed)) (step t))
+
 add-k-3 : tie.Need-add-k-3 Inv-loop μ-loop
 add-k-3 c = omega (arith, c .before .before .before .before .before .before .before .before .before .before .before .before .before .loop-test .taken, entry (loop (c .before .before .before .before .before)) .good)
 
@@ -149,35 +138,7 @@ loop-again-3 : tie.Need-loop-again-3 Inv-loop μ-loop
 loop-again-3 c =
     let t = c .before .before .before .before .before in
     let l = loop t in
-    let none = not-true (t .extend-entry .result) (c .if3 .taken) in (
-      refl,
-      omega (arith, c .before .before .before .before .before .before .before .before .before .before .before .before .before .loop-test .taken),
-      subst (Done l (noted t) (planned t)) (ap (λ (b : Bool). l .loop .changed || b) none ∙ or-none (l .loop .changed)) (step t),
-      l .loop .inv .3 ∙ ap (noteOf (entry l .args .sensitive .now)) (sym (t .extend-entry .ensures .added .same none)),
-    )
-
-note-of-requires-2 : tie.Need-note-of-requires-2 Inv-loop μ-loop
-note-of-requires-2 c κs =
-    let t = c .before .before .before .before .before .before in
-    let f = entry (loop t) .pre .0 in
-    (t .extend-entry .ensures .added .len ∙ loop t .loop .inv .2 .passed .len ∙ sym (f .sensitives), omega (arith, f .sensitives, f .few))
-
-add-k-4 : tie.Need-add-k-4 Inv-loop μ-loop
-add-k-4 c = omega (arith, c .before .before .before .before .before .before .before .before .before .before .before .before .before .before .before .loop-test .taken, entry (loop (c .before .before .before .before .before .before .before)) .good)
-
-loop-less-4 : tie.Need-loop-less-4 Inv-loop μ-loop
-loop-less-4 c = search needs
-
-loop-again-4 : tie.Need-loop-again-4 Inv-loop μ-loop
-loop-again-4 c =
-    let t = c .before .before .before .before .before .before .before in
-    let l = loop t in
-    let some = not-false (t .extend-entry .result) (c .before .before .if3 .left) in (
-      refl,
-      omega (arith, c .before .before .before .before .before .before .before .before .before .before .before .before .before .before .before .loop-test .taken),
-      subst (Done l (noted t) (planned t)) (ap (λ (b : Bool). l .loop .changed || b) some ∙ or-some (l .loop .changed)) (step t),
-      c .note-of2 .ensures,
-    )
+    (refl, omega (arith, c .before .before .before .before .before .before .before .before .before .before .before .before .before .loop-test .taken), subst (Done l (noted t) (planned t)) (ap (λ (b : Bool). l .loop .changed || b) (not-false (t .extend-entry .result) (c .if2 .left)) ∙ or-some (l .loop .changed)) (step t))
 
 same-length : tie.Need-same-length Inv-loop μ-loop
 same-length c = let l = c .before in l .loop .inv .2 .len ∙ sym (entry l .pre .1 .1 .0)
@@ -198,28 +159,22 @@ close-expected-sensitive-suffixes-spec =
     (tie.spec
     Inv-loop
     μ-loop
-    note-of-requires
     loop-holds
-    mul-if1
-    slice-read-if1
+    mul-is-done
+    slice-read-is-done
+    is-done-requires
     add-k
     loop-less
     loop-again
-    mul-if2
-    slice-read-if2
-    add-k-2
-    loop-less-2
-    loop-again-2
     mul-extend-entry
     shared-slice-read-extend-entry
     extend-entry-requires
+    add-k-2
+    loop-less-2
+    loop-again-2
     add-k-3
     loop-less-3
     loop-again-3
-    note-of-requires-2
-    add-k-4
-    loop-less-4
-    loop-again-4
     same-length
     same-length-2
     returns)

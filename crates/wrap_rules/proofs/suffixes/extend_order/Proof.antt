@@ -1,7 +1,7 @@
--- `wrap_rules::suffixes::extend_order` meets its contract: the suffix is planned, and where it is the whole sensitive order all is planned then.
+-- `wrap_rules::suffixes::extend_order` meets its contract: the suffix is planned, and where no eligible member stands before it all is planned then.
 -- Assumes nothing.
 use Prim.Native.Nat.{ℕ, _<_}
-use mathlib.Core.Path.{_≡_, refl, sym, subst}
+use mathlib.Core.Path.{_≡_, refl, sym, subst, _∙_}
 use native.Mathlib.Omega.{arith}
 use lib.ListN.{length, getD}
 use Rattle.tables.specs.Project.{missing}
@@ -21,7 +21,7 @@ is-whole-requires : tie.Need-is-whole-requires
 is-whole-requires c κs =
     let e = c .before .before .before .before .before .before in
     let p = e .pre in
-    (λ i l. subst (λ (n : ℕ). getD (e .args .order .now) i 0 < n) (sym (p .1 .1 .0)) (p .0 i l), sym (p .1 .1 .0))
+    (λ i l. subst (λ (n : ℕ). getD (e .args .order .now) i 0 < n) (sym (p .1 .1 .0)) (p .0 i l), (p .1 .1 .1 .0 ∙ sym (p .1 .1 .0), sym (p .1 .1 .0)))
 
 add-suffix-requires : tie.Need-add-suffix-requires
 add-suffix-requires c κs = search needs
