@@ -152,17 +152,17 @@ module _ (canonical chains : List ℕ) (y : ℕ) (symbols : List ℕ) where
     only = λ i e.
         ⊎-elim (λ q. inl (ap (λ (x : ℕ). not (isZero x)) (sym q) ∙ e)) (λ q. inr (ap (λ (x : ℕ). not (isZero x)) (sym q) ∙ e))
         (one-of i (omega (arith, has-in symbols i e)));
-    all = λ i k h. let m = g i (omega arith) in ⊎-elim (λ e. more e (rw m (greater-first (own i) (other i)))) (λ e. more e (rw m (greater-second (own i) (other i)))) h;
+    all = λ i k h. let m = bounds i (omega arith) in ⊎-elim (λ e. more e (m .0)) (λ e. more e (m .1)) h;
   }
     where
-      own : ℕ → ℕ
-      own i = getD chains i 0
+      bounds : (i : ℕ) → i < y → (getD chains i 0 ≤ getD symbols i 0) × (getD chains (getD canonical i 0) 0 ≤ getD symbols i 0)
+      bounds i b =
+          let own = getD chains i 0 in
+          let other = getD chains (getD canonical i 0) 0 in
+          (rw (g i b) (greater-first own other), rw (g i b) (greater-second own other))
 
-      other : ℕ → ℕ
-      other i = getD chains (getD canonical i 0) 0
-
-      one-of : (i : ℕ) → i < y → (getD symbols i 0 ≡ own i) ⊎ (getD symbols i 0 ≡ other i)
-      one-of i b = rw (g i b) (greater-one (own i) (other i))
+      one-of : (i : ℕ) → i < y → (getD symbols i 0 ≡ getD chains i 0) ⊎ (getD symbols i 0 ≡ getD chains (getD canonical i 0) 0)
+      one-of i b = rw (g i b) (greater-one (getD chains i 0) (getD chains (getD canonical i 0) 0))
 
       more : {a b : ℕ} → not (isZero a) ≡ true → a ≤ b → not (isZero b) ≡ true
       more {a} {b} e k = mark-in b (λ z. true≢false (sym e ∙ mark-out a (omega arith)))
