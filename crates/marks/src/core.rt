@@ -1,9 +1,10 @@
 // For crates above, on tested tables.
 ghost use mathlib.Core.Path.{_≡_};
+ghost use Prim.Native.Nat.{_<_};
 ghost use lib.ListN.{length, getD};
 ghost use Rattle.tables.specs.Project.{missing};
+ghost use Rattle.tables.specs.Accepted.{Below};
 ghost use Rattle.marks.specs.Steps.{looked, Raised, Owners, Added, InAll};
-use tables::ModuleIdx;
 use tables::core::greater;
 
 // The value at a place of a table, `other` where the table has no such place.
@@ -17,14 +18,12 @@ pub fn value_at(table: &[u32], at: u32, other: u32) -> u32
     table[i]
 }
 
-// Raises the mark at a place, where there is one, to no less than `mark`. With no branch on the mark, which can't be foretold.
-fn raise(marks: &mut [u32], at: u32, mark: u32)
+// Raises the mark at a place to no less than `mark`. With no branch on the mark, which can't be foretold.
+pub fn raise(marks: &mut [u32], at: u32, mark: u32)
+    requires { ⌜ at < length (now marks) ⌝ }
     ensures { λ _. ⌜ Raised at mark (now (marks .entry)) (now (marks .exit)) ⌝ }
 {
     let m = at as usize;
-    if marks.len() <= m {
-        return;
-    }
     marks[m] = greater(mark, marks[m]);
 }
 
@@ -38,42 +37,28 @@ pub fn look_up(column: &[u32], table: &[u32], out: &mut [u32], other: u32)
     }
 }
 
-// Marks the owners of the marked rows' values, where they have a place.
+// Marks the owners of the marked rows' values.
 pub fn mark_rows(value: &[u32], owner: &[u32], rows: &[u32], marks: &mut [u32])
-    requires { ⌜ length (now rows) ≡ length (now value) ⌝ }
+    requires rows { ⌜ length (now rows) ≡ length (now value) ⌝ }
+    requires values { ⌜ Below (length (now owner)) (now value) ⌝ }
+    requires owners { ⌜ Below (length (now marks)) (now owner) ⌝ }
     ensures { λ _. ⌜ Owners (looked missing (now (owner .entry)) (now (value .entry))) (now (rows .entry)) (length (now (value .entry))) (now (marks .entry)) (now (marks .exit)) ⌝ }
 {
     for row in 0..value.len() {
-        let m = value_at(owner, value[row], ModuleIdx::MISSING);
+        let m = owner[value[row] as usize];
         raise(marks, m, rows[row]);
     }
 }
 
 // Marks the owners of the rows whose value is in a set.
 pub fn mark_owners(owner: &[u32], value: &[u32], set: &[u32], marks: &mut [u32])
-    requires { ⌜ length (now value) ≡ length (now owner) ⌝ }
+    requires rows { ⌜ length (now value) ≡ length (now owner) ⌝ }
+    requires values { ⌜ Below (length (now set)) (now value) ⌝ }
+    requires owners { ⌜ Below (length (now marks)) (now owner) ⌝ }
     ensures { λ _. ⌜ Owners (now (owner .entry)) (looked 0 (now (set .entry)) (now (value .entry))) (length (now (owner .entry))) (now (marks .entry)) (now (marks .exit)) ⌝ }
 {
     for row in 0..owner.len() {
-        let mark = value_at(set, value[row], 0);
-        raise(marks, owner[row], mark);
-    }
-}
-
-// The same with each value looked up in a table first.
-pub fn mark_owners_through(
-    owner: &[u32],
-    value: &[u32],
-    through: &[u32],
-    set: &[u32],
-    marks: &mut [u32],
-)
-    requires { ⌜ length (now value) ≡ length (now owner) ⌝ }
-    ensures { λ _. ⌜ Owners (now (owner .entry)) (looked 0 (now (set .entry)) (looked missing (now (through .entry)) (now (value .entry)))) (length (now (owner .entry))) (now (marks .entry)) (now (marks .exit)) ⌝ }
-{
-    for row in 0..owner.len() {
-        let v = value_at(through, value[row], ModuleIdx::MISSING);
-        let mark = value_at(set, v, 0);
+        let mark = set[value[row] as usize];
         raise(marks, owner[row], mark);
     }
 }

@@ -92,7 +92,8 @@ module _ (p : Project) (ok : Accepted p) where
     few = ok .sizes .normal;
     chunks = ok .sizes .chunk;
     rows = sym (ok .sizes .member);
-    fewRows = omega (arith, ok .sizes .member, ok .sizes .memberChunk);
+    inside = λ i l. omega (arith, ok .values .memberChunk i l, length-labels p);
+    members = ok .values .member;
     fewLabels = omega (arith, length-labels p, ok .sizes .order);
     sensitives = length-marksOf (sensitive p) (modules p);
     eligibles = length-marksOf (eligible p) (modules p);
@@ -158,9 +159,13 @@ module _ (p : Project) (ok : Accepted p) where
   abbrev targets : List ℕ
   targets = importTargets (p .recordKind) (p .recordTarget)
 
-  pub importing-fit : Importing (p .dependencyModule) (p .dependency) (candidateMarks p) (modules p)
-  importing-fit = record {
+  pub importing-fit : {importers edgeTargets : List ℕ} → ModuleGraph edgeTargets importers (modules p) → Importing importers edgeTargets (p .dependencyModule) (p .dependency) (candidateMarks p) (modules p)
+  importing-fit g = record {
+    importing = λ i l. g .tos i (omega (arith, g .lengths));
+    imported = g .froms;
     dependencies = ok .sizes .dependency;
+    dependents = ok .values .dependencyModule;
+    depended = λ i l. ok .values .dependency i l;
     candidate = length-marksOf (λ (m : ℕ). eligible p m && reached p m) (modules p);
   }
 
@@ -253,19 +258,19 @@ module _ (p : Project) (ok : Accepted p) where
   symbols-fit = record {
     few = ok .sizes .owner;
     canonicals = ok .sizes .canonical;
-    inside = λ y l. ok .values .canonical y (omega (arith, ok .sizes .canonical));
-    links = ok .sizes .chainLink;
-    fewLinks = ok .sizes .chainSymbol;
+    inside = ok .values .canonical;
+    chains = record { links = ok .sizes .chainLink; symbols = ok .values .chainSymbol; linked = ok .values .chainLink };
   }
 
-  pub reading-fit : Reading (p .reads) (p .referenceStatement) (p .referenceSymbol) (p .dependedReference) (p .depended) (candidateMarks p) (modules p)
+  pub reading-fit : Reading (p .reads) (p .statementModule) (p .referenceStatement) (p .referenceSymbol) (p .dependedReference) (p .depended) (candidateMarks p) (length (p .owner)) (modules p)
   reading-fit = record {
     few = ok .sizes .normal;
     read = ok .sizes .reads;
-    symbols = ok .sizes .referenceSymbol;
+    modules = ok .values .statementModule;
+    statements = ok .values .referenceStatement;
+    referred = ok .sizes .referenceSymbol;
     fewReferences = ok .sizes .referenceStatement;
-    depends = ok .sizes .depended;
-    fewDepended = ok .sizes .dependedReference;
+    depending = record { depends = ok .sizes .depended; referring = ok .values .dependedReference; named = ok .values .depended };
     candidate = length-marksOf (λ (m : ℕ). eligible p m && reached p m) (modules p);
   }
 

@@ -5,15 +5,17 @@ use mathlib.Core.Bool.{Bool, true, false, _&&_}
 use mathlib.Core.List.{List, _++_}
 use Prim.Native.Nat.{ℕ, _≤_, _<_}
 use native.Mathlib.Omega.{arith}
-use lib.ListN.{length, drop}
-use lib.Dec.{leb}
-use borrow.Author.Tests.{le-leb, lt-leb, leb-true}
+use lib.ListN.{length, getD, drop}
+use lib.Dec.{ltb, leb}
+use borrow.Author.Tests.{le-leb, lt-leb, ltb-true}
 use Rattle.lists.specs.Words.{ones}
-use Rattle.lists.proofs.Laws.{and-parts}
+use Rattle.lists.proofs.Laws.{and-parts, every-mem}
 use Rattle.tables.specs.Project.{Project}
 use Rattle.tables.specs.Readings.{modules}
 use Rattle.tables.specs.Refusal.{rowLimit, below, refusal}
 use Rattle.tables.specs.declared.Answer.the-variants.{Refused, Counted}
+use Rattle.tables.specs.Accepted.{Below}
+use Rattle.tables.proofs.Accepted.{getD-mem}
 use Rattle.tables.proofs.Answering.{verdict-project, verdict-unfit, verdict-short, verdict-none, counted-refused, after-refused, counted-accepted, after-accepted}
 use Rattle.chunk_cycles.specs.Cycles.{labelsOf}
 use Rattle.wrap_plan.specs.Planned.{ordersOf, planOf, seedsFit, planVerdict, PlanFromSeeds}
@@ -45,8 +47,11 @@ module _ (p : Project) (seeds marks : List ℕ) where
     seeds-refused f = refused 5 (verdict-unfit (refusal p) (seedsFit p seeds) room accepts f) (λ z. omega arith)
 
     module _ (fits : seedsFit p seeds ≡ true) where
-      pub few-seeds : length seeds ≤ 16384
-      few-seeds = leb-true (length seeds) rowLimit (and-parts (leb (length seeds) rowLimit) (below (modules p) seeds) fits .0)
+      pub seeds-below : Below (modules p) seeds
+      unfolding below
+      seeds-below i l =
+          let all = and-parts (leb (length seeds) rowLimit) (below (modules p) seeds) fits .1 in
+          ltb-true (getD seeds i 0) (modules p) (every-mem (λ (x : ℕ). ltb x (modules p)) seeds all (getD-mem seeds i l))
 
       pub room-refused : length marks < modules p → PlanFromSeeds p seeds marks (Refused 6) marks
       room-refused l = refused 6 (verdict-short (refusal p) (seedsFit p seeds) room accepts fits (lt-leb (modules p) (length marks) l)) (λ z. omega arith)

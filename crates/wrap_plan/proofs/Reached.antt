@@ -21,7 +21,7 @@ use Rattle.tables.specs.Project.{Project, missing}
 use Rattle.tables.specs.Readings.{modules, isNormal, flagged, isImport, resolved, anyTarget, normalTarget, rowTargets, targetsOf, rowsOf, analysed, analysedRow}
 use Rattle.tables.specs.declared.Target.{Target}
 use Rattle.tables.specs.declared.Target.the-variants.{Missing, External, Normal}
-use Rattle.tables.specs.Accepted.{Accepted}
+use Rattle.tables.specs.Accepted.{Below, Accepted}
 use Rattle.tables.proofs.Accepted.{getD-mem}
 use Rattle.actual_order.proofs.Actuals.{mem-flat}
 use Rattle.chunk_cycles.proofs.Lists.{mark-in}
@@ -79,6 +79,9 @@ module _ (p : Project) (ok : Accepted p) where
         subst (λ (x : ℕ). x < modules p) (q .2) (ok .values .entry (q .0) (mem-upTo (k .0))),
         subst (λ (x : ℕ). flagged (p .included) x ≡ true) (q .2) (and-parts (flagged (p .included) (getD (p .entry) (q .0) 0)) _ (k .1) .0),
       )
+
+  pub roots-below : Below (modules p) (roots p)
+  roots-below i l = root-in (getD (roots p) i 0) (getD-mem (roots p) i l) .0
 
   module _ (t : List ℕ) (h : Reaching (p .included) (roots p) (p .recordModule) targets (modules p) t) where
     t-len : length t ≡ modules p

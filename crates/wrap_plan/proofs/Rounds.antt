@@ -12,7 +12,6 @@ use Rattle.walk.specs.Close.{close, Within, Bits}
 use Rattle.tables.specs.Project.{Project, missing}
 use Rattle.tables.specs.Readings.{modules}
 use Rattle.tables.specs.Accepted.{Below}
-use Rattle.tables.proofs.Accepted.{getD-mem}
 use Rattle.chunk_cycles.specs.Cycles.{labelsOf}
 use Rattle.chunk_cycles.specs.Threads.{Linked}
 use Rattle.sensitivity.specs.Marks.{eligible}
@@ -31,7 +30,7 @@ use Rattle.wrap_rules.proofs.Notes.{noted-more}
 use Rattle.marks.proofs.Steps.{added-cong}
 use Rattle.wrap_rules.proofs.Edging.{RowsIn, rows-back, edges-rows, rows-edges, along-rows, under-rows, spreads-rows, row-rows, graph-linked, length-targets}
 use Rattle.wrap_plan.proofs.AtProject.{suffixes-fit, suffix-pass, members-fit, component-pass, importing-fit, import-pass, reading-fit, read-pass}
-use Rattle.wrap_plan.proofs.Reached.{root-in}
+use Rattle.wrap_plan.proofs.Reached.{roots-below}
 
 -- what leads to a plan leads to a larger one
 pub under-more : (from to s t L : List ℕ) → length t ≡ length s → Within s t → Under from to s L → Under from to t L
@@ -50,7 +49,7 @@ module _ (p : Project) (labels rootList sensitives eligibles candidates importer
 
     pub roots-ready : Below n rootList
     roots-ready =
-        subst (Below n) (sym (made .root)) (λ i l. subst (λ (k : ℕ). getD (roots p) i 0 < k) (sym e) (root-in p (made .accepted) (getD (roots p) i 0) (getD-mem (roots p) i l) .0))
+        subst (Below n) (sym (made .root)) (subst (λ (k : ℕ). Below k (roots p)) (sym e) (roots-below p (made .accepted)))
 
     pub members-ready : Members (p .chunk) (p .memberChunk) (p .member) labels sensitives eligibles n
     members-ready =
@@ -59,15 +58,15 @@ module _ (p : Project) (labels rootList sensitives eligibles candidates importer
         (subst (λ (s : List ℕ). Members (p .chunk) (p .memberChunk) (p .member) (labelsOf p) (sensitiveMarks p) s n) (sym (made .eligibleSet))
         (subst (Members (p .chunk) (p .memberChunk) (p .member) (labelsOf p) (sensitiveMarks p) (eligibleMarks p)) (sym e) (members-fit p (made .accepted)))))
 
-    pub importing-ready : Importing (p .dependencyModule) (p .dependency) candidates n
+    pub importing-ready : Importing importers targets (p .dependencyModule) (p .dependency) candidates n
     importing-ready =
-        subst (λ (s : List ℕ). Importing (p .dependencyModule) (p .dependency) s n) (sym (made .candidateSet))
-        (subst (Importing (p .dependencyModule) (p .dependency) (candidateMarks p)) (sym e) (importing-fit p (made .accepted)))
+        subst (λ (s : List ℕ). Importing importers targets (p .dependencyModule) (p .dependency) s n) (sym (made .candidateSet))
+        (subst (Importing importers targets (p .dependencyModule) (p .dependency) (candidateMarks p)) (sym e) (importing-fit p (made .accepted) (made .graph)))
 
-    pub reading-ready : Reading (p .reads) (p .referenceStatement) (p .referenceSymbol) (p .dependedReference) (p .depended) candidates n
+    pub reading-ready : Reading (p .reads) (p .statementModule) (p .referenceStatement) (p .referenceSymbol) (p .dependedReference) (p .depended) candidates (length (p .owner)) n
     reading-ready =
-        subst (λ (s : List ℕ). Reading (p .reads) (p .referenceStatement) (p .referenceSymbol) (p .dependedReference) (p .depended) s n) (sym (made .candidateSet))
-        (subst (Reading (p .reads) (p .referenceStatement) (p .referenceSymbol) (p .dependedReference) (p .depended) (candidateMarks p)) (sym e) (reading-fit p (made .accepted)))
+        subst (λ (s : List ℕ). Reading (p .reads) (p .statementModule) (p .referenceStatement) (p .referenceSymbol) (p .dependedReference) (p .depended) s (length (p .owner)) n) (sym (made .candidateSet))
+        (subst (Reading (p .reads) (p .statementModule) (p .referenceStatement) (p .referenceSymbol) (p .dependedReference) (p .depended) (candidateMarks p) (length (p .owner))) (sym e) (reading-fit p (made .accepted)))
 
   -- from target to importer, the edges are the records
 

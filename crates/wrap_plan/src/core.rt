@@ -1,6 +1,6 @@
 // Closing a plan under the four rules, for crates above, on tested tables.
-ghost use Prim.Native.Nat.{_≤_};
 ghost use lib.ListN.{length};
+ghost use Rattle.tables.specs.Accepted.{Below};
 ghost use Rattle.wrap_plan.specs.Closing.{whole, Ready, Once, Finished, Rooted, ClosedFrom, withEntries, Plannable, PlanClosed, Seedable, SeedsPlanned, filled, Acceptable, PlanCounted};
 use chunk_cycles::core::label_chunks;
 use lists::core::count_marked;
@@ -378,7 +378,7 @@ fn plan_marked<'a>(
     plan: &mut [u32],
 )
     requires project { ⌜ Seedable (λ rest. whole (withEntries rest (now entry) (now «entry_chunk»)) (now normal) (now included) (now reads) (now chunk) (now «record_module») (now «record_kind») (now «record_target») (now «dependency_module») (now dependency) (now «statement_module») (now owner) (now canonical) (now «chain_symbol») (now «chain_link») (now «reference_statement») (now «reference_symbol») (now «depended_reference») (now depended) (now «member_chunk») (now member)) (now labels) (now sensitive) (now eligible) (length (now plan)) ⌝ }
-    requires few { ⌜ length (now seeds) ≤ 16384 ⌝ }
+    requires seeds { ⌜ Below (length (now plan)) (now seeds) ⌝ }
     ensures { λ _. ⌜ SeedsPlanned (λ rest. whole (withEntries rest (now (entry .entry)) (now («entry_chunk» .entry))) (now (normal .entry)) (now (included .entry)) (now (reads .entry)) (now (chunk .entry)) (now («record_module» .entry)) (now («record_kind» .entry)) (now («record_target» .entry)) (now («dependency_module» .entry)) (now (dependency .entry)) (now («statement_module» .entry)) (now (owner .entry)) (now (canonical .entry)) (now («chain_symbol» .entry)) (now («chain_link» .entry)) (now («reference_statement» .entry)) (now («reference_symbol» .entry)) (now («depended_reference» .entry)) (now (depended .entry)) (now («member_chunk» .entry)) (now (member .entry))) (now (labels .entry)) (now (sensitive .entry)) (now (eligible .entry)) (now (seeds .entry)) (length (now (plan .entry))) (now (plan .exit)) ⌝ }
 {
     fill(plan, 0);
@@ -451,7 +451,7 @@ pub fn plan_seeds<'a>(
     plan: &mut [u32],
 ) -> usize
     requires project { ⌜ Acceptable (λ rest. whole (filled rest runtime (now sensitive) (now exports) (now wrap) (now «statement_included») (now «use_statement») (now «use_record») (now order) (now «import_chunk») (now imports) (now entry) (now «entry_chunk»)) (now normal) (now included) (now reads) (now chunk) (now «record_module») (now «record_kind») (now «record_target») (now «dependency_module») (now dependency) (now «statement_module») (now owner) (now canonical) (now «chain_symbol») (now «chain_link») (now «reference_statement») (now «reference_symbol») (now «depended_reference») (now depended) (now «member_chunk») (now member)) (length (now plan)) ⌝ }
-    requires few { ⌜ length (now seeds) ≤ 16384 ⌝ }
+    requires seeds { ⌜ Below (length (now plan)) (now seeds) ⌝ }
     ensures { λ r. ⌜ PlanCounted (λ rest. whole (filled rest runtime (now (sensitive .entry)) (now (exports .entry)) (now (wrap .entry)) (now («statement_included» .entry)) (now («use_statement» .entry)) (now («use_record» .entry)) (now (order .entry)) (now («import_chunk» .entry)) (now (imports .entry)) (now (entry .entry)) (now («entry_chunk» .entry))) (now (normal .entry)) (now (included .entry)) (now (reads .entry)) (now (chunk .entry)) (now («record_module» .entry)) (now («record_kind» .entry)) (now («record_target» .entry)) (now («dependency_module» .entry)) (now (dependency .entry)) (now («statement_module» .entry)) (now (owner .entry)) (now (canonical .entry)) (now («chain_symbol» .entry)) (now («chain_link» .entry)) (now («reference_statement» .entry)) (now («reference_symbol» .entry)) (now («depended_reference» .entry)) (now (depended .entry)) (now («member_chunk» .entry)) (now (member .entry))) (now (seeds .entry)) (length (now (plan .entry))) (now (plan .exit)) r ⌝ }
 {
     let n = plan.len();

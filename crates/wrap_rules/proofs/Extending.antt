@@ -199,3 +199,7 @@ no-orders eligible s b = passed-closed (suffixAsks eligible []) s b (λ m l e. a
 -- what is left of a list is all of it
 pub take-rest : (n : ℕ) (xs : List ℕ) → take (length xs - n) (drop n xs) ≡ drop n xs
 take-rest n xs = ap (λ (k : ℕ). take k (drop n xs)) (sym (length-drop n xs)) ∙ take-length (drop n xs)
+
+-- and its values are below what the list's are
+pub below-drop : (n k : ℕ) (xs : List ℕ) → Below n xs → Below n (drop k xs)
+below-drop n k xs b i l = rw (getD-drop k xs i 0) (b (k + i) (omega (arith, length-drop k xs)))

@@ -14,10 +14,11 @@ use Rattle.lists.proofs.Laws.{has-in}
 use Rattle.walk.specs.Close.{Within}
 use Rattle.tables.specs.Lookups.{greaterOf}
 use Rattle.tables.specs.Project.{missing}
+use Rattle.tables.specs.Accepted.{Below}
 use Rattle.tables.proofs.Greater.{greater-first, greater-second, greater-one}
 use Rattle.chunk_cycles.proofs.Lists.{mark-in, mark-out, getD-in}
 use Rattle.marks.specs.Steps.{looked, Owners, InAll}
-use Rattle.wrap_rules.specs.Asked.{Marks, Together, Row, Importer, ChainTouch, SymbolTouch, ReferenceTouch, Touching, bySymbol, byDepended, Reader, TopLevelRead}
+use Rattle.wrap_rules.specs.Asked.{Marks, Together, Row, Importer, ChainTouch, SymbolTouch, ReferenceTouch, Touching, bySymbol, byDepended, Reader, TopLevelRead, Linking}
 use Rattle.marks.proofs.Steps.{length-looked, looked-at, looked-has, has-looked}
 
 -- owners of rows, from a set that holds nothing
@@ -50,17 +51,23 @@ module _ (chunk memberChunk member labels S hits₀ hits : List ℕ) (size : len
       subst (λ (i : ℕ). has hits i ≡ true) of
       (h .new (t .planned) (t .inside) (t .holds) (subst (λ (i : ℕ). i < length hits₀) (sym of) (omega (arith, t .labelled, size))))
 
-  module _ (marks₀ marks : List ℕ) (noHits : (m : ℕ) → has hits₀ m ≡ true → ⊥) (noMarks : (m : ℕ) → has marks₀ m ≡ true → ⊥) (rows : length memberChunk ≡ length member)
-      (o : Owners member (looked 0 hits (looked missing labels memberChunk)) (length member) marks₀ marks) where
+  module _ (chunks marks₀ marks : List ℕ) (noHits : (m : ℕ) → has hits₀ m ≡ true → ⊥) (noMarks : (m : ℕ) → has marks₀ m ≡ true → ⊥) (rows : length memberChunk ≡ length member)
+      (inside : Below (length labels) memberChunk) (c : chunks ≡ looked 0 hits labels) (o : Owners member (looked 0 chunks memberChunk) (length member) marks₀ marks) where
+    -- a row's chunk is marked where its label is hit
+    labelled-hit : (row : ℕ) → row < length member → has chunks (getD memberChunk row 0) ≡ has hits (getD labels (getD memberChunk row 0) missing)
+    labelled-hit row l =
+        let k : getD memberChunk row 0 < length labels = inside row (omega (arith, rows)) in
+        ap (λ (s : List ℕ). has s (getD memberChunk row 0)) c ∙ looked-has hits labels (getD memberChunk row 0) k ∙ ap (has hits) (getD-in labels (getD memberChunk row 0) 0 missing k)
+
     pub members-together : (m : ℕ) → has marks m ≡ true → Together chunk memberChunk member labels S m
     members-together m e =
-        let r = owners-row member (looked missing labels memberChunk) hits marks₀ marks noMarks (length-looked missing labels memberChunk ∙ rows) o m e in
-        let label : getD (looked missing labels memberChunk) (r .row) 0 ≡ getD labels (getD memberChunk (r .row) 0) missing = looked-at missing labels memberChunk (r .row) 0 (omega (arith, rows, r .there)) in
-        ⊎-elim (λ k. absurd (noHits (getD (looked missing labels memberChunk) (r .row) 0) k))
+        let r = owners-row member memberChunk chunks marks₀ marks noMarks rows o m e in
+        let label = getD labels (getD memberChunk (r .row) 0) missing in
+        let hit : has hits label ≡ true = sym (labelled-hit (r .row) (r .there)) ∙ r .holds in
+        ⊎-elim (λ k. absurd (noHits label k))
         (λ q.
         let x = q .0 in
         let of : getD (looked missing labels chunk) x 0 ≡ getD labels (getD chunk x 0) missing = looked-at missing labels chunk x 0 (q .1) in
-        let within : getD (looked missing labels memberChunk) (r .row) 0 < length hits = has-in hits _ (r .holds) in
         record {
           row = r .row;
           there = r .there;
@@ -68,16 +75,15 @@ module _ (chunk memberChunk member labels S hits₀ hits : List ℕ) (size : len
           planned = x;
           inside = q .1;
           holds = q .2;
-          same = sym label ∙ sym (q .3) ∙ of;
-          labelled = subst (λ (i : ℕ). i < length labels) (sym (q .3) ∙ of) (omega (arith, within, h .len, size));
+          same = sym (q .3) ∙ of;
+          labelled = subst (λ (i : ℕ). i < length labels) (sym (q .3) ∙ of) (omega (arith, has-in hits label hit, h .len, size));
         })
-        (h .only (getD (looked missing labels memberChunk) (r .row) 0) (r .holds))
+        (h .only label hit)
 
     pub together-members : (m : ℕ) → m < length marks₀ → Together chunk memberChunk member labels S m → has marks m ≡ true
     together-members m l t =
-        let label : getD (looked missing labels memberChunk) (t .row) 0 ≡ getD labels (getD memberChunk (t .row) 0) missing = looked-at missing labels memberChunk (t .row) 0 (omega (arith, rows, t .there)) in
-        row-owners member (looked missing labels memberChunk) hits marks₀ marks noMarks (length-looked missing labels memberChunk ∙ rows) o m l
-        (record { row = t .row; there = t .there; named = t .named; holds = subst (λ (i : ℕ). has hits i ≡ true) (sym (t .same) ∙ sym label) (together-hit m t) })
+        row-owners member memberChunk chunks marks₀ marks noMarks rows o m l
+        (record { row = t .row; there = t .there; named = t .named; holds = labelled-hit (t .row) (t .there) ∙ subst (λ (i : ℕ). has hits i ≡ true) (sym (t .same)) (together-hit m t) })
 
 -- (iii)
 
@@ -102,37 +108,32 @@ module _ (recordModule targets dependencyModule dependency candidates S leads im
 
 -- (iv)
 
-pub chains-marked : (owner chainSymbol chainLink S chains₀ chains : List ℕ) → length chainLink ≡ length chainSymbol
-    → chains₀ ≡ looked 0 S owner → Owners chainSymbol (looked 0 S (looked missing owner chainLink)) (length chainSymbol) chains₀ chains
+pub chains-marked : (owner chainSymbol chainLink S owners chains : List ℕ) → Linking chainSymbol chainLink (length owner)
+    → owners ≡ looked 0 S owner → Owners chainSymbol (looked 0 owners chainLink) (length chainSymbol) owners chains
     → Marks (ChainTouch owner chainSymbol chainLink S) chains
 unfolding Within
-chains-marked owner chainSymbol chainLink S chains₀ chains links start o = record { only = back; all = there }
+chains-marked owner chainSymbol chainLink S owners chains k start o = record { only = back; all = there }
   where
-    owners : List ℕ
-    owners = looked missing owner chainLink
-
-    count : length chains₀ ≡ length owner
+    count : length owners ≡ length owner
     count = ap length start ∙ length-looked 0 S owner
 
-    linked : (row : ℕ) → row < length chainSymbol → getD owners row 0 ≡ getD owner (getD chainLink row 0) missing
-    linked row l = looked-at missing owner chainLink row 0 (omega (arith, links))
+    -- a symbol is in where its owner is planned
+    owned : (y : ℕ) → y < length owner → has owners y ≡ has S (getD owner y missing)
+    owned y l = ap (λ (s : List ℕ). has s y) start ∙ looked-has S owner y l ∙ ap (has S) (getD-in owner y 0 missing l)
+
+    linked : (row : ℕ) → row < length chainSymbol → has (looked 0 owners chainLink) row ≡ has S (getD owner (getD chainLink row 0) missing)
+    linked row l = let i : row < length chainLink = omega (arith, k .links) in looked-has owners chainLink row i ∙ owned (getD chainLink row 0) (k .linked row i)
 
     back : (y : ℕ) → has chains y ≡ true → ChainTouch owner chainSymbol chainLink S y
     back y e =
-        ⊎-elim
-        (λ h. let r = has-looked S owner y (subst (λ (xs : List ℕ). has xs y ≡ true) start h) in inl (subst (λ (x : ℕ). has S x ≡ true) (getD-in owner y 0 missing (r .0)) (r .1)))
-        (λ r. inr (r .0, r .1, r .3, subst (λ (x : ℕ). has S x ≡ true) (linked (r .0) (r .1)) (has-looked S owners (r .0) (r .2) .1)))
+        ⊎-elim (λ h. inl (sym (owned y (omega (arith, count, has-in owners y h))) ∙ h))
+        (λ r. inr (r .0, r .1, r .3, sym (linked (r .0) (r .1)) ∙ r .2))
         (o .only y e)
 
     there : (y : ℕ) → y < length chains → ChainTouch owner chainSymbol chainLink S y → has chains y ≡ true
     there y l t =
-        ⊎-elim
-        (λ h. let k : y < length owner = omega (arith, o .len, count) in o .old y (subst (λ (xs : List ℕ). has xs y ≡ true) (sym start) (looked-has S owner y k ∙ subst (λ (x : ℕ). has S x ≡ true) (getD-in owner y missing 0 k) h)))
-        (λ r.
-        let row = r .0 in
-        let k : row < length owners = omega (arith, r .1, links, length-looked missing owner chainLink) in
-        subst (λ (x : ℕ). has chains x ≡ true) (r .2)
-        (o .new row (r .1) (looked-has S owners row k ∙ subst (λ (x : ℕ). has S x ≡ true) (sym (linked row (r .1))) (r .3)) (subst (λ (x : ℕ). x < length chains₀) (sym (r .2)) (omega (arith, o .len)))))
+        ⊎-elim (λ h. o .old y (owned y (omega (arith, o .len, count)) ∙ h))
+        (λ r. subst (λ (x : ℕ). has chains x ≡ true) (r .2) (o .new (r .0) (r .1) (linked (r .0) (r .1) ∙ r .3) (subst (λ (x : ℕ). x < length owners) (sym (r .2)) (omega (arith, o .len)))))
         t
 
 -- the marks of the symbols below y: each the greater of its own and its canonical's
@@ -168,15 +169,15 @@ module _ (canonical chains : List ℕ) (y : ℕ) (symbols : List ℕ) where
       more {a} {b} e k = mark-in b (λ z. true≢false (sym e ∙ mark-out a (omega arith)))
 
 pub symbols-marked : (owner canonical chainSymbol chainLink S chains symbols : List ℕ) → length chains ≡ length owner → length symbols ≡ length owner
-    → ((y : ℕ) → y < length owner → getD canonical y 0 < length owner)
+    → length canonical ≡ length owner → Below (length owner) canonical
     → Marks (ChainTouch owner chainSymbol chainLink S) chains → Marks (λ (y : ℕ). (has chains y ≡ true) ⊎ (has chains (getD canonical y 0) ≡ true)) symbols
     → Marks (SymbolTouch owner canonical chainSymbol chainLink S) symbols
-symbols-marked owner canonical chainSymbol chainLink S chains symbols count size inside c s = record {
+symbols-marked owner canonical chainSymbol chainLink S chains symbols count size canonicals inside c s = record {
   only = λ y e. ⊎-elim (λ h. inl (c .only y h)) (λ h. inr (c .only (getD canonical y 0) h)) (s .only y e);
   all = λ y l t.
       s .all y l
       (⊎-elim (λ h. inl (c .all y (omega (arith, count, size)) h))
-      (λ h. inr (c .all (getD canonical y 0) (omega (arith, count, inside y (omega (arith, size)))) h))
+      (λ h. inr (c .all (getD canonical y 0) (omega (arith, count, inside y (omega (arith, canonicals, size)))) h))
       t);
 }
 

@@ -8,6 +8,7 @@ use Prim.Native.Nat.{ℕ, _≤_, _<_}
 use lib.ListN.{length, getD}
 use Rattle.lists.specs.Words.{has}
 use Rattle.tables.specs.Project.{missing}
+use Rattle.tables.specs.Accepted.{Below}
 
 -- a set of just those places of which f holds
 pub record Marks (f : ℕ → Type 0) (set : List ℕ) : Type 0 where
@@ -30,7 +31,8 @@ pub record Members (chunk memberChunk member labels sensitive eligible : List �
   pub few : n ≤ 4096
   pub chunks : length chunk ≡ n
   pub rows : length memberChunk ≡ length member
-  pub fewRows : length member ≤ 16384
+  pub inside : Below (length labels) memberChunk
+  pub members : Below n member
   pub fewLabels : length labels ≤ 1024
   pub sensitives : length sensitive ≡ n
   pub eligibles : length eligible ≡ n
@@ -49,8 +51,12 @@ pub record Importer (importers targets dependencyModule dependency candidates S 
   pub leading : Row importers targets leads m
 
 -- (iii) the columns fit each other, over n modules
-pub record Importing (dependencyModule dependency candidates : List ℕ) (n : ℕ) : Type 0 where
+pub record Importing (importers targets dependencyModule dependency candidates : List ℕ) (n : ℕ) : Type 0 where
+  pub importing : Below n importers
+  pub imported : Below n targets
   pub dependencies : length dependency ≡ length dependencyModule
+  pub dependents : Below n dependencyModule
+  pub depended : Below n dependency
   pub candidate : length candidates ≡ n
 
 -- (iv) a symbol's owner is planned, or a link owner in its chain
@@ -92,20 +98,32 @@ pub record TopLevelRead (reads statementModule owner canonical chainSymbol chain
   pub named : getD statementModule (getD referenceStatement row 0) missing ≡ m
   pub touches : Touching owner canonical chainSymbol chainLink referenceSymbol dependedReference depended S row
 
+-- the chains' columns fit each other, over n symbols
+pub record Linking (chainSymbol chainLink : List ℕ) (n : ℕ) : Type 0 where
+  pub links : length chainLink ≡ length chainSymbol
+  pub symbols : Below n chainSymbol
+  pub linked : Below n chainLink
+
 -- the symbols' columns fit each other
 pub record Symbols (owner canonical chainSymbol chainLink : List ℕ) : Type 0 where
   pub few : length owner ≤ 16384
   pub canonicals : length canonical ≡ length owner
-  pub inside : (y : ℕ) → y < length owner → getD canonical y 0 < length owner
-  pub links : length chainLink ≡ length chainSymbol
-  pub fewLinks : length chainSymbol ≤ 16384
+  pub inside : Below (length owner) canonical
+  pub chains : Linking chainSymbol chainLink (length owner)
 
--- (iv) the columns fit each other, over n modules
-pub record Reading (reads referenceStatement referenceSymbol dependedReference depended candidates : List ℕ) (n : ℕ) : Type 0 where
+-- the depended columns fit each other, over so many references and symbols
+pub record Depending (dependedReference depended : List ℕ) (references symbols : ℕ) : Type 0 where
+  pub depends : length depended ≡ length dependedReference
+  pub referring : Below references dependedReference
+  pub named : Below symbols depended
+
+-- (iv) the columns fit each other, over so many symbols and n modules
+pub record Reading (reads statementModule referenceStatement referenceSymbol dependedReference depended candidates : List ℕ) (symbols n : ℕ) : Type 0 where
   pub few : n ≤ 4096
   pub read : length reads ≡ n
-  pub symbols : length referenceSymbol ≡ length referenceStatement
+  pub modules : Below n statementModule
+  pub statements : Below (length statementModule) referenceStatement
+  pub referred : length referenceSymbol ≡ length referenceStatement
   pub fewReferences : length referenceStatement ≤ 16384
-  pub depends : length depended ≡ length dependedReference
-  pub fewDepended : length dependedReference ≤ 16384
+  pub depending : Depending dependedReference depended (length referenceStatement) symbols
   pub candidate : length candidates ≡ n

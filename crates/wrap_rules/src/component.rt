@@ -3,12 +3,30 @@ ghost use mathlib.Core.Path.{_≡_};
 ghost use mathlib.Core.Bool.{true};
 ghost use lib.ListN.{length};
 ghost use Rattle.lists.specs.Words.{has};
-ghost use Rattle.marks.specs.Steps.{Added};
+ghost use Rattle.tables.specs.Project.{missing};
+ghost use Rattle.marks.specs.Steps.{looked, Owners, Added};
 ghost use Rattle.wrap_rules.specs.Asked.{Together, Members};
 use lists::core::count_marked;
 use marks::core::add;
-use marks::core::mark_owners_through;
-use marks::core::mark_rows;
+use marks::core::look_up;
+use marks::core::mark_owners;
+use marks::core::raise;
+use marks::core::value_at;
+use tables::ModuleIdx;
+
+// Marks the labels of the planned modules' chunks, where they have a place.
+fn mark_labels(chunk: &[u32], labels: &[u32], plan: &[u32], hits: &mut [u32])
+    requires { ⌜ length (now plan) ≡ length (now chunk) ⌝ }
+    ensures { λ _. ⌜ Owners (looked missing (now (labels .entry)) (now (chunk .entry))) (now (plan .entry)) (length (now (chunk .entry))) (now (hits .entry)) (now (hits .exit)) ⌝ }
+{
+    for m in 0..chunk.len() {
+        let label = value_at(labels, chunk[m], ModuleIdx::MISSING);
+        if hits.len() <= label as usize {
+            continue;
+        }
+        raise(hits, label, plan[m]);
+    }
+}
 
 // One pass of rule (ii). Whether any module was added.
 pub fn close_cyclic_chunk_members(
@@ -26,13 +44,14 @@ pub fn close_cyclic_chunk_members(
     let n = plan.len();
     let c = labels.len();
     let mut hits = [0u32; 1024];
-    // the labels of the planned modules' chunks
-    mark_rows(chunk, labels, plan, &mut hits[..c]);
+    mark_labels(chunk, labels, plan, &mut hits[..c]);
     if count_marked(&hits[..c]) == 0 {
         return false;
     }
+    // the chunks that have these labels, and then their members
+    let mut chunks = [0u32; 1024];
+    look_up(labels, &hits[..c], &mut chunks[..c], 0);
     let mut marks = [0u32; 4096];
-    // the members of the chunks that have these labels
-    mark_owners_through(member, member_chunk, labels, &hits[..c], &mut marks[..n]);
+    mark_owners(member, member_chunk, &chunks[..c], &mut marks[..n]);
     add(&marks[..n], sensitive, eligible, plan)
 }

@@ -21,7 +21,7 @@ pub fn close_static_importers(
     leads: &mut [u32],
     plan: &mut [u32],
 ) -> bool
-    requires columns { ⌜ Importing (now «dependency_module») (now dependency) (now candidates) (length (now plan)) ⌝ }
+    requires columns { ⌜ Importing (now importers) (now targets) (now «dependency_module») (now dependency) (now candidates) (length (now plan)) ⌝ }
     requires leads { ⌜ Spreadable (now targets) (now importers) (now heads) (now nexts) (now plan) (now leads) ⌝ }
     ensures leads { λ _. ⌜ Spreads (now (targets .entry)) (now (importers .entry)) (now (plan .entry)) (now (leads .exit)) ⌝ }
     ensures plan { λ r. ⌜ Added (Importer (now (importers .entry)) (now (targets .entry)) (now («dependency_module» .entry)) (now (dependency .entry)) (now (candidates .entry)) (now (plan .entry)) (now (leads .exit))) (now (plan .entry)) (now (plan .exit)) r ⌝ }

@@ -5,40 +5,44 @@ ghost use mathlib.Core.Logic.{_⊎_};
 ghost use Prim.Native.Nat.{ℕ, _<_};
 ghost use lib.ListN.{length, getD};
 ghost use Rattle.lists.specs.Words.{has};
+ghost use Rattle.tables.specs.Accepted.{Below};
 ghost use Rattle.marks.specs.Steps.{Added};
-ghost use Rattle.wrap_rules.specs.Asked.{Marks, ChainTouch, SymbolTouch, ReferenceTouch, Touching, Reader, Symbols, Reading, TopLevelRead};
+ghost use Rattle.wrap_rules.specs.Asked.{Marks, ChainTouch, SymbolTouch, ReferenceTouch, Touching, Reader, Linking, Symbols, Depending, Reading, TopLevelRead};
+use lists::core::copy_to;
 use marks::core::add;
 use marks::core::look_up;
 use marks::core::mark_owners;
-use marks::core::mark_owners_through;
 use marks::core::mark_rows;
-use marks::core::value_at;
 use tables::core::greater;
 
-// Marks the symbols whose owner is planned, or a link owner in whose chain.
+// Marks the symbols whose owner is planned, or a link owner in whose chain. `owners` is working space: the symbols whose owner is planned.
 fn mark_chains(
     owner: &[u32],
     chain_symbol: &[u32],
     chain_link: &[u32],
     plan: &[u32],
+    owners: &mut [u32],
     chains: &mut [u32],
 )
+    requires room { ⌜ length (now owners) ≡ length (now owner) ⌝ }
     requires rows { ⌜ length (now chains) ≡ length (now owner) ⌝ }
-    requires links { ⌜ length (now «chain_link») ≡ length (now «chain_symbol») ⌝ }
+    requires links { ⌜ Linking (now «chain_symbol») (now «chain_link») (length (now owner)) ⌝ }
     ensures { λ _. ⌜ Marks (ChainTouch (now (owner .entry)) (now («chain_symbol» .entry)) (now («chain_link» .entry)) (now (plan .entry))) (now (chains .exit)) ⌝ }
 {
-    look_up(owner, plan, chains, 0);
-    mark_owners_through(chain_symbol, chain_link, owner, plan, chains);
+    look_up(owner, plan, owners, 0);
+    copy_to(owners, chains);
+    mark_owners(chain_symbol, chain_link, owners, chains);
 }
 
 // Marks the symbols that are in a set or have their canonical there.
 fn mark_canonicals(canonical: &[u32], chains: &[u32], symbols: &mut [u32])
     requires rows { ⌜ length (now chains) ≡ length (now symbols) ⌝ }
     requires canonicals { ⌜ length (now canonical) ≡ length (now symbols) ⌝ }
+    requires inside { ⌜ Below (length (now chains)) (now canonical) ⌝ }
     ensures { λ _. ⌜ Marks (λ y. (has (now (chains .entry)) y ≡ true) ⊎ (has (now (chains .entry)) (getD (now (canonical .entry)) y 0) ≡ true)) (now (symbols .exit)) ⌝ }
 {
     for y in 0..symbols.len() {
-        symbols[y] = greater(chains[y], value_at(chains, canonical[y], 0));
+        symbols[y] = greater(chains[y], chains[canonical[y] as usize]);
     }
 }
 
@@ -57,7 +61,14 @@ fn mark_symbols(
 {
     let n = owner.len();
     let mut chains = [0u32; 16384];
-    mark_chains(owner, chain_symbol, chain_link, plan, &mut chains[..n]);
+    mark_chains(
+        owner,
+        chain_symbol,
+        chain_link,
+        plan,
+        symbols,
+        &mut chains[..n],
+    );
     mark_canonicals(canonical, &chains[..n], symbols);
 }
 
@@ -70,7 +81,7 @@ fn mark_references(
     references: &mut [u32],
 )
     requires rows { ⌜ length (now references) ≡ length (now «reference_symbol») ⌝ }
-    requires depends { ⌜ length (now depended) ≡ length (now «depended_reference») ⌝ }
+    requires depends { ⌜ Depending (now «depended_reference») (now depended) (length (now references)) (length (now symbols)) ⌝ }
     ensures { λ _. ⌜ Marks (ReferenceTouch (now («reference_symbol» .entry)) (now («depended_reference» .entry)) (now (depended .entry)) (now (symbols .entry))) (now (references .exit)) ⌝ }
 {
     look_up(reference_symbol, symbols, references, 0);
@@ -85,6 +96,8 @@ fn mark_readers(
     readers: &mut [u32],
 )
     requires rows { ⌜ length (now references) ≡ length (now «reference_statement») ⌝ }
+    requires statements { ⌜ Below (length (now «statement_module»)) (now «reference_statement») ⌝ }
+    requires modules { ⌜ Below (length (now readers)) (now «statement_module») ⌝ }
     requires none { ⌜ ((m : ℕ) → has (now readers) m ≡ true → ⊥) ⌝ }
     ensures { λ _. ⌜ Marks (Reader (now («statement_module» .entry)) (now («reference_statement» .entry)) (now (references .entry))) (now (readers .exit)) ⌝ }
 {
@@ -105,7 +118,7 @@ fn mark_touching(
 )
     requires columns { ⌜ Symbols (now owner) (now canonical) (now «chain_symbol») (now «chain_link») ⌝ }
     requires rows { ⌜ length (now references) ≡ length (now «reference_symbol») ⌝ }
-    requires depends { ⌜ length (now depended) ≡ length (now «depended_reference») ⌝ }
+    requires depends { ⌜ Depending (now «depended_reference») (now depended) (length (now references)) (length (now owner)) ⌝ }
     ensures { λ _. ⌜ Marks (Touching (now (owner .entry)) (now (canonical .entry)) (now («chain_symbol» .entry)) (now («chain_link» .entry)) (now («reference_symbol» .entry)) (now («depended_reference» .entry)) (now (depended .entry)) (now (plan .entry))) (now (references .exit)) ⌝ }
 {
     let n = owner.len();
@@ -163,7 +176,7 @@ pub fn close_top_level_readers(
     plan: &mut [u32],
 ) -> bool
     requires symbols { ⌜ Symbols (now owner) (now canonical) (now «chain_symbol») (now «chain_link») ⌝ }
-    requires columns { ⌜ Reading (now reads) (now «reference_statement») (now «reference_symbol») (now «depended_reference») (now depended) (now candidates) (length (now plan)) ⌝ }
+    requires columns { ⌜ Reading (now reads) (now «statement_module») (now «reference_statement») (now «reference_symbol») (now «depended_reference») (now depended) (now candidates) (length (now owner)) (length (now plan)) ⌝ }
     ensures { λ r. ⌜ Added (TopLevelRead (now (reads .entry)) (now («statement_module» .entry)) (now (owner .entry)) (now (canonical .entry)) (now («chain_symbol» .entry)) (now («chain_link» .entry)) (now («reference_statement» .entry)) (now («reference_symbol» .entry)) (now («depended_reference» .entry)) (now (depended .entry)) (now (candidates .entry)) (now (plan .entry))) (now (plan .entry)) (now (plan .exit)) r ⌝ }
 {
     if !any_open(reads, candidates, plan) {

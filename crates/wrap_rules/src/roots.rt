@@ -44,6 +44,8 @@ fn source_reachable_modules(
     reached: &mut [u32],
 )
     requires edges { ⌜ ModuleGraph (now importers) (now targets) (length (now reached)) ⌝ }
+    requires includeds { ⌜ length (now included) ≡ length (now reached) ⌝ }
+    requires roots { ⌜ Below (length (now reached)) (now roots) ⌝ }
     requires none { ⌜ ((m : ℕ) → has (now reached) m ≡ true → ⊥) ⌝ }
     ensures { λ _. ⌜ Reaching (now (included .entry)) (now (roots .entry)) (now (importers .entry)) (now (targets .entry)) (length (now (reached .entry))) (now (reached .exit)) ⌝ }
 {
@@ -74,6 +76,8 @@ pub fn mark_candidates(
     candidates: &mut [u32],
 )
     requires edges { ⌜ ModuleGraph (now importers) (now targets) (length (now candidates)) ⌝ }
+    requires includeds { ⌜ length (now included) ≡ length (now candidates) ⌝ }
+    requires roots { ⌜ Below (length (now candidates)) (now roots) ⌝ }
     requires modules { ⌜ length (now eligible) ≡ length (now candidates) ⌝ }
     requires none { ⌜ ((m : ℕ) → has (now candidates) m ≡ true → ⊥) ⌝ }
     ensures { λ _. ⌜ Chosen (now (included .entry)) (now (roots .entry)) (now (importers .entry)) (now (targets .entry)) (now (eligible .entry)) (now (candidates .entry)) (now (candidates .exit)) ⌝ }

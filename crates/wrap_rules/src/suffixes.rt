@@ -53,6 +53,7 @@ fn is_whole(order: &[u32], sensitive: &[u32], eligible: &[u32], plan: &[u32]) ->
 fn mark_suffix(order: &[u32], sensitive: &[u32], plan: &[u32], marks: &mut [u32])
     requires members { ⌜ Below (length (now sensitive)) (now order) ⌝ }
     requires rows { ⌜ length (now plan) ≡ length (now sensitive) ⌝ }
+    requires size { ⌜ length (now marks) ≡ length (now sensitive) ⌝ }
     requires none { ⌜ ((m : ℕ) → has (now marks) m ≡ true → ⊥) ⌝ }
     ensures { λ _. ⌜ Marks (InSuffix (now (order .entry)) (now (sensitive .entry)) (now (plan .entry))) (now (marks .exit)) ⌝ }
 {

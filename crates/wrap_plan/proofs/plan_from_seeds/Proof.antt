@@ -11,11 +11,11 @@ use Rattle.lists.proofs.Laws.{not-true, not-false}
 use Rattle.tables.specs.Project.{Project, project}
 use Rattle.tables.specs.Readings.{modules}
 use Rattle.tables.specs.Refusal.{refusal}
-use Rattle.tables.specs.Accepted.{Accepted}
+use Rattle.tables.specs.Accepted.{Below, Accepted}
 use Rattle.tables.proofs.Accepted.{accepted}
 use Rattle.wrap_plan.specs.Planned.{seedsFit}
 use Rattle.wrap_plan.specs.Closing.{Rest, Acceptable, PlanCounted}
-use Rattle.wrap_plan.proofs.Promise.{project-refused, seeds-refused, few-seeds, room-refused, plan-counted}
+use Rattle.wrap_plan.proofs.Promise.{project-refused, seeds-refused, seeds-below, room-refused, plan-counted}
 use borrow.Author.Needs.{needs}
 use Rattle.wrap_plan.proofs.plan_from_seeds.Statement.{statement}
 use Rattle.wrap_plan.proofs.plan_from_seeds.Tie as tie
@@ -71,7 +71,7 @@ plan-seeds-requires : tie.Need-plan-seeds-requires
 unfolding Acceptable
 plan-seeds-requires c κs =
     let e = c .before .before .before .before .before .before .before .before .before .before .before .before .before .before .before .before .before .before .before .before .before .before .before .before .before .before .before .before .before .before .before .before .before .before .before .before .before .before .before .before .before in
-    ((rest e, accepted (of e) (accepts (c .before .before .before .before)), part (c .before)), few-seeds (of e) (e .args .seeds .now) (e .args .marks .now) (accepts (c .before .before .before .before)) (fits (c .before .before)))
+    ((rest e, accepted (of e) (accepts (c .before .before .before .before)), part (c .before)), subst (λ (n : ℕ). Below n (e .args .seeds .now)) (sym (part (c .before))) (seeds-below (of e) (e .args .seeds .now) (e .args .marks .now) (accepts (c .before .before .before .before)) (fits (c .before .before))))
 
 same-length : tie.Need-same-length
 same-length c = search needs

@@ -1,9 +1,9 @@
 -- `marks::core::mark_owners` meets its contract: the owners of the rows below `row` are marked.
 -- Assumes nothing.
 use Prim.Native.Nat.{ℕ, _-_, _≤_, _<_}
-use mathlib.Core.Path.{_≡_, refl, sym, subst, _∙_}
+use mathlib.Core.Path.{_≡_, refl, subst}
 use native.Mathlib.Omega.{arith}
-use lib.ListN.{length}
+use lib.ListN.{length, getD}
 use borrow.Author.Needs.{needs}
 use Rattle.marks.specs.Steps.{looked, Owners}
 use Rattle.marks.proofs.Steps.{looked-at, owners-start, owners-put}
@@ -12,7 +12,6 @@ use Rattle.marks.proofs.core.mark_owners.Tie as tie
 use Rattle.marks.proofs.core.mark_owners.Reads as reads
 use Rattle.marks.proofs.core.mark_owners.Lts as lts
 use Rattle.marks.proofs.core.raise.Reads as raise-reads
-use Rattle.marks.proofs.core.value_at.Reads as value-at-reads
 
 abbrev Inv-loop : tie.InvT-loop
 Inv-loop owner value set marks₀ row₀ row-end marks row = (row-end ≡ length owner) × (row ≤ row-end) × Owners owner (looked 0 set value) row marks₀ marks
@@ -23,17 +22,34 @@ abbrev μ-loop : tie.MeasureT-loop
 abbrev Loop : Type 0
 Loop = tie.At-loop Inv-loop μ-loop
 
+abbrev entry : Loop → tie.Start Inv-loop μ-loop
+entry l = l .before .before .before .before .before
+
+-- a row's value and its owner have a place
+module _ (l : Loop) (inside : l .loop .row < length (entry l .args .owner .now)) where
+  valued : getD (entry l .args .value .now) (l .loop .row) 0 < length (entry l .args .set .now)
+  valued = entry l .pre .1 .0 (l .loop .row) (omega (arith, entry l .pre .0, inside))
+
+  owned : getD (entry l .args .owner .now) (l .loop .row) 0 < length (l .loop .marks)
+  owned = omega (arith, entry l .pre .1 .1 (l .loop .row) inside, l .loop .inv .2 .len)
+
 loop-holds : tie.Need-loop-holds Inv-loop μ-loop
 loop-holds c = (refl, omega arith, owners-start _ _ _)
 
-mul-value-at : tie.Need-mul-value-at Inv-loop μ-loop
-mul-value-at c = search needs
+mul-mark : tie.Need-mul-mark Inv-loop μ-loop
+mul-mark c = search needs
 
-shared-slice-read-value-at : tie.Need-shared-slice-read-value-at Inv-loop μ-loop
-shared-slice-read-value-at c = search needs
+shared-slice-read-mark : tie.Need-shared-slice-read-mark Inv-loop μ-loop
+shared-slice-read-mark c = search needs
 
-value-at-requires : tie.Need-value-at-requires Inv-loop μ-loop
-value-at-requires c κs = search needs
+cast-mark : tie.Need-cast-mark Inv-loop μ-loop
+cast-mark c = omega (arith, c .shared-slice-known4 .given (c .before .before .loop .row))
+
+mul-mark-2 : tie.Need-mul-mark-2 Inv-loop μ-loop
+mul-mark-2 c = let l = c .before .before in omega (arith, valued l (c .before .loop-test .taken), entry l .good)
+
+shared-slice-read-mark-2 : tie.Need-shared-slice-read-mark-2 Inv-loop μ-loop
+shared-slice-read-mark-2 c = valued (c .before .before .before) (c .before .before .loop-test .taken)
 
 mul-raise : tie.Need-mul-raise Inv-loop μ-loop
 mul-raise c = search needs
@@ -42,7 +58,7 @@ shared-slice-read-raise : tie.Need-shared-slice-read-raise Inv-loop μ-loop
 shared-slice-read-raise c = search needs
 
 raise-requires : tie.Need-raise-requires Inv-loop μ-loop
-raise-requires c κs = search needs
+raise-requires c κs = owned (c .before .before .before .before .before) (c .before .before .before .before .loop-test .taken)
 
 add-row : tie.Need-add-row Inv-loop μ-loop
 add-row c = search needs
@@ -53,11 +69,10 @@ loop-less c = search needs
 loop-again : tie.Need-loop-again Inv-loop μ-loop
 loop-again c =
     let l = c .before .before .before .before .before .before .before .before in
-    let a = l .before .before .before .before .before .args in
+    let a = entry l .args in
     let row = l .loop .row in
-    let v = c .before .before .before .before .before .value-at in
-    let b : row < length (a .value .now) = omega (arith, l .before .before .before .before .before .pre, c .before .before .before .before .before .before .before .loop-test .taken) in
-    (refl, omega arith, owners-put (a .owner .now) (looked 0 (a .set .now) (a .value .now)) (a .marks .now) row (l .loop .marks) (c .before .before .raise .last .0) (l .loop .inv .2) refl (looked-at 0 (a .set .now) (a .value .now) row 0 b ∙ sym (v .ensures)) (c .before .before .raise .ensures))
+    let b : row < length (a .value .now) = omega (arith, entry l .pre .0, c .before .before .before .before .before .before .before .loop-test .taken) in
+    (refl, omega arith, owners-put (a .owner .now) (looked 0 (a .set .now) (a .value .now)) (a .marks .now) row (l .loop .marks) (c .before .before .raise .last .0) (l .loop .inv .2) refl (looked-at 0 (a .set .now) (a .value .now) row 0 b) (c .before .before .raise .ensures))
 
 same-length : tie.Need-same-length Inv-loop μ-loop
 same-length c = c .before .loop .inv .2 .len
@@ -65,7 +80,7 @@ same-length c = c .before .loop .inv .2 .len
 returns : tie.Need-returns Inv-loop μ-loop
 returns c =
     let l = c .before in
-    let a = l .before .before .before .before .before .args in
+    let a = entry l .args in
     let e : l .loop .row ≡ length (a .owner .now) = omega (arith, c .loop-test .left, l .loop .inv .0, l .loop .inv .1) in
     subst (λ (n : ℕ). Owners (a .owner .now) (looked 0 (a .set .now) (a .value .now)) n (a .marks .now) (l .loop .marks)) e (l .loop .inv .2)
 
@@ -76,9 +91,11 @@ mark-owners-spec =
     Inv-loop
     μ-loop
     loop-holds
-    mul-value-at
-    shared-slice-read-value-at
-    value-at-requires
+    mul-mark
+    shared-slice-read-mark
+    cast-mark
+    mul-mark-2
+    shared-slice-read-mark-2
     mul-raise
     shared-slice-read-raise
     raise-requires

@@ -1,7 +1,5 @@
 -- `marks::core::raise` meets its contract.
 -- Assumes nothing.
-use mathlib.Core.Path.{refl}
-use native.Mathlib.Omega.{arith}
 use Rattle.marks.proofs.Steps.{raised-put}
 use borrow.Author.Needs.{needs}
 use Rattle.marks.proofs.core.raise.Statement.{statement}
@@ -9,9 +7,6 @@ use Rattle.marks.proofs.core.raise.Tie as tie
 use Rattle.marks.proofs.core.raise.Reads as reads
 use Rattle.marks.proofs.core.raise.Lts as lts
 use Rattle.tables.proofs.core.greater.Reads as greater-reads
-
-returns : tie.Need-returns
-returns c = record { len = refl; there = λ l. absurd (omega arith); other = λ i n. refl }
 
 mul-greater : tie.Need-mul-greater
 mul-greater c = search needs
@@ -31,18 +26,17 @@ slice-write-marks c = search needs
 same-length : tie.Need-same-length
 same-length c = search needs
 
-returns-2 : tie.Need-returns-2
-returns-2 c = let a = c .before .before .before .before .args in raised-put (a .at) (a .mark) (c .greater .result) (a .marks .now) (c .greater .ensures)
+returns : tie.Need-returns
+returns c = let a = c .before .before .before .args in raised-put (a .at) (a .mark) (c .greater .result) (a .marks .now) (c .greater .ensures)
 
 pub raise-spec : {M : Type 1} → statement M
 raise-spec =
     tie.close
     (tie.spec
-    returns
     mul-greater
     slice-read-greater
     greater-requires
     mul-marks
     slice-write-marks
     same-length
-    returns-2)
+    returns)

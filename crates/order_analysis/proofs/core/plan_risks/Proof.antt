@@ -1,12 +1,12 @@
 -- `order_analysis::core::plan_risks` meets its contract: the risks and the eligible seed rows are marked, and the plan is closed from them.
 -- Assumes nothing.
 use Prim.Native.Nat.{ℕ}
-use mathlib.Core.Path.{_≡_, sym, subst}
+use mathlib.Core.Path.{_≡_, sym, subst, _∙_}
 use mathlib.Core.List.{List}
-use native.Mathlib.Omega.{arith}
 use lib.ListN.{length}
 use borrow.Author.Needs.{needs}
 use Rattle.tables.specs.Project.{Project}
+use Rattle.tables.specs.Accepted.{Below}
 use Rattle.wrap_plan.specs.Closing.{Rest, whole, withEntries, Basis, Plannable, PlanClosed}
 use Rattle.order_analysis.specs.Whole.{wholePlan}
 use Rattle.order_analysis.specs.Analysis.{withRisks, Prepared, Analysable, Analyzed}
@@ -96,7 +96,13 @@ add-risks-requires c κs =
     )
 
 mark-seeds-requires : tie.Need-mark-seeds-requires
-mark-seeds-requires c κs = let z = ready (c .before .before .before .before .before .before .before .before .before .before .before .before .before .before .before .before .before .before .before .before .before .before .before .before .before .before .before .before .before .before .before .before .before .before .before .before .before .before .before .before) .1 .accepted .sizes in omega arith
+mark-seeds-requires c κs =
+    let e = c .before .before .before .before .before .before .before .before .before .before .before .before .before .before .before .before .before .before .before .before .before .before .before .before .before .before .before .before .before .before .before .before .before .before .before .before .before .before .before .before in
+    let a = e .args in
+    let g = ready e in
+    let n = c .before .before .before .add-risks .kept .1 .1 .1 .1 .1 .1 .1 .1 .1 .1 .1 .1 .1 .1 .1 .1 .0 ∙ c .before .before .before .before .before .before .before .fill .kept .0 in
+    let k = rows-ready (of e (g .0)) (g .1 .accepted) (a .labels .now) (a .loads .now) (a .sensitive .now) (a .eligible .now) (length (a .plan .now)) (g .1) in
+    (k .eligibleRows ∙ sym n, subst (λ (i : ℕ). Below i (a .seed .now)) (sym (g .1 .size) ∙ sym n) (g .1 .accepted .values .seed))
 
 build-order-wrap-plan-requires : tie.Need-build-order-wrap-plan-requires
 unfolding Plannable

@@ -11,6 +11,7 @@ use borrow.Author.Needs.{needs}
 use Rattle.lists.proofs.Laws.{length-marksOf}
 use Rattle.tables.specs.Project.{Project}
 use Rattle.tables.specs.Readings.{modules}
+use Rattle.tables.specs.Accepted.{Below}
 use Rattle.tables.specs.Threads.{Threads}
 use Rattle.sensitivity.specs.Marks.{eligible}
 use Rattle.wrap_rules.specs.Plan.{roots}
@@ -20,6 +21,7 @@ use Rattle.wrap_plan.specs.Closing.{Rest, whole, Made, Kept, Ready, Fini
 use Rattle.wrap_rules.proofs.Parts.{Lent, view, part-none, part-length, view-room, view-is, view-length}
 use Rattle.wrap_rules.proofs.Edging.{edges-part, graph-back, graph-threadable}
 use Rattle.wrap_plan.proofs.AtProject.{edges-graph}
+use Rattle.wrap_plan.proofs.Reached.{roots-below}
 use Rattle.wrap_plan.proofs.Starting.{few-roots, made-from, kept-from}
 use Rattle.wrap_plan.proofs.core.close_from_roots.Statement.{statement}
 use Rattle.wrap_plan.proofs.core.close_from_roots.Tie as tie
@@ -190,7 +192,13 @@ mark-candidates-requires c κs =
     let g = rooted e in
     let n = part-length 4096 (size e) (few e) in (
       subst (ModuleGraph (importers k) (targets k)) (sym (g .1 .size) ∙ sym n) (graph k (g .0) (g .1)),
-      (ap length (g .1 .eligibleSet) ∙ length-marksOf (eligible (of e (g .0))) (modules (of e (g .0))) ∙ sym (g .1 .size) ∙ sym n, part-none 4096 (size e)),
+      (
+        g .1 .accepted .sizes .included ∙ sym (g .1 .size) ∙ sym n,
+        (
+          subst (λ (i : ℕ). Below i (e .args .roots .now)) (sym (g .1 .size) ∙ sym n) (subst (Below (modules (of e (g .0)))) (sym (g .2)) (roots-below (of e (g .0)) (g .1 .accepted))),
+          (ap length (g .1 .eligibleSet) ∙ length-marksOf (eligible (of e (g .0))) (modules (of e (g .0))) ∙ sym (g .1 .size) ∙ sym n, part-none 4096 (size e)),
+        ),
+      ),
     )
 
 array-share-prefix-targets-2 : tie.Need-array-share-prefix-targets-2

@@ -5,7 +5,11 @@ use mathlib.Core.Path.{_≡_, refl, sym, ap, subst, _∙_}
 use mathlib.Core.List.{List}
 use lib.ListN.{length}
 use borrow.Author.Needs.{needs}
+use Rattle.lists.proofs.Laws.{length-marksOf}
 use Rattle.tables.specs.Project.{Project}
+use Rattle.tables.specs.Readings.{modules}
+use Rattle.tables.specs.Accepted.{Below}
+use Rattle.at_risk.specs.Marks.{eligible}
 use Rattle.wrap_plan.specs.Planned.{planOf}
 use Rattle.wrap_plan.specs.Closing.{Rest, whole, withEntries, Basis, Plannable, PlanClosed, Marked, Seedable, SeedsPlanned}
 use Rattle.wrap_plan.proofs.Seeding.{seeds-basis, seeds-planned}
@@ -54,7 +58,11 @@ fill-requires : tie.Need-fill-requires
 fill-requires c κs = search needs
 
 mark-seeds-requires : tie.Need-mark-seeds-requires
-mark-seeds-requires c κs = c .before .before .before .before .before .before .before .before .before .before .before .before .before .before .before .before .before .before .before .before .before .before .before .before .before .before .before .before .before .before .before .before .pre .1
+mark-seeds-requires c κs =
+    let e = c .before .before .before .before .before .before .before .before .before .before .before .before .before .before .before .before .before .before .before .before .before .before .before .before .before .before .before .before .before .before .before .before in
+    let g = ready e in
+    let n = c .before .before .before .fill .kept .0 in
+    (ap length (g .1 .eligibleSet) ∙ length-marksOf (eligible (of e (g .0))) (modules (of e (g .0))) ∙ sym (g .1 .size) ∙ sym n, subst (λ (i : ℕ). Below i (e .args .seeds .now)) (sym n) (e .pre .1))
 
 build-order-wrap-plan-requires : tie.Need-build-order-wrap-plan-requires
 unfolding Plannable

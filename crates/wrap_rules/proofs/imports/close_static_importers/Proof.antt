@@ -8,6 +8,7 @@ use mathlib.Core.List.{List}
 use native.Mathlib.Omega.{arith}
 use lib.ListN.{length, take, replicate}
 use borrow.Author.Needs.{needs}
+use Rattle.tables.specs.Accepted.{Below}
 use Rattle.marks.specs.Steps.{looked, Owners, Added, InAll}
 use Rattle.wrap_rules.specs.Asked.{Importer}
 use Rattle.marks.proofs.Steps.{added-cong}
@@ -54,7 +55,10 @@ slice-aggregate-mark-owners : tie.Need-slice-aggregate-mark-owners
 slice-aggregate-mark-owners c = let e = c .before .before .before .before .before .before .before .before .before .before .before .before .before .before .before .before in sym (part-length 4096 (size e) (e .pre .1 .few))
 
 mark-owners-requires : tie.Need-mark-owners-requires
-mark-owners-requires c κs = search needs
+mark-owners-requires c κs =
+    let e = c .before .before .before .before .before .before .before .before .before .before .before .before .before .before .before .before in
+    let s = c .before .before .before .before .spread in
+    (sym (e .pre .1 .linked .lengths), (subst (λ (n : ℕ). Below n (e .args .targets .now)) (sym (s .ensures .len)) (e .pre .0 .imported), subst (λ (n : ℕ). Below n (e .args .importers .now)) (sym (part-length 4096 (size e) (e .pre .1 .few))) (e .pre .0 .importing)))
 
 array-borrow-prefix-dependents : tie.Need-array-borrow-prefix-dependents
 array-borrow-prefix-dependents c = search needs
@@ -63,7 +67,9 @@ slice-aggregate-mark-owners-2 : tie.Need-slice-aggregate-mark-owners-2
 slice-aggregate-mark-owners-2 c = let e = c .before .before .before .before .before .before .before .before .before .before .before .before .before .before .before .before .before .before .before .before in sym (part-length 4096 (size e) (e .pre .1 .few))
 
 mark-owners-requires-2 : tie.Need-mark-owners-requires-2
-mark-owners-requires-2 c κs = search needs
+mark-owners-requires-2 c κs =
+    let e = c .before .before .before .before .before .before .before .before .before .before .before .before .before .before .before .before .before .before .before .before in
+    (e .pre .0 .dependencies, (e .pre .0 .depended, subst (λ (n : ℕ). Below n (e .args .dependency-module .now)) (sym (part-length 4096 (size e) (e .pre .1 .few))) (e .pre .0 .dependents)))
 
 array-share-prefix-leading : tie.Need-array-share-prefix-leading
 array-share-prefix-leading c = view-room (leading-lent (c .before .before .before .before .before))

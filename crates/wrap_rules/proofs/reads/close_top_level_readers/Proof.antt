@@ -6,8 +6,9 @@ use mathlib.Core.List.{List}
 use native.Mathlib.Omega.{arith}
 use lib.ListN.{length}
 use Rattle.lists.proofs.Laws.{not-true}
+use Rattle.tables.specs.Accepted.{Below}
 use Rattle.marks.specs.Steps.{Added, InAll}
-use Rattle.wrap_rules.specs.Asked.{Marks, Reader}
+use Rattle.wrap_rules.specs.Asked.{Marks, Reader, Depending}
 use Rattle.wrap_rules.proofs.Parts.{Lent, part-none, part-length, made-length, view-room, view-is, view-length}
 use Rattle.marks.proofs.Steps.{added-none, added-cong}
 use Rattle.wrap_rules.proofs.Marking.{marked-read, read-marked}
@@ -55,7 +56,7 @@ slice-aggregate-mark-touching : tie.Need-slice-aggregate-mark-touching
 slice-aggregate-mark-touching c = let e = c .before .before .before .before .before .before .before .before .before .before .before .before .before .before .before .before .before in sym (part-length 16384 (rows e) (e .pre .1 .fewReferences))
 
 mark-touching-requires : tie.Need-mark-touching-requires
-mark-touching-requires c κs = let e = c .before .before .before .before .before .before .before .before .before .before .before .before .before .before .before .before .before in (e .pre .0, (part-length 16384 (rows e) (e .pre .1 .fewReferences) ∙ sym (e .pre .1 .symbols), e .pre .1 .depends))
+mark-touching-requires c κs = let e = c .before .before .before .before .before .before .before .before .before .before .before .before .before .before .before .before .before in let n = part-length 16384 (rows e) (e .pre .1 .fewReferences) in (e .pre .0, (n ∙ sym (e .pre .1 .referred), subst (λ (i : ℕ). Depending (e .args .depended-reference .now) (e .args .depended .now) i (length (e .args .owner .now))) (sym n) (e .pre .1 .depending)))
 
 array-share-prefix-references : tie.Need-array-share-prefix-references
 array-share-prefix-references c = view-room (references-lent (c .before))
@@ -70,7 +71,7 @@ slice-aggregate-mark-readers-2 : tie.Need-slice-aggregate-mark-readers-2
 slice-aggregate-mark-readers-2 c = let e = c .before .before .before .before .before .before .before .before .before .before .before .before .before .before .before .before .before .before .before .before .before in sym (part-length 4096 (size e) (e .pre .1 .few))
 
 mark-readers-requires : tie.Need-mark-readers-requires
-mark-readers-requires c κs = let e = c .before .before .before .before .before .before .before .before .before .before .before .before .before .before .before .before .before .before .before .before .before in (view-length (references-lent (c .before .before .before)), part-none 4096 (size e))
+mark-readers-requires c κs = let e = c .before .before .before .before .before .before .before .before .before .before .before .before .before .before .before .before .before .before .before .before .before in (view-length (references-lent (c .before .before .before)), (e .pre .1 .statements, (subst (λ (n : ℕ). Below n (e .args .statement-module .now)) (sym (part-length 4096 (size e) (e .pre .1 .few))) (e .pre .1 .modules), part-none 4096 (size e))))
 
 array-share-prefix-readers : tie.Need-array-share-prefix-readers
 array-share-prefix-readers c = view-room (readers-lent (c .before))

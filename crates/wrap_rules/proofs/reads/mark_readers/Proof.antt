@@ -9,7 +9,7 @@ use Rattle.wrap_rules.proofs.reads.mark_readers.Lts as lts
 use Rattle.marks.proofs.core.mark_rows.Reads as mark-rows-reads
 
 mark-rows-requires : tie.Need-mark-rows-requires
-mark-rows-requires c κs = c .before .before .before .before .before .pre .0
+mark-rows-requires c κs = let p = c .before .before .before .before .before .pre in (p .0, (p .1 .0, p .1 .1 .0))
 
 same-length : tie.Need-same-length
 same-length c = search needs
@@ -19,7 +19,7 @@ returns c =
     let e = c .before .before .before .before .before .before .before .before in
     let a = e .args in
     let o = c .before .before .mark-rows in
-    readers-marked (a .statement-module .now) (a .reference-statement .now) (a .references .now) (a .readers .now) (o .last .1 .1 .1 .0) (e .pre .1) (o .ensures)
+    readers-marked (a .statement-module .now) (a .reference-statement .now) (a .references .now) (a .readers .now) (o .last .1 .1 .1 .0) (e .pre .1 .1 .1) (o .ensures)
 
 pub mark-readers-spec : {M : Type 1} → statement M
 mark-readers-spec = tie.close (tie.spec mark-rows-requires same-length returns)

@@ -1,5 +1,8 @@
 -- `wrap_rules::reads::mark_references` meets its contract: symbols first, then depended ones.
 -- Assumes nothing.
+use mathlib.Core.Path.{sym, subst}
+use Prim.Native.Nat.{ℕ}
+use Rattle.tables.specs.Accepted.{Below}
 use Rattle.wrap_rules.proofs.Marking.{references-marked}
 use borrow.Author.Needs.{needs}
 use Rattle.wrap_rules.proofs.reads.mark_references.Statement.{statement}
@@ -13,7 +16,10 @@ look-up-requires : tie.Need-look-up-requires
 look-up-requires c κs = c .before .before .before .before .before .before .pre .0
 
 mark-owners-requires : tie.Need-mark-owners-requires
-mark-owners-requires c κs = c .before .before .before .before .before .before .before .before .before .before .pre .1
+mark-owners-requires c κs =
+    let e = c .before .before .before .before .before .before .before .before .before .before in
+    let d = e .pre .1 in
+    (d .depends, (d .named, subst (λ (n : ℕ). Below n (e .args .depended-reference .now)) (sym (c .before .before .before .look-up .kept .1 .1 .0)) (d .referring)))
 
 same-length : tie.Need-same-length
 same-length c = search needs
@@ -24,7 +30,7 @@ returns c =
     let a = e .args in
     let o = c .before .before .mark-owners in
     let first = c .before .before .before .before .before .before .look-up in
-    references-marked (a .reference-symbol .now) (a .depended-reference .now) (a .depended .now) (a .symbols .now) (first .last .1 .1 .0) (o .last .1 .1 .1 .0) (e .pre .1) (first .ensures) (o .ensures)
+    references-marked (a .reference-symbol .now) (a .depended-reference .now) (a .depended .now) (a .symbols .now) (first .last .1 .1 .0) (o .last .1 .1 .1 .0) (e .pre .1 .depends) (first .ensures) (o .ensures)
 
 pub mark-references-spec : {M : Type 1} → statement M
 mark-references-spec =

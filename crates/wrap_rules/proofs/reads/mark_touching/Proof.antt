@@ -4,7 +4,7 @@ use Prim.Native.Nat.{ℕ, _≤_}
 use mathlib.Core.Path.{_≡_, refl, sym, ap, subst, _∙_}
 use mathlib.Core.List.{List}
 use lib.ListN.{length}
-use Rattle.wrap_rules.specs.Asked.{Marks, ReferenceTouch}
+use Rattle.wrap_rules.specs.Asked.{Marks, ReferenceTouch, Depending}
 use Rattle.wrap_rules.proofs.Parts.{Lent, view, part-length, made-length, view-room, view-is, view-length}
 use Rattle.wrap_rules.proofs.Marking.{touching-marked}
 use borrow.Author.Needs.{needs}
@@ -40,7 +40,9 @@ slice-aggregate-mark-references : tie.Need-slice-aggregate-mark-references
 slice-aggregate-mark-references c = sym (view-length (lent (c .before .before)))
 
 mark-references-requires : tie.Need-mark-references-requires
-mark-references-requires c κs = c .before .before .before .before .before .before .before .before .before .before .before .before .before .before .pre .1
+mark-references-requires c κs =
+    let e = c .before .before .before .before .before .before .before .before .before .before .before .before .before .before in
+    (e .pre .1 .0, subst (Depending (e .args .depended-reference .now) (e .args .depended .now) (length (e .args .references .now))) (sym (view-length (lent (c .before .before .before)))) (e .pre .1 .1))
 
 same-length : tie.Need-same-length
 same-length c = search needs

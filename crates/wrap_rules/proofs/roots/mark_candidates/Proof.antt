@@ -5,6 +5,7 @@ use mathlib.Core.Path.{_≡_, refl, sym, ap, subst, _∙_}
 use mathlib.Core.Logic.{⊎-elim}
 use mathlib.Core.List.{List}
 use lib.ListN.{length}
+use Rattle.tables.specs.Accepted.{Below}
 use Rattle.marks.specs.Steps.{Added, InAll}
 use Rattle.wrap_rules.specs.Spread.{ModuleGraph}
 use Rattle.wrap_rules.specs.Roots.{Reaching}
@@ -38,7 +39,8 @@ slice-aggregate-source-reachable-modules c = let e = c .before .before .before .
 source-reachable-modules-requires : tie.Need-source-reachable-modules-requires
 source-reachable-modules-requires c κs =
     let e = c .before .before .before .before .before .before .before in
-    (subst (ModuleGraph (e .args .importers .now) (e .args .targets .now)) (sym (part-length 4096 (size e) (e .pre .0 .few))) (e .pre .0), part-none 4096 (size e))
+    let n = part-length 4096 (size e) (e .pre .0 .few) in
+    (subst (ModuleGraph (e .args .importers .now) (e .args .targets .now)) (sym n) (e .pre .0), (e .pre .1 .0 ∙ sym n, (subst (λ (i : ℕ). Below i (e .args .roots .now)) (sym n) (e .pre .1 .1 .0), part-none 4096 (size e))))
 
 array-share-prefix-reached : tie.Need-array-share-prefix-reached
 array-share-prefix-reached c = view-room (lent (c .before))
@@ -47,7 +49,7 @@ slice-aggregate-add : tie.Need-slice-aggregate-add
 slice-aggregate-add c = sym (view-length (lent (c .before .before)))
 
 add-requires : tie.Need-add-requires
-add-requires c κs = let k = c .before .before .before in let e = entry k in (view-length (lent k), (e .pre .1 .0, e .pre .1 .0))
+add-requires c κs = let k = c .before .before .before in let e = entry k in let m = e .pre .1 .1 .1 .0 in (view-length (lent k), (m, m))
 
 same-length : tie.Need-same-length
 same-length c = search needs
@@ -67,7 +69,7 @@ returns c =
       len = added .len;
       bits = added .bits;
       all = λ m l h g. added .all m l (h, g, g);
-      only = λ m h. ⊎-elim (λ q. absurd (e .pre .1 .1 m q)) (λ q. (q .0, q .1)) (added .only m h);
+      only = λ m h. ⊎-elim (λ q. absurd (e .pre .1 .1 .1 .1 m q)) (λ q. (q .0, q .1)) (added .only m h);
     }
 
 pub mark-candidates-spec : {M : Type 1} → statement M

@@ -6,6 +6,7 @@ use mathlib.Core.List.{List}
 use native.Mathlib.Omega.{arith}
 use lib.ListN.{length, take, replicate}
 use borrow.Author.Needs.{needs}
+use Rattle.tables.specs.Accepted.{Below}
 use Rattle.tables.specs.Threads.{Threads}
 use Rattle.wrap_rules.specs.Spread.{Spreads}
 use Rattle.wrap_rules.specs.Roots.{Reaching}
@@ -65,7 +66,10 @@ slice-aggregate-mark-owners : tie.Need-slice-aggregate-mark-owners
 slice-aggregate-mark-owners c = let e = c .before .before .before .before .before .before in sym (part-length 4096 (size e) (e .pre .0 .few))
 
 mark-owners-requires : tie.Need-mark-owners-requires
-mark-owners-requires c κs = search needs
+mark-owners-requires c κs =
+    let e = c .before .before .before .before .before .before in
+    let roots = e .args .roots .now in
+    (refl, (subst (λ (n : ℕ). Below n roots) (sym (e .pre .1 .0)) (e .pre .1 .1 .0), subst (λ (n : ℕ). Below n roots) (sym (part-length 4096 (size e) (e .pre .0 .few))) (e .pre .1 .1 .0)))
 
 array-borrow-prefix-heads : tie.Need-array-borrow-prefix-heads
 array-borrow-prefix-heads c = search needs
@@ -106,7 +110,7 @@ spread-requires : tie.Need-spread-requires
 spread-requires c κs =
     let e = c .before .before .before .before .before .before .before .before .before .before .before .before .before .before .before .before .before in
     let k = c .before .before .before .before .before .before in
-    spreadable-none (e .pre .0) (threads k) (view-length (heads-lent k)) (view-length (start-lent (c .before .before .before .before .before .before .before .before .before .before))) refl (e .pre .1)
+    spreadable-none (e .pre .0) (threads k) (view-length (heads-lent k)) (view-length (start-lent (c .before .before .before .before .before .before .before .before .before .before))) refl (e .pre .1 .1 .1)
 
 same-length : tie.Need-same-length
 same-length c = search needs

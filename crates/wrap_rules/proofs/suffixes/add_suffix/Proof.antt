@@ -35,7 +35,7 @@ mark-suffix-requires : tie.Need-mark-suffix-requires
 mark-suffix-requires c κs =
     let e = c .before .before .before .before .before .before in
     let p = e .pre in
-    (λ i l. subst (λ (n : ℕ). getD (e .args .order .now) i 0 < n) (sym (p .1 .0)) (p .0 i l), (sym (p .1 .0), part-none 4096 (size e)))
+    (λ i l. subst (λ (n : ℕ). getD (e .args .order .now) i 0 < n) (sym (p .1 .0)) (p .0 i l), (sym (p .1 .0), (part-length 4096 (size e) (p .1 .1 .1) ∙ sym (p .1 .0), part-none 4096 (size e))))
 
 array-share-prefix-marks : tie.Need-array-share-prefix-marks
 array-share-prefix-marks c = view-room (lent (c .before))
