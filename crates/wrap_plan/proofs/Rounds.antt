@@ -2,12 +2,12 @@
 -- Assumes nothing.
 use mathlib.Core.Path.{_≡_, refl, sym, ap, subst, _∙_}
 use mathlib.Core.Bool.{Bool, true, false, _&&_, _||_}
-use mathlib.Core.List.{List}
+use mathlib.Core.List.{List, List·Memᴰ}
 use Prim.Native.Nat.{ℕ, _+_, _≤_, _<_}
 use native.Mathlib.Omega.{arith}
 use lib.ListN.{length, getD}
 use Rattle.lists.specs.Words.{has, zeros, bit}
-use Rattle.lists.proofs.Laws.{has-in, length-marksOf}
+use Rattle.lists.proofs.Laws.{and-join, has-in, length-marksOf}
 use Rattle.walk.specs.Close.{close, Within, Bits}
 use Rattle.tables.specs.Project.{Project, missing}
 use Rattle.tables.specs.Readings.{modules}
@@ -23,15 +23,15 @@ use Rattle.wrap_rules.specs.Passes.{Passed}
 use Rattle.wrap_rules.specs.Steps.{importTargets, Added}
 use Rattle.wrap_rules.specs.Spread.{Along, Under, Spreads, Spreadable}
 use Rattle.wrap_rules.specs.Asked.{Together, Members, Importer, Importing, TopLevelRead, Reading}
-use Rattle.wrap_rules.specs.Suffix.{Suffixes, sensitiveOrders, AllNoted}
+use Rattle.wrap_rules.specs.Suffix.{Suffixes, sensitiveOrders, AllNoted, Candidates}
 use Rattle.wrap_plan.specs.Closing.{sensitiveMarks, eligibleMarks, candidateMarks, Made, Kept}
 use Rattle.wrap_rules.proofs.Monotone.{asked-monotone}
 use Rattle.wrap_rules.proofs.Passes.{pass-rules, Spread, spread-start, spread-step, spread-end}
 use Rattle.wrap_rules.proofs.Notes.{noted-more}
 use Rattle.wrap_rules.proofs.Steps.{added-cong, length-targets}
 use Rattle.wrap_rules.proofs.Edging.{RowsIn, rows-back, edges-rows, rows-edges, along-rows, under-rows, spreads-rows, row-rows, graph-linked}
-use Rattle.wrap_plan.proofs.AtProject.{suffixes-fit, suffix-pass, members-fit, component-pass, importing-fit, import-pass, reading-fit, read-pass}
-use Rattle.wrap_plan.proofs.Reached.{root-in}
+use Rattle.wrap_plan.proofs.AtProject.{eligible-has, candidate-has, suffixes-fit, suffix-pass, members-fit, component-pass, importing-fit, import-pass, reading-fit, read-pass}
+use Rattle.wrap_plan.proofs.Reached.{root-in, expected-reached}
 
 -- what leads to a plan leads to a larger one
 pub under-more : (from to s t L : List ℕ) → length t ≡ length s → Within s t → Under from to s L → Under from to t L
@@ -52,6 +52,9 @@ module _ (p : Project) (labels rootList sensitives eligibles candidates importer
     roots-ready =
         subst (Below n) (sym (made .root)) (λ i l. subst (λ (k : ℕ). getD (roots p) i 0 < k) (sym e) (root-in p (made .accepted) (getD (roots p) i 0) (getD-mem (roots p) i l) .0))
 
+    pub candidates-ready : length candidates ≡ n
+    candidates-ready = ap length (made .candidateSet) ∙ length-marksOf (λ (m : ℕ). eligible p m && reached p m) (modules p) ∙ sym e
+
     pub members-ready : Members (p .chunk) (p .memberChunk) (p .member) labels sensitives eligibles n
     members-ready =
         subst (λ (s : List ℕ). Members (p .chunk) (p .memberChunk) (p .member) s sensitives eligibles n) (sym (made .label))
@@ -68,6 +71,15 @@ module _ (p : Project) (labels rootList sensitives eligibles candidates importer
     reading-ready =
         subst (λ (s : List ℕ). Reading (p .reads) (p .referenceStatement) (p .referenceSymbol) (p .dependedReference) (p .depended) s n) (sym (made .candidateSet))
         (subst (Reading (p .reads) (p .referenceStatement) (p .referenceSymbol) (p .dependedReference) (p .depended) (candidateMarks p)) (sym e) (reading-fit p (made .accepted)))
+
+  -- an eligible member of a root's order is reached
+  pub orders-ready : Candidates (p .normal) (p .included) (p .recordModule) (p .recordKind) (p .recordTarget) rootList eligibles candidates
+  unfolding Candidates
+  orders-ready root m h i g =
+      subst (λ (s : List ℕ). has s m ≡ true) (sym (made .candidateSet))
+      (candidate-has p m
+      ∙ and-join (eligible p m) (reached p m) (sym (eligible-has p m) ∙ subst (λ (s : List ℕ). has s m ≡ true) (made .eligibleSet) g)
+      (expected-reached p (made .accepted) root m (subst (List·Memᴰ root) (made .root) h) i))
 
   -- from target to importer, the edges are the records
 
