@@ -16,13 +16,15 @@ use Rattle.lists.proofs.Laws.{both, not-false, and-parts, and-join, or-parts, o
 use Rattle.walk.specs.Walk.{everywhere, postOrder}
 use Rattle.walk.specs.Reach.{Reach, here, step, ReachAny, passing, through}
 use Rattle.walk.specs.Close.{Within, Bits}
-use Rattle.walk.proofs.Orders.{order-followed, order-reach, reach-order}
+use Rattle.walk.proofs.Orders.{order-followed, order-reach, reach-order, reach-all}
 use Rattle.tables.specs.Project.{Project, missing}
 use Rattle.tables.specs.Readings.{modules, isNormal, flagged, isImport, resolved, anyTarget, normalTarget, rowTargets, targetsOf, rowsOf, analysed, analysedRow}
 use Rattle.tables.specs.declared.Target.{Target}
 use Rattle.tables.specs.declared.Target.the-variants.{Missing, External, Normal}
 use Rattle.tables.specs.Accepted.{Below, Accepted}
 use Rattle.tables.proofs.Accepted.{getD-mem}
+use Rattle.expected_order.specs.Expected.{expected}
+use Rattle.expected_order.proofs.Laws.{imports-in, expected-member}
 use Rattle.actual_order.proofs.Actuals.{mem-flat}
 use Rattle.chunk_cycles.proofs.Lists.{mark-in}
 use Rattle.sensitivity.specs.Marks.{eligible}
@@ -82,6 +84,14 @@ module _ (p : Project) (ok : Accepted p) where
 
   pub roots-below : Below (modules p) (roots p)
   roots-below i l = root-in (getD (roots p) i 0) (getD-mem (roots p) i l) .0
+
+  -- what stands in a root's expected order is reached
+  pub expected-reached : (root m : ℕ) → List·Memᴰ root (roots p) → List·Memᴰ m (expected (p .normal) (p .included) (p .recordModule) (p .recordKind) (p .recordTarget) root) → reached p m ≡ true
+  unfolding reached ReachAny
+  expected-reached root m h i =
+      mem-elem m (postOrder succ everywhere (modules p) (roots p))
+      (reach-all succ (modules p) (λ x y l. imports-in (p .normal) (p .recordModule) (p .recordKind) (p .recordTarget) x y) (roots p) (λ r k. root-in r k .0) m
+      (root, h, expected-member (p .normal) (p .included) (p .recordModule) (p .recordKind) (p .recordTarget) root m i .path))
 
   module _ (t : List ℕ) (h : Reaching (p .included) (roots p) (p .recordModule) targets (modules p) t) where
     t-len : length t ≡ modules p

@@ -2,12 +2,12 @@
 -- Assumes nothing.
 use mathlib.Core.Path.{_≡_, refl, sym, ap, subst, _∙_}
 use mathlib.Core.Bool.{Bool, true, false, _&&_, _||_}
-use mathlib.Core.List.{List}
+use mathlib.Core.List.{List, List·Memᴰ}
 use Prim.Native.Nat.{ℕ, _+_, _≤_, _<_}
 use native.Mathlib.Omega.{arith}
 use lib.ListN.{length, getD}
 use Rattle.lists.specs.Words.{has, zeros, bit}
-use Rattle.lists.proofs.Laws.{has-in, length-marksOf}
+use Rattle.lists.proofs.Laws.{and-join, has-in, length-marksOf}
 use Rattle.walk.specs.Close.{close, Within, Bits}
 use Rattle.tables.specs.Project.{Project, missing}
 use Rattle.tables.specs.Readings.{modules}
@@ -22,15 +22,15 @@ use Rattle.wrap_rules.specs.Passes.{Passed}
 use Rattle.marks.specs.Steps.{Added}
 use Rattle.wrap_rules.specs.Spread.{Along, Under, Spreads, Spreadable, importTargets}
 use Rattle.wrap_rules.specs.Asked.{Together, Members, Importer, Importing, TopLevelRead, Reading}
-use Rattle.wrap_rules.specs.Suffix.{Suffixes, sensitiveOrders, AllNoted}
+use Rattle.wrap_rules.specs.Suffix.{Suffixes, sensitiveOrders, AllNoted, Candidates}
 use Rattle.wrap_plan.specs.Closing.{sensitiveMarks, eligibleMarks, candidateMarks, Made, Kept}
 use Rattle.wrap_rules.proofs.Monotone.{asked-monotone}
 use Rattle.wrap_rules.proofs.Passes.{pass-rules, Spread, spread-start, spread-step, spread-end}
 use Rattle.wrap_rules.proofs.Notes.{noted-more}
 use Rattle.marks.proofs.Steps.{added-cong}
 use Rattle.wrap_rules.proofs.Edging.{RowsIn, rows-back, edges-rows, rows-edges, along-rows, under-rows, spreads-rows, row-rows, graph-linked, length-targets}
-use Rattle.wrap_plan.proofs.AtProject.{suffixes-fit, suffix-pass, members-fit, component-pass, importing-fit, import-pass, reading-fit, read-pass}
-use Rattle.wrap_plan.proofs.Reached.{roots-below}
+use Rattle.wrap_plan.proofs.AtProject.{eligible-has, candidate-has, suffixes-fit, suffix-pass, members-fit, component-pass, importing-fit, import-pass, reading-fit, read-pass}
+use Rattle.wrap_plan.proofs.Reached.{roots-below, expected-reached}
 
 -- what leads to a plan leads to a larger one
 pub under-more : (from to s t L : List ℕ) → length t ≡ length s → Within s t → Under from to s L → Under from to t L
@@ -51,6 +51,9 @@ module _ (p : Project) (labels rootList sensitives eligibles candidates importer
     roots-ready =
         subst (Below n) (sym (made .root)) (subst (λ (k : ℕ). Below k (roots p)) (sym e) (roots-below p (made .accepted)))
 
+    pub candidates-ready : length candidates ≡ n
+    candidates-ready = ap length (made .candidateSet) ∙ length-marksOf (λ (m : ℕ). eligible p m && reached p m) (modules p) ∙ sym e
+
     pub members-ready : Members (p .chunk) (p .memberChunk) (p .member) labels sensitives eligibles n
     members-ready =
         subst (λ (s : List ℕ). Members (p .chunk) (p .memberChunk) (p .member) s sensitives eligibles n) (sym (made .label))
@@ -67,6 +70,15 @@ module _ (p : Project) (labels rootList sensitives eligibles candidates importer
     reading-ready =
         subst (λ (s : List ℕ). Reading (p .reads) (p .statementModule) (p .referenceStatement) (p .referenceSymbol) (p .dependedReference) (p .depended) s (length (p .owner)) n) (sym (made .candidateSet))
         (subst (Reading (p .reads) (p .statementModule) (p .referenceStatement) (p .referenceSymbol) (p .dependedReference) (p .depended) (candidateMarks p) (length (p .owner))) (sym e) (reading-fit p (made .accepted)))
+
+  -- an eligible member of a root's order is reached
+  pub orders-ready : Candidates (p .normal) (p .included) (p .recordModule) (p .recordKind) (p .recordTarget) rootList eligibles candidates
+  unfolding Candidates
+  orders-ready root m h i g =
+      subst (λ (s : List ℕ). has s m ≡ true) (sym (made .candidateSet))
+      (candidate-has p m
+      ∙ and-join (eligible p m) (reached p m) (sym (eligible-has p m) ∙ subst (λ (s : List ℕ). has s m ≡ true) (made .eligibleSet) g)
+      (expected-reached p (made .accepted) root m (subst (List·Memᴰ root) (made .root) h) i))
 
   -- from target to importer, the edges are the records
 

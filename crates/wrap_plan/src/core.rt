@@ -64,6 +64,7 @@ fn close_once<'a>(
         roots,
         sensitive,
         eligible,
+        candidates,
         notes,
         plan,
     );

@@ -3,7 +3,7 @@
 use mathlib.Core.Path.{_≡_, refl, sym, ap, subst, _∙_, fun-ext}
 use mathlib.Core.Logic.{_⊎_, ⊎-elim}
 use mathlib.Core.Bool.{Bool, true, false, _&&_, _||_, false≢true}
-use mathlib.Core.List.{List, [], _∷_, _++_, List·Memᴰ, List·Memᴰ·head}
+use mathlib.Core.List.{List, [], _∷_, _++_, map, List·Memᴰ, List·Memᴰ·head, Memᴰ·of-map}
 use Prim.Native.Nat.{ℕ, _+_, _-_, _≤_, _<_}
 use native.Mathlib.Omega.{arith}
 use native.Mathlib.Decide.{decLt}
@@ -14,11 +14,12 @@ use Rattle.lists.proofs.Laws.{both, and-parts, and-join, any-append, has-in, me
 use Rattle.walk.specs.Close.{Within, Closed, Monotone, Bits}
 use Rattle.tables.specs.Accepted.{Below}
 use Rattle.tables.proofs.Accepted.{getD-mem}
+use Rattle.expected_order.specs.Expected.{expected}
 use Rattle.wrap_rules.specs.Rules.{fromFirst, suffixAsks}
 use Rattle.wrap_rules.specs.Passes.{Passed}
 use Rattle.marks.specs.Steps.{looked, Owners, Added}
 use Rattle.wrap_rules.specs.Asked.{Marks}
-use Rattle.wrap_rules.specs.Suffix.{FirstIn, InSuffix, WholeSuffix, AllPlanned}
+use Rattle.wrap_rules.specs.Suffix.{FirstIn, InSuffix, WholeSuffix, AllPlanned, sensitiveOrders, Candidates}
 use Rattle.wrap_rules.proofs.Monotone.{suffix-more}
 use Rattle.wrap_rules.proofs.Passes.{join, pass-then}
 use Rattle.wrap_rules.proofs.Rows.{mem-at, fromFirst-places, places-fromFirst}
@@ -195,6 +196,21 @@ module _ (eligible : ℕ → Bool) (orders : List (List ℕ)) (order : List ℕ)
 pub no-orders : (eligible : ℕ → Bool) (s : List ℕ) → Bits s → Passed (suffixAsks eligible []) s s false
 unfolding Closed suffixAsks
 no-orders eligible s b = passed-closed (suffixAsks eligible []) s b (λ m l e. absurd (false≢true (and-parts (eligible m) false e .1)))
+
+-- nothing is asked where every sensitive candidate is planned
+pub none-open : (normal included recordModule recordKind recordTarget roots sensitive eligible candidates S : List ℕ) → Candidates normal included recordModule recordKind recordTarget roots eligible candidates
+    → ((m : ℕ) → m < length S → has sensitive m ≡ true → has candidates m ≡ true → has S m ≡ true)
+    → Closed (suffixAsks (has eligible) (sensitiveOrders normal included recordModule recordKind recordTarget sensitive roots)) S
+unfolding Closed suffixAsks sensitiveOrders Candidates
+none-open normal included recordModule recordKind recordTarget roots sensitive eligible candidates S inside shut m l e =
+    let order : ℕ → List ℕ = λ (root : ℕ). keep (has sensitive) (expected normal included recordModule recordKind recordTarget root) in
+    let a = and-parts (has eligible m) _ e in
+    let r = any-mem (λ (xs : List ℕ). elem m (fromFirst (has S) xs)) (map order roots) (a .1) in
+    let q = Memᴰ·of-map order roots (r .1) in
+    let p = fromFirst-places (has S) (r .0) (elem-mem m (fromFirst (has S) (r .0)) (r .2)) in
+    let h : List·Memᴰ m (order (q .0)) = subst (List·Memᴰ m) (sym (q .2)) (subst (λ (x : ℕ). List·Memᴰ x (r .0)) (p .5) (getD-mem (r .0) (p .1) (p .3))) in
+    let k = mem-keep (has sensitive) (expected normal included recordModule recordKind recordTarget (q .0)) h in
+    shut m l (k .1) (inside (q .0) m (q .1) (k .0) (a .0))
 
 -- what is left of a list is all of it
 pub take-rest : (n : ℕ) (xs : List ℕ) → take (length xs - n) (drop n xs) ≡ drop n xs

@@ -65,6 +65,11 @@ module _ (normal included recordModule recordKind recordTarget : List ℕ) where
   AllNoted roots sensitive eligible notes S =
       (k : ℕ) → k < length roots → Noted (expected normal included recordModule recordKind recordTarget (getD roots k 0)) sensitive eligible (getD notes k 0) S
 
+  -- every eligible member of the roots' orders is a candidate
+  unfoldable pub Candidates : List ℕ → List ℕ → List ℕ → Type 0
+  Candidates roots eligible candidates =
+      (root m : ℕ) → List·Memᴰ root roots → List·Memᴰ m (expected normal included recordModule recordKind recordTarget root) → has eligible m ≡ true → has candidates m ≡ true
+
 -- the columns fit each other, over n modules
 pub record Suffixes (normal included recordModule recordKind recordTarget sensitive eligible : List ℕ) (n : ℕ) : Type 0 where
   pub few : n ≤ 4096

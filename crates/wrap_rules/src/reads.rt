@@ -141,7 +141,7 @@ fn mark_touching(
 }
 
 // Whether a member of two sets is out of a third.
-fn any_open(first: &[u32], second: &[u32], set: &[u32]) -> bool
+pub fn any_open(first: &[u32], second: &[u32], set: &[u32]) -> bool
     requires one { ⌜ length (now first) ≡ length (now set) ⌝ }
     requires two { ⌜ length (now second) ≡ length (now set) ⌝ }
     ensures { λ r. ⌜ (r ≡ false → (m : ℕ) → m < length (now (set .entry)) → has (now (first .entry)) m ≡ true → has (now (second .entry)) m ≡ true → has (now (set .entry)) m ≡ true) ⌝ }

@@ -13,7 +13,8 @@ ghost use Rattle.wrap_rules.specs.Passes.{Passed};
 ghost use Rattle.wrap_rules.specs.Rules.{suffixAsks};
 ghost use Rattle.marks.specs.Steps.{Added};
 ghost use Rattle.wrap_rules.specs.Asked.{Marks};
-ghost use Rattle.wrap_rules.specs.Suffix.{FirstIn, InSuffix, WholeSuffix, noteOf, Extended, sensitiveOrders, AllNoted, Suffixes};
+ghost use Rattle.wrap_rules.specs.Suffix.{FirstIn, InSuffix, WholeSuffix, noteOf, Extended, sensitiveOrders, AllNoted, Candidates, Suffixes};
+use crate::reads::any_open;
 use expected_order::core::expected_order_for_root;
 use marks::core::add;
 use marks::core::mark_owners;
@@ -174,9 +175,9 @@ fn extend_entry<'a>(
     extend_order(&order[..count], sensitive, eligible, notes, plan, k)
 }
 
-// One pass of rule (i) over the entries' roots. One that has no eligible member before its suffix isn't walked again, the others only if a sensitive module
+// The same for all entries' roots. One that has no eligible member before its suffix isn't walked again, the others only if a sensitive module
 // was planned since. Whether any module was added.
-pub fn close_expected_sensitive_suffixes<'a>(
+fn extend_entries<'a>(
     normal: &'a [u32],
     included: &'a [u32],
     record_module: &'a [u32],
@@ -219,4 +220,45 @@ pub fn close_expected_sensitive_suffixes<'a>(
         changed = true;
     }
     changed
+}
+
+// One pass of rule (i). It asks for nothing where every sensitive candidate, a reached eligible module, is planned. Whether any module was added.
+pub fn close_expected_sensitive_suffixes<'a>(
+    normal: &'a [u32],
+    included: &'a [u32],
+    record_module: &'a [u32],
+    record_kind: &'a [u32],
+    record_target: &'a [u32],
+    roots: &[u32],
+    sensitive: &[u32],
+    eligible: &[u32],
+    candidates: &[u32],
+    notes: &mut [u32],
+    plan: &mut [u32],
+) -> bool
+    requires columns { ⌜ Suffixes (now normal) (now included) (now «record_module») (now «record_kind») (now «record_target») (now sensitive) (now eligible) (length (now plan)) ⌝ }
+    requires roots { ⌜ Below (length (now plan)) (now roots) ⌝ }
+    requires marks { ⌜ length (now notes) ≡ length (now roots) ⌝ }
+    requires noted { ⌜ AllNoted (now normal) (now included) (now «record_module») (now «record_kind») (now «record_target») (now roots) (now sensitive) (now eligible) (now notes) (now plan) ⌝ }
+    requires bits { ⌜ Bits (now plan) ⌝ }
+    requires candidates { ⌜ Candidates (now normal) (now included) (now «record_module») (now «record_kind») (now «record_target») (now roots) (now eligible) (now candidates) ⌝ }
+    requires open { ⌜ length (now candidates) ≡ length (now plan) ⌝ }
+    ensures noted { λ _. ⌜ AllNoted (now (normal .entry)) (now (included .entry)) (now («record_module» .entry)) (now («record_kind» .entry)) (now («record_target» .entry)) (now (roots .entry)) (now (sensitive .entry)) (now (eligible .entry)) (now (notes .exit)) (now (plan .exit)) ⌝ }
+    ensures plan { λ r. ⌜ Passed (suffixAsks (has (now (eligible .entry))) (sensitiveOrders (now (normal .entry)) (now (included .entry)) (now («record_module» .entry)) (now («record_kind» .entry)) (now («record_target» .entry)) (now (sensitive .entry)) (now (roots .entry)))) (now (plan .entry)) (now (plan .exit)) r ⌝ }
+{
+    if !any_open(sensitive, candidates, plan) {
+        return false;
+    }
+    extend_entries(
+        normal,
+        included,
+        record_module,
+        record_kind,
+        record_target,
+        roots,
+        sensitive,
+        eligible,
+        notes,
+        plan,
+    )
 }

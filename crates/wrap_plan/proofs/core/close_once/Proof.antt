@@ -18,7 +18,7 @@ use Rattle.wrap_plan.specs.Closing.{Rest, whole, Made, Kept, Ready, Once
 use Rattle.lists.proofs.Laws.{or-left, or-right}
 use Rattle.wrap_rules.proofs.Lists.{or-skip}
 use Rattle.wrap_plan.proofs.AtProject.{symbols-fit}
-use Rattle.wrap_plan.proofs.Rounds.{under-more, suffixes-ready, roots-ready, members-ready, importing-ready, leads-ready, reading-ready, once}
+use Rattle.wrap_plan.proofs.Rounds.{under-more, suffixes-ready, roots-ready, candidates-ready, orders-ready, members-ready, importing-ready, leads-ready, reading-ready, once}
 use borrow.Author.Needs.{needs}
 use Rattle.wrap_plan.proofs.core.close_once.Statement.{statement}
 use Rattle.wrap_plan.proofs.core.close_once.Tie as tie
@@ -47,7 +47,7 @@ ready e = e .pre
 -- the plan after each pass
 
 abbrev plan1 : tie.After-close-expected-sensitive-suffixes → List ℕ
-plan1 k = k .close-expected-sensitive-suffixes .last .1 .1 .1 .1 .1 .1 .1 .1 .1 .0
+plan1 k = k .close-expected-sensitive-suffixes .last .1 .1 .1 .1 .1 .1 .1 .1 .1 .1 .0
 
 abbrev plan2 : tie.After-close-cyclic-chunk-members → List ℕ
 plan2 k = k .close-cyclic-chunk-members .last .1 .1 .1 .1 .1 .1 .0
@@ -59,7 +59,7 @@ abbrev plan4 : tie.After-close-top-level-readers → List ℕ
 plan4 k = k .close-top-level-readers .last .1 .1 .1 .1 .1 .1 .1 .1 .1 .1 .1 .0
 
 size1 : (k : tie.After-close-expected-sensitive-suffixes) → length (plan1 k) ≡ modules (of (k .before .before .before .before .before .before .before .before .before .before .before .before .before .before .before .before .before .before .before .before .before .before .before .before .before .before .before .before .before .before .before .before .before .before .before) (ready (k .before .before .before .before .before .before .before .before .before .before .before .before .before .before .before .before .before .before .before .before .before .before .before .before .before .before .before .before .before .before .before .before .before .before .before) .0))
-size1 k = k .close-expected-sensitive-suffixes .kept .1 .1 .1 .1 .1 .1 .1 .1 .1 .0 ∙ ready (k .before .before .before .before .before .before .before .before .before .before .before .before .before .before .before .before .before .before .before .before .before .before .before .before .before .before .before .before .before .before .before .before .before .before .before) .2 .size
+size1 k = k .close-expected-sensitive-suffixes .kept .1 .1 .1 .1 .1 .1 .1 .1 .1 .1 .0 ∙ ready (k .before .before .before .before .before .before .before .before .before .before .before .before .before .before .before .before .before .before .before .before .before .before .before .before .before .before .before .before .before .before .before .before .before .before .before) .2 .size
 
 size2 : (k : tie.After-close-cyclic-chunk-members) → length (plan2 k) ≡ modules (of (k .before .before .before .before .before .before .before .before .before .before .before .before .before .before .before .before .before .before .before .before .before .before .before .before .before .before .before .before .before .before .before .before .before .before .before .before .before .before .before .before .before) (ready (k .before .before .before .before .before .before .before .before .before .before .before .before .before .before .before .before .before .before .before .before .before .before .before .before .before .before .before .before .before .before .before .before .before .before .before .before .before .before .before .before .before) .0))
 size2 k = k .close-cyclic-chunk-members .kept .1 .1 .1 .1 .1 .1 .0 ∙ size1 (k .before .before .before .before .before .before)
@@ -74,12 +74,12 @@ grown k m e = k .close-cyclic-chunk-members .ensures .old m (k .before .before .
 -- the four passes together
 done : (k : tie.After-close-top-level-readers) → let e = k .before .before .before .before .before .before .before .before .before .before .before .before .before .before .before .before .before .before .before .before .before .before .before .before .before .before .before .before .before .before .before .before .before .before .before .before .before .before .before .before .before .before .before .before .before .before .before .before .before .before .before .before in let a = e .args in (rest : Rest) → MadeOf e rest → KeptOf e rest (a .notes .now) (a .leads .now) (a .plan .now) → (r : Bool)
     → (k .before .before .before .before .before .before .before .before .before .before .before .before .before .before .before .before .before .close-expected-sensitive-suffixes .result || (k .before .before .before .before .before .before .before .before .before .before .before .close-cyclic-chunk-members .result || (k .before .before .before .before .before .before .close-static-importers .result || k .close-top-level-readers .result))) ≡ r
-    → KeptOf e rest (k .before .before .before .before .before .before .before .before .before .before .before .before .before .before .before .before .before .close-expected-sensitive-suffixes .last .1 .1 .1 .1 .1 .1 .1 .1 .0) (k .before .before .before .before .before .before .close-static-importers .last .1 .1 .1 .1 .1 .1 .1 .0) (plan4 k) × Passed (asked (ordersOf (of e rest)) (labelsOf (of e rest)) (of e rest)) (a .plan .now) (plan4 k) r
+    → KeptOf e rest (k .before .before .before .before .before .before .before .before .before .before .before .before .before .before .before .before .before .close-expected-sensitive-suffixes .last .1 .1 .1 .1 .1 .1 .1 .1 .1 .0) (k .before .before .before .before .before .before .close-static-importers .last .1 .1 .1 .1 .1 .1 .1 .0) (plan4 k) × Passed (asked (ordersOf (of e rest)) (labelsOf (of e rest)) (of e rest)) (a .plan .now) (plan4 k) r
 done k rest made kept r e =
     let a = k .before .before .before .before .before .before .before .before .before .before .before .before .before .before .before .before .before .before .before .before .before .before .before .before .before .before .before .before .before .before .before .before .before .before .before .before .before .before .before .before .before .before .before .before .before .before .before .before .before .before .before .before .args in
     let one = k .before .before .before .before .before .before .before .before .before .before .before .before .before .before .before .before .before .close-expected-sensitive-suffixes in
     let three = k .before .before .before .before .before .before .close-static-importers in
-    once (of (k .before .before .before .before .before .before .before .before .before .before .before .before .before .before .before .before .before .before .before .before .before .before .before .before .before .before .before .before .before .before .before .before .before .before .before .before .before .before .before .before .before .before .before .before .before .before .before .before .before .before .before .before) rest) (a .labels .now) (a .roots .now) (a .sensitive .now) (a .eligible .now) (a .candidates .now) (a .importers .now) (a .targets .now) (a .heads .now) (a .nexts .now) made kept (one .kept .1 .1 .1 .1 .1 .1 .1 .1 .0) (one .ensures .0) (one .ensures .1) (k .before .before .before .before .before .before .before .before .before .before .before .close-cyclic-chunk-members .ensures) (three .ensures .0) (three .ensures .1) (k .close-top-level-readers .ensures) e
+    once (of (k .before .before .before .before .before .before .before .before .before .before .before .before .before .before .before .before .before .before .before .before .before .before .before .before .before .before .before .before .before .before .before .before .before .before .before .before .before .before .before .before .before .before .before .before .before .before .before .before .before .before .before .before) rest) (a .labels .now) (a .roots .now) (a .sensitive .now) (a .eligible .now) (a .candidates .now) (a .importers .now) (a .targets .now) (a .heads .now) (a .nexts .now) made kept (one .kept .1 .1 .1 .1 .1 .1 .1 .1 .1 .0) (one .ensures .0) (one .ensures .1) (k .before .before .before .before .before .before .before .before .before .before .before .close-cyclic-chunk-members .ensures) (three .ensures .0) (three .ensures .1) (k .close-top-level-readers .ensures) e
 
 close-expected-sensitive-suffixes-requires : tie.Need-close-expected-sensitive-suffixes-requires
 close-expected-sensitive-suffixes-requires c κs =
@@ -87,7 +87,7 @@ close-expected-sensitive-suffixes-requires c κs =
     let a = e .args in
     let g = ready e in
     let n = g .2 .size in
-    (suffixes-ready (of e (g .0)) (a .labels .now) (a .roots .now) (a .sensitive .now) (a .eligible .now) (a .candidates .now) (a .importers .now) (a .targets .now) (a .heads .now) (a .nexts .now) (g .1) (length (a .plan .now)) n, (roots-ready (of e (g .0)) (a .labels .now) (a .roots .now) (a .sensitive .now) (a .eligible .now) (a .candidates .now) (a .importers .now) (a .targets .now) (a .heads .now) (a .nexts .now) (g .1) (length (a .plan .now)) n, (g .2 .noteSize, (g .2 .noted, g .2 .bits))))
+    (suffixes-ready (of e (g .0)) (a .labels .now) (a .roots .now) (a .sensitive .now) (a .eligible .now) (a .candidates .now) (a .importers .now) (a .targets .now) (a .heads .now) (a .nexts .now) (g .1) (length (a .plan .now)) n, (roots-ready (of e (g .0)) (a .labels .now) (a .roots .now) (a .sensitive .now) (a .eligible .now) (a .candidates .now) (a .importers .now) (a .targets .now) (a .heads .now) (a .nexts .now) (g .1) (length (a .plan .now)) n, (g .2 .noteSize, (g .2 .noted, (g .2 .bits, (orders-ready (of e (g .0)) (a .labels .now) (a .roots .now) (a .sensitive .now) (a .eligible .now) (a .candidates .now) (a .importers .now) (a .targets .now) (a .heads .now) (a .nexts .now) (g .1), candidates-ready (of e (g .0)) (a .labels .now) (a .roots .now) (a .sensitive .now) (a .eligible .now) (a .candidates .now) (a .importers .now) (a .targets .now) (a .heads .now) (a .nexts .now) (g .1) (length (a .plan .now)) n))))))
 
 close-cyclic-chunk-members-requires : tie.Need-close-cyclic-chunk-members-requires
 close-cyclic-chunk-members-requires c κs =
