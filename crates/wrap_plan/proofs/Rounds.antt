@@ -22,11 +22,11 @@ use Rattle.wrap_rules.specs.Passes.{Passed}
 use Rattle.marks.specs.Steps.{Added}
 use Rattle.wrap_rules.specs.Spread.{Along, Under, Spreads, Spreadable, importTargets}
 use Rattle.wrap_rules.specs.Asked.{Together, Members, Importer, Importing, TopLevelRead, Reading}
-use Rattle.wrap_rules.specs.Suffix.{Suffixes, sensitiveOrders, AllNoted, Candidates}
+use Rattle.wrap_rules.specs.Suffix.{Suffixes, sensitiveOrders, Settled, Candidates}
 use Rattle.wrap_plan.specs.Closing.{sensitiveMarks, eligibleMarks, candidateMarks, Made, Kept}
 use Rattle.wrap_rules.proofs.Monotone.{asked-monotone}
 use Rattle.wrap_rules.proofs.Passes.{pass-rules, Spread, spread-start, spread-step, spread-end}
-use Rattle.wrap_rules.proofs.Notes.{noted-more}
+use Rattle.wrap_rules.proofs.Extending.{planned-more}
 use Rattle.marks.proofs.Steps.{added-cong}
 use Rattle.wrap_rules.proofs.Edging.{RowsIn, rows-back, edges-rows, rows-edges, along-rows, under-rows, spreads-rows, row-rows, graph-linked, length-targets}
 use Rattle.wrap_plan.proofs.AtProject.{eligible-has, candidate-has, suffixes-fit, suffix-pass, members-fit, component-pass, importing-fit, import-pass, reading-fit, read-pass}
@@ -153,12 +153,12 @@ module _ (p : Project) (labels rootList sensitives eligibles candidates importer
       read-pass p (made .accepted) s (ordersOf p) (labelsOf p) b
       (subst (λ (x : List ℕ). Added (TopLevelRead (p .reads) (p .statementModule) (p .owner) (p .canonical) (p .chainSymbol) (p .chainLink) (p .referenceStatement) (p .referenceSymbol) (p .dependedReference) (p .depended) x s) s t r) (made .candidateSet) h)
 
-  pub once : {notes leads plan notes′ leads′ t u v w : List ℕ} {a b c d r : Bool} → Kept p rootList sensitives eligibles notes leads plan
-      → length notes′ ≡ length notes → AllNoted (p .normal) (p .included) (p .recordModule) (p .recordKind) (p .recordTarget) rootList sensitives eligibles notes′ t
+  pub once : {settled leads plan settled′ leads′ t u v w : List ℕ} {a b c d r : Bool} → Kept p rootList sensitives eligibles settled leads plan
+      → length settled′ ≡ length settled → Settled (p .normal) (p .included) (p .recordModule) (p .recordKind) (p .recordTarget) rootList sensitives eligibles settled′ t
       → Suffixed plan t a → Joined t u b → Spreads targets importers u leads′ → Imported leads′ u v c → Readings v w d → (a || (b || (c || d))) ≡ r
-      → Kept p rootList sensitives eligibles notes′ leads′ w × Passed (asked (ordersOf p) (labelsOf p) p) plan w r
-  unfolding AllNoted Within
-  once {notes} {leads} {plan} {notes′} {leads′} {t} {u} {v} {w} kept n h f g s i j e =
+      → Kept p rootList sensitives eligibles settled′ leads′ w × Passed (asked (ordersOf p) (labelsOf p) p) plan w r
+  unfolding Settled Within
+  once {settled} {leads} {plan} {settled′} {leads′} {t} {u} {v} {w} kept n h f g s i j e =
       let one = first f in
       let two = second (one .bits) g in
       let size : length u ≡ modules p = two .len ∙ one .len ∙ kept .size in
@@ -167,8 +167,8 @@ module _ (p : Project) (labels rootList sensitives eligibles candidates importer
         record {
           size = four .len ∙ three .len ∙ size;
           bits = four .bits;
-          noteSize = n ∙ kept .noteSize;
-          noted = λ k l. noted-more _ sensitives eligibles (getD notes′ k 0) t w (λ m x. four .grows m (three .grows m (two .grows m x))) (h k l);
+          settledSize = n ∙ kept .settledSize;
+          settles = λ k l q. planned-more _ sensitives eligibles t w (λ m x. four .grows m (three .grows m (two .grows m x))) (h k l q);
           leadSize = s .len ∙ size;
           along = spread-records size s .along;
           under = under-more recordTargets (p .recordModule) u w leads′ (four .len ∙ three .len) (λ m x. four .grows m (three .grows m x)) (spread-records size s .under);
@@ -177,9 +177,9 @@ module _ (p : Project) (labels rootList sensitives eligibles candidates importer
       )
 
 -- the loop: from s to t, `more` as the last pass said
-pub record Turning (p : Project) (rootList sensitives eligibles notes leads s t : List ℕ) (more : Bool) : Type 0 where
-  pub kept : Kept p rootList sensitives eligibles notes leads t
+pub record Turning (p : Project) (rootList sensitives eligibles settled leads s t : List ℕ) (more : Bool) : Type 0 where
+  pub kept : Kept p rootList sensitives eligibles settled leads t
   pub spread : Spread (asked (ordersOf p) (labelsOf p) p) s t more
 
-pub turning-end : (p : Project) (rootList sensitives eligibles notes leads s t : List ℕ) → Bits s → Turning p rootList sensitives eligibles notes leads s t false → t ≡ close (asked (ordersOf p) (labelsOf p) p) s
-turning-end p rootList sensitives eligibles notes leads s t b g = spread-end (asked (ordersOf p) (labelsOf p) p) (asked-monotone (ordersOf p) (labelsOf p) p) b (g .spread)
+pub turning-end : (p : Project) (rootList sensitives eligibles settled leads s t : List ℕ) → Bits s → Turning p rootList sensitives eligibles settled leads s t false → t ≡ close (asked (ordersOf p) (labelsOf p) p) s
+turning-end p rootList sensitives eligibles settled leads s t b g = spread-end (asked (ordersOf p) (labelsOf p) p) (asked-monotone (ordersOf p) (labelsOf p) p) b (g .spread)

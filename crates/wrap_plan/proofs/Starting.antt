@@ -13,12 +13,11 @@ use Rattle.tables.specs.Accepted.{Accepted}
 use Rattle.wrap_rules.specs.Plan.{roots}
 use Rattle.tables.specs.Threads.{Threads}
 use Rattle.wrap_rules.specs.Spread.{Along, Under, Edges, importTargets}
-use Rattle.wrap_rules.specs.Suffix.{AllNoted}
+use Rattle.wrap_rules.specs.Suffix.{Settled}
 use Rattle.wrap_rules.specs.Roots.{rootsOver, Written, Chosen}
 use Rattle.wrap_plan.specs.Closing.{eligibleMarks, candidateMarks, Made, Kept, Basis}
 use Rattle.wrap_rules.proofs.Parts.{part-none, part-bits, part-length}
 use Rattle.wrap_rules.proofs.Listing.{roots-few}
-use Rattle.wrap_rules.proofs.Notes.{noted-none}
 use Rattle.wrap_rules.proofs.Edging.{edges-rows, rows-edges, chosen-rows, graph-back}
 use Rattle.wrap_plan.proofs.AtProject.{edges-graph}
 use Rattle.wrap_plan.proofs.Reached.{roots-over, chosen-candidates}
@@ -68,12 +67,12 @@ module _ (p : Project) (labels rootList sensitives eligibles plan : List ℕ) (b
       }
 
   pub kept-from : Kept p rootList sensitives eligibles (take (length rootList) (replicate 16384 0)) (take (length plan) (replicate 4096 0)) plan
-  unfolding AllNoted Within Along Under
+  unfolding Settled Within Along Under
   kept-from = record {
     size = b .size;
     bits = b .bits;
-    noteSize = part-length 16384 (length rootList) (omega (arith, ap length e, few-roots p (b .accepted)));
-    noted = λ k l. noted-none _ sensitives eligibles _ plan (part-none 16384 (length rootList) k);
+    settledSize = part-length 16384 (length rootList) (omega (arith, ap length e, few-roots p (b .accepted)));
+    settles = λ k l h. absurd (part-none 16384 (length rootList) k h);
     leadSize = part-length 4096 (length plan) (omega (arith, b .size, b .accepted .sizes .normal)) ∙ b .size;
     along = λ row l h. absurd (part-none 4096 (length plan) (getD recordTargets row 0) h);
     under = λ M n w a m h. absurd (part-none 4096 (length plan) m h);

@@ -17,7 +17,7 @@ use Rattle.wrap_rules.specs.Plan.{roots, reached, asked}
 use Rattle.wrap_plan.specs.Planned.{ordersOf, planOf}
 use Rattle.wrap_rules.specs.Passes.{Passed}
 use Rattle.wrap_rules.specs.Spread.{Along, Under, ModuleGraph, Edges, importTargets}
-use Rattle.wrap_rules.specs.Suffix.{AllNoted}
+use Rattle.wrap_rules.specs.Suffix.{Settled}
 
 -- the columns that closing doesn't read, or reads only at first
 pub record Rest : Type 0 where
@@ -103,30 +103,30 @@ pub record Made (p : Project) (labels rootList sensitives eligibles candidates i
   pub headSize : length heads ≡ modules p
 
 -- what holds of the sets that change, before and after each pass
-pub record Kept (p : Project) (rootList sensitives eligibles notes leads plan : List ℕ) : Type 0 where
+pub record Kept (p : Project) (rootList sensitives eligibles settled leads plan : List ℕ) : Type 0 where
   pub size : length plan ≡ modules p
   pub bits : Bits plan
-  pub noteSize : length notes ≡ length rootList
-  pub noted : AllNoted (p .normal) (p .included) (p .recordModule) (p .recordKind) (p .recordTarget) rootList sensitives eligibles notes plan
+  pub settledSize : length settled ≡ length rootList
+  pub settles : Settled (p .normal) (p .included) (p .recordModule) (p .recordKind) (p .recordTarget) rootList sensitives eligibles settled plan
   pub leadSize : length leads ≡ modules p
   pub along : Along (importTargets (p .recordKind) (p .recordTarget)) (p .recordModule) leads
   pub under : Under (importTargets (p .recordKind) (p .recordTarget)) (p .recordModule) plan leads
 
 -- there is a project of which all this holds; `of` puts the rest and the columns together
 unfoldable pub Ready : (Rest → Project) → List ℕ → List ℕ → List ℕ → List ℕ → List ℕ → List ℕ → List ℕ → List ℕ → List ℕ → List ℕ → List ℕ → List ℕ → Type 0
-Ready of labels rootList sensitives eligibles candidates importers targets heads nexts notes leads plan =
-    (rest : Rest) × Made (of rest) labels rootList sensitives eligibles candidates importers targets heads nexts × Kept (of rest) rootList sensitives eligibles notes leads plan
+Ready of labels rootList sensitives eligibles candidates importers targets heads nexts settled leads plan =
+    (rest : Rest) × Made (of rest) labels rootList sensitives eligibles candidates importers targets heads nexts × Kept (of rest) rootList sensitives eligibles settled leads plan
 
 -- one pass of each rule, at every project of which it holds
 unfoldable pub Once : (Rest → Project) → List ℕ → List ℕ → List ℕ → List ℕ → List ℕ → List ℕ → List ℕ → List ℕ → List ℕ → List ℕ → List ℕ → List ℕ → List ℕ → List ℕ → List ℕ → Bool → Type 0
-Once of labels rootList sensitives eligibles candidates importers targets heads nexts notes leads plan notes′ leads′ plan′ changed =
-    (rest : Rest) → Made (of rest) labels rootList sensitives eligibles candidates importers targets heads nexts → Kept (of rest) rootList sensitives eligibles notes leads plan
-    → Kept (of rest) rootList sensitives eligibles notes′ leads′ plan′ × Passed (asked (ordersOf (of rest)) (labelsOf (of rest)) (of rest)) plan plan′ changed
+Once of labels rootList sensitives eligibles candidates importers targets heads nexts settled leads plan settled′ leads′ plan′ changed =
+    (rest : Rest) → Made (of rest) labels rootList sensitives eligibles candidates importers targets heads nexts → Kept (of rest) rootList sensitives eligibles settled leads plan
+    → Kept (of rest) rootList sensitives eligibles settled′ leads′ plan′ × Passed (asked (ordersOf (of rest)) (labelsOf (of rest)) (of rest)) plan plan′ changed
 
 -- the plan is closed, at every project of which it holds
 unfoldable pub Finished : (Rest → Project) → List ℕ → List ℕ → List ℕ → List ℕ → List ℕ → List ℕ → List ℕ → List ℕ → List ℕ → List ℕ → List ℕ → List ℕ → List ℕ → Type 0
-Finished of labels rootList sensitives eligibles candidates importers targets heads nexts notes leads plan plan′ =
-    (rest : Rest) → Made (of rest) labels rootList sensitives eligibles candidates importers targets heads nexts → Kept (of rest) rootList sensitives eligibles notes leads plan
+Finished of labels rootList sensitives eligibles candidates importers targets heads nexts settled leads plan plan′ =
+    (rest : Rest) → Made (of rest) labels rootList sensitives eligibles candidates importers targets heads nexts → Kept (of rest) rootList sensitives eligibles settled leads plan
     → plan′ ≡ close (asked (ordersOf (of rest)) (labelsOf (of rest)) (of rest)) plan
 
 -- what is made of an accepted project before its roots and candidates are, and a plan to start from

@@ -48,12 +48,12 @@ fn close_once<'a>(
     targets: &[u32],
     heads: &[u32],
     nexts: &[u32],
-    notes: &mut [u32],
+    settled: &mut [u32],
     leads: &mut [u32],
     plan: &mut [u32],
 ) -> bool
-    requires { ⌜ Ready (λ rest. whole rest (now normal) (now included) (now reads) (now chunk) (now «record_module») (now «record_kind») (now «record_target») (now «dependency_module») (now dependency) (now «statement_module») (now owner) (now canonical) (now «chain_symbol») (now «chain_link») (now «reference_statement») (now «reference_symbol») (now «depended_reference») (now depended) (now «member_chunk») (now member)) (now labels) (now roots) (now sensitive) (now eligible) (now candidates) (now importers) (now targets) (now heads) (now nexts) (now notes) (now leads) (now plan) ⌝ }
-    ensures { λ r. ⌜ Once (λ rest. whole rest (now (normal .entry)) (now (included .entry)) (now (reads .entry)) (now (chunk .entry)) (now («record_module» .entry)) (now («record_kind» .entry)) (now («record_target» .entry)) (now («dependency_module» .entry)) (now (dependency .entry)) (now («statement_module» .entry)) (now (owner .entry)) (now (canonical .entry)) (now («chain_symbol» .entry)) (now («chain_link» .entry)) (now («reference_statement» .entry)) (now («reference_symbol» .entry)) (now («depended_reference» .entry)) (now (depended .entry)) (now («member_chunk» .entry)) (now (member .entry))) (now (labels .entry)) (now (roots .entry)) (now (sensitive .entry)) (now (eligible .entry)) (now (candidates .entry)) (now (importers .entry)) (now (targets .entry)) (now (heads .entry)) (now (nexts .entry)) (now (notes .entry)) (now (leads .entry)) (now (plan .entry)) (now (notes .exit)) (now (leads .exit)) (now (plan .exit)) r ⌝ }
+    requires { ⌜ Ready (λ rest. whole rest (now normal) (now included) (now reads) (now chunk) (now «record_module») (now «record_kind») (now «record_target») (now «dependency_module») (now dependency) (now «statement_module») (now owner) (now canonical) (now «chain_symbol») (now «chain_link») (now «reference_statement») (now «reference_symbol») (now «depended_reference») (now depended) (now «member_chunk») (now member)) (now labels) (now roots) (now sensitive) (now eligible) (now candidates) (now importers) (now targets) (now heads) (now nexts) (now settled) (now leads) (now plan) ⌝ }
+    ensures { λ r. ⌜ Once (λ rest. whole rest (now (normal .entry)) (now (included .entry)) (now (reads .entry)) (now (chunk .entry)) (now («record_module» .entry)) (now («record_kind» .entry)) (now («record_target» .entry)) (now («dependency_module» .entry)) (now (dependency .entry)) (now («statement_module» .entry)) (now (owner .entry)) (now (canonical .entry)) (now («chain_symbol» .entry)) (now («chain_link» .entry)) (now («reference_statement» .entry)) (now («reference_symbol» .entry)) (now («depended_reference» .entry)) (now (depended .entry)) (now («member_chunk» .entry)) (now (member .entry))) (now (labels .entry)) (now (roots .entry)) (now (sensitive .entry)) (now (eligible .entry)) (now (candidates .entry)) (now (importers .entry)) (now (targets .entry)) (now (heads .entry)) (now (nexts .entry)) (now (settled .entry)) (now (leads .entry)) (now (plan .entry)) (now (settled .exit)) (now (leads .exit)) (now (plan .exit)) r ⌝ }
 {
     let suffixes = close_expected_sensitive_suffixes(
         normal,
@@ -65,7 +65,7 @@ fn close_once<'a>(
         sensitive,
         eligible,
         candidates,
-        notes,
+        settled,
         plan,
     );
     let members = close_cyclic_chunk_members(
@@ -145,12 +145,12 @@ fn close_plan<'a>(
     targets: &[u32],
     heads: &[u32],
     nexts: &[u32],
-    notes: &mut [u32],
+    settled: &mut [u32],
     leads: &mut [u32],
     plan: &mut [u32],
 )
-    requires { ⌜ Ready (λ rest. whole rest (now normal) (now included) (now reads) (now chunk) (now «record_module») (now «record_kind») (now «record_target») (now «dependency_module») (now dependency) (now «statement_module») (now owner) (now canonical) (now «chain_symbol») (now «chain_link») (now «reference_statement») (now «reference_symbol») (now «depended_reference») (now depended) (now «member_chunk») (now member)) (now labels) (now roots) (now sensitive) (now eligible) (now candidates) (now importers) (now targets) (now heads) (now nexts) (now notes) (now leads) (now plan) ⌝ }
-    ensures { λ _. ⌜ Finished (λ rest. whole rest (now (normal .entry)) (now (included .entry)) (now (reads .entry)) (now (chunk .entry)) (now («record_module» .entry)) (now («record_kind» .entry)) (now («record_target» .entry)) (now («dependency_module» .entry)) (now (dependency .entry)) (now («statement_module» .entry)) (now (owner .entry)) (now (canonical .entry)) (now («chain_symbol» .entry)) (now («chain_link» .entry)) (now («reference_statement» .entry)) (now («reference_symbol» .entry)) (now («depended_reference» .entry)) (now (depended .entry)) (now («member_chunk» .entry)) (now (member .entry))) (now (labels .entry)) (now (roots .entry)) (now (sensitive .entry)) (now (eligible .entry)) (now (candidates .entry)) (now (importers .entry)) (now (targets .entry)) (now (heads .entry)) (now (nexts .entry)) (now (notes .entry)) (now (leads .entry)) (now (plan .entry)) (now (plan .exit)) ⌝ }
+    requires { ⌜ Ready (λ rest. whole rest (now normal) (now included) (now reads) (now chunk) (now «record_module») (now «record_kind») (now «record_target») (now «dependency_module») (now dependency) (now «statement_module») (now owner) (now canonical) (now «chain_symbol») (now «chain_link») (now «reference_statement») (now «reference_symbol») (now «depended_reference») (now depended) (now «member_chunk») (now member)) (now labels) (now roots) (now sensitive) (now eligible) (now candidates) (now importers) (now targets) (now heads) (now nexts) (now settled) (now leads) (now plan) ⌝ }
+    ensures { λ _. ⌜ Finished (λ rest. whole rest (now (normal .entry)) (now (included .entry)) (now (reads .entry)) (now (chunk .entry)) (now («record_module» .entry)) (now («record_kind» .entry)) (now («record_target» .entry)) (now («dependency_module» .entry)) (now (dependency .entry)) (now («statement_module» .entry)) (now (owner .entry)) (now (canonical .entry)) (now («chain_symbol» .entry)) (now («chain_link» .entry)) (now («reference_statement» .entry)) (now («reference_symbol» .entry)) (now («depended_reference» .entry)) (now (depended .entry)) (now («member_chunk» .entry)) (now (member .entry))) (now (labels .entry)) (now (roots .entry)) (now (sensitive .entry)) (now (eligible .entry)) (now (candidates .entry)) (now (importers .entry)) (now (targets .entry)) (now (heads .entry)) (now (nexts .entry)) (now (settled .entry)) (now (leads .entry)) (now (plan .entry)) (now (plan .exit)) ⌝ }
 {
     let mut more = true;
     while more {
@@ -184,7 +184,7 @@ fn close_plan<'a>(
             targets,
             heads,
             nexts,
-            notes,
+            settled,
             leads,
             plan,
         );
@@ -247,7 +247,7 @@ fn close_from_roots<'a>(
     let mut heads = [0u32; 4096];
     let mut nexts = [0u32; 16384];
     thread(&targets[..edges], &mut heads[..n], &mut nexts[..edges]);
-    let mut notes = [0u32; 16384];
+    let mut settled = [0u32; 16384];
     let mut leads = [0u32; 4096];
     close_plan(
         normal,
@@ -279,7 +279,7 @@ fn close_from_roots<'a>(
         &targets[..edges],
         &heads[..n],
         &nexts[..edges],
-        &mut notes[..rows],
+        &mut settled[..rows],
         &mut leads[..n],
         plan,
     );

@@ -3,14 +3,14 @@
 use mathlib.Core.Path.{_≡_, refl, sym, ap, subst, _∙_, fun-ext}
 use mathlib.Core.Logic.{_⊎_, ⊎-elim}
 use mathlib.Core.Bool.{Bool, true, false, _&&_, _||_, false≢true}
-use mathlib.Core.List.{List, [], _∷_, _++_, map, List·Memᴰ, List·Memᴰ·head, Memᴰ·of-map}
+use mathlib.Core.List.{List, [], _∷_, _++_, map, map-append, List·Memᴰ, List·Memᴰ·head, Memᴰ·of-map}
 use Prim.Native.Nat.{ℕ, _+_, _-_, _≤_, _<_}
 use native.Mathlib.Omega.{arith}
 use native.Mathlib.Decide.{decLt}
-use lib.ListN.{length, getD, take, drop, length-drop}
+use lib.ListN.{length, getD, take, drop, length-drop, length-set}
 use lib.Seq.{getD-drop, take-length}
 use Rattle.lists.specs.Words.{keep, any, elem, has}
-use Rattle.lists.proofs.Laws.{both, and-parts, and-join, any-append, has-in, mem-keep, keep-mem, elem-mem, mem-elem, any-mem, mem-any}
+use Rattle.lists.proofs.Laws.{both, and-parts, and-join, any-append, has-in, mem-keep, keep-mem, elem-mem, mem-elem, any-mem, mem-any, take-more}
 use Rattle.walk.specs.Close.{Within, Closed, Monotone, Bits}
 use Rattle.tables.specs.Accepted.{Below}
 use Rattle.tables.proofs.Accepted.{getD-mem}
@@ -18,8 +18,9 @@ use Rattle.expected_order.specs.Expected.{expected}
 use Rattle.wrap_rules.specs.Rules.{fromFirst, suffixAsks}
 use Rattle.wrap_rules.specs.Passes.{Passed}
 use Rattle.marks.specs.Steps.{looked, Owners, Added}
+use Rattle.marks.proofs.Steps.{set-has}
 use Rattle.wrap_rules.specs.Asked.{Marks}
-use Rattle.wrap_rules.specs.Suffix.{FirstIn, InSuffix, WholeSuffix, AllPlanned, sensitiveOrders, Candidates}
+use Rattle.wrap_rules.specs.Suffix.{FirstIn, InSuffix, WholeSuffix, AllPlanned, Extended, sensitiveOrders, Settled, Candidates}
 use Rattle.wrap_rules.proofs.Monotone.{suffix-more}
 use Rattle.wrap_rules.proofs.Passes.{join, pass-then}
 use Rattle.wrap_rules.proofs.Rows.{mem-at, fromFirst-places, places-fromFirst}
@@ -219,3 +220,58 @@ take-rest n xs = ap (λ (k : ℕ). take k (drop n xs)) (sym (length-drop n xs)) 
 -- and its values are below what the list's are
 pub below-drop : (n k : ℕ) (xs : List ℕ) → Below n xs → Below n (drop k xs)
 below-drop n k xs b i l = rw (getD-drop k xs i 0) (b (k + i) (omega (arith, length-drop k xs)))
+
+-- a pass over the roots: those before k are done
+module _ (normal included recordModule recordKind recordTarget roots sensitive eligible plan₀ : List ℕ) where
+  abbrev order : ℕ → List ℕ
+  order root = expected normal included recordModule recordKind recordTarget root
+
+  orders-more : (k : ℕ) → k < length roots
+      → sensitiveOrders normal included recordModule recordKind recordTarget sensitive (take k roots) ++ (keep (has sensitive) (order (getD roots k 0)) ∷ [])
+      ≡ sensitiveOrders normal included recordModule recordKind recordTarget sensitive (take (k + 1) roots)
+  unfolding sensitiveOrders
+  orders-more k l =
+      let f : ℕ → List ℕ = λ (root : ℕ). keep (has sensitive) (order root) in
+      sym (map-append f (take k roots) (getD roots k 0 ∷ [])) ∙ ap (map f) (take-more roots k l)
+
+  pub record Walked (k : ℕ) (settled plan : List ℕ) (changed : Bool) : Type 0 where
+    pub len : length settled ≡ length roots
+    pub settles : Settled normal included recordModule recordKind recordTarget roots sensitive eligible settled plan
+    pub passed : Passed (suffixAsks (has eligible) (sensitiveOrders normal included recordModule recordKind recordTarget sensitive (take k roots))) plan₀ plan changed
+
+  pub walked-start : (settled : List ℕ) → length settled ≡ length roots → Settled normal included recordModule recordKind recordTarget roots sensitive eligible settled plan₀ → Bits plan₀
+      → Walked 0 settled plan₀ false
+  unfolding sensitiveOrders
+  walked-start settled n s b = record { len = n; settles = s; passed = no-orders (has eligible) plan₀ b }
+
+  module _ (k : ℕ) (settled plan : List ℕ) (changed : Bool) (w : Walked k settled plan changed) (l : k < length roots) where
+    -- one more pass, of the order of root k
+    more : {plan′ : List ℕ} {r : Bool} → Passed (suffixAsks (has eligible) (keep (has sensitive) (order (getD roots k 0)) ∷ [])) plan plan′ r
+        → Passed (suffixAsks (has eligible) (sensitiveOrders normal included recordModule recordKind recordTarget sensitive (take (k + 1) roots))) plan₀ plan′ (changed || r)
+    more {plan′} {r} p =
+        subst (λ (orders : List (List ℕ)). Passed (suffixAsks (has eligible) orders) plan₀ plan′ (changed || r)) (orders-more k l)
+        (orders-then (has eligible) (sensitiveOrders normal included recordModule recordKind recordTarget sensitive (take k roots)) (keep (has sensitive) (order (getD roots k 0))) (w .passed) p)
+
+    pub walked-skip : has settled k ≡ true → Walked (k + 1) settled plan changed
+    unfolding Settled
+    walked-skip h = record {
+      len = w .len;
+      settles = w .settles;
+      passed = subst (Passed (suffixAsks (has eligible) (sensitiveOrders normal included recordModule recordKind recordTarget sensitive (take (k + 1) roots))) plan₀ plan) (or-none changed)
+          (more (planned-passed sensitive eligible (order (getD roots k 0)) (w .passed .bits) (w .settles k l h)));
+    }
+      where
+        or-none : (b : Bool) → (b || false) ≡ b
+        or-none true = refl
+        or-none false = refl
+
+    pub walked-step : {settled′ plan′ : List ℕ} {r : Bool} → Extended (order (getD roots k 0)) sensitive eligible k settled settled′ plan plan′ r → Walked (k + 1) settled′ plan′ (changed || r)
+    unfolding Settled
+    walked-step {settled′} {plan′} x = record {
+      len = ⊎-elim (λ e. ap length e ∙ w .len) (λ e. ap length (e .0) ∙ length-set settled k 1 ∙ w .len) (x .settles);
+      settles = λ j i h. ⊎-elim (λ e. stays j i (subst (λ (s : List ℕ). has s j ≡ true) e h)) (λ e. ⊎-elim (λ q. subst (λ (m : ℕ). AllPlanned (order (getD roots m 0)) sensitive eligible plan′) (sym q) (e .1)) (stays j i) (set-has settled k j (subst (λ (s : List ℕ). has s j ≡ true) (e .0) h))) (x .settles);
+      passed = more (suffix-passed sensitive eligible (order (getD roots k 0)) (w .passed .bits) (x .added));
+    }
+      where
+        stays : (j : ℕ) → j < length roots → has settled j ≡ true → AllPlanned (order (getD roots j 0)) sensitive eligible plan′
+        stays j i h = planned-more (order (getD roots j 0)) sensitive eligible plan plan′ (x .added .old) (w .settles j i h)

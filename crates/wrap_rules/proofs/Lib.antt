@@ -12,5 +12,4 @@ pub mod Edging
 pub mod Parts
 pub mod Marking
 pub mod Extending
-pub mod Notes
 pub mod Listing

@@ -256,8 +256,8 @@ array-share-prefix-nexts c = view-room (nexts-lent (c .before .before .before .b
 slice-aggregate-close-plan-5 : tie.Need-slice-aggregate-close-plan-5
 slice-aggregate-close-plan-5 c = sym (view-length (nexts-lent (c .before .before .before .before .before .before .before)))
 
-array-borrow-prefix-notes : tie.Need-array-borrow-prefix-notes
-array-borrow-prefix-notes c = few-rows (start (c .before .before .before .before .before .before .before))
+array-borrow-prefix-settled : tie.Need-array-borrow-prefix-settled
+array-borrow-prefix-settled c = few-rows (start (c .before .before .before .before .before .before .before))
 
 slice-aggregate-close-plan-6 : tie.Need-slice-aggregate-close-plan-6
 slice-aggregate-close-plan-6 c = let e = start (c .before .before .before .before .before .before .before .before) in sym (part-length 16384 (rows e) (few-rows e))
@@ -316,7 +316,7 @@ close-from-roots-spec =
     slice-aggregate-close-plan-4
     array-share-prefix-nexts
     slice-aggregate-close-plan-5
-    array-borrow-prefix-notes
+    array-borrow-prefix-settled
     slice-aggregate-close-plan-6
     array-borrow-prefix-leads
     slice-aggregate-close-plan-7

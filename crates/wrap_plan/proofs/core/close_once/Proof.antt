@@ -38,9 +38,9 @@ abbrev MadeOf : tie.Start → Rest → Type 0
 MadeOf e rest = let a = e .args in Made (of e rest) (a .labels .now) (a .roots .now) (a .sensitive .now) (a .eligible .now) (a .candidates .now) (a .importers .now) (a .targets .now) (a .heads .now) (a .nexts .now)
 
 abbrev KeptOf : tie.Start → Rest → List ℕ → List ℕ → List ℕ → Type 0
-KeptOf e rest notes leads plan = let a = e .args in Kept (of e rest) (a .roots .now) (a .sensitive .now) (a .eligible .now) notes leads plan
+KeptOf e rest settled leads plan = let a = e .args in Kept (of e rest) (a .roots .now) (a .sensitive .now) (a .eligible .now) settled leads plan
 
-ready : (e : tie.Start) → let a = e .args in (rest : Rest) × MadeOf e rest × KeptOf e rest (a .notes .now) (a .leads .now) (a .plan .now)
+ready : (e : tie.Start) → let a = e .args in (rest : Rest) × MadeOf e rest × KeptOf e rest (a .settled .now) (a .leads .now) (a .plan .now)
 unfolding Ready
 ready e = e .pre
 
@@ -72,7 +72,7 @@ unfolding Within
 grown k m e = k .close-cyclic-chunk-members .ensures .old m (k .before .before .before .before .before .before .close-expected-sensitive-suffixes .ensures .1 .grows m e)
 
 -- the four passes together
-done : (k : tie.After-close-top-level-readers) → let e = k .before .before .before .before .before .before .before .before .before .before .before .before .before .before .before .before .before .before .before .before .before .before .before .before .before .before .before .before .before .before .before .before .before .before .before .before .before .before .before .before .before .before .before .before .before .before .before .before .before .before .before .before in let a = e .args in (rest : Rest) → MadeOf e rest → KeptOf e rest (a .notes .now) (a .leads .now) (a .plan .now) → (r : Bool)
+done : (k : tie.After-close-top-level-readers) → let e = k .before .before .before .before .before .before .before .before .before .before .before .before .before .before .before .before .before .before .before .before .before .before .before .before .before .before .before .before .before .before .before .before .before .before .before .before .before .before .before .before .before .before .before .before .before .before .before .before .before .before .before .before in let a = e .args in (rest : Rest) → MadeOf e rest → KeptOf e rest (a .settled .now) (a .leads .now) (a .plan .now) → (r : Bool)
     → (k .before .before .before .before .before .before .before .before .before .before .before .before .before .before .before .before .before .close-expected-sensitive-suffixes .result || (k .before .before .before .before .before .before .before .before .before .before .before .close-cyclic-chunk-members .result || (k .before .before .before .before .before .before .close-static-importers .result || k .close-top-level-readers .result))) ≡ r
     → KeptOf e rest (k .before .before .before .before .before .before .before .before .before .before .before .before .before .before .before .before .before .close-expected-sensitive-suffixes .last .1 .1 .1 .1 .1 .1 .1 .1 .1 .0) (k .before .before .before .before .before .before .close-static-importers .last .1 .1 .1 .1 .1 .1 .1 .0) (plan4 k) × Passed (asked (ordersOf (of e rest)) (labelsOf (of e rest)) (of e rest)) (a .plan .now) (plan4 k) r
 done k rest made kept r e =
@@ -87,7 +87,7 @@ close-expected-sensitive-suffixes-requires c κs =
     let a = e .args in
     let g = ready e in
     let n = g .2 .size in
-    (suffixes-ready (of e (g .0)) (a .labels .now) (a .roots .now) (a .sensitive .now) (a .eligible .now) (a .candidates .now) (a .importers .now) (a .targets .now) (a .heads .now) (a .nexts .now) (g .1) (length (a .plan .now)) n, (roots-ready (of e (g .0)) (a .labels .now) (a .roots .now) (a .sensitive .now) (a .eligible .now) (a .candidates .now) (a .importers .now) (a .targets .now) (a .heads .now) (a .nexts .now) (g .1) (length (a .plan .now)) n, (g .2 .noteSize, (g .2 .noted, (g .2 .bits, (orders-ready (of e (g .0)) (a .labels .now) (a .roots .now) (a .sensitive .now) (a .eligible .now) (a .candidates .now) (a .importers .now) (a .targets .now) (a .heads .now) (a .nexts .now) (g .1), candidates-ready (of e (g .0)) (a .labels .now) (a .roots .now) (a .sensitive .now) (a .eligible .now) (a .candidates .now) (a .importers .now) (a .targets .now) (a .heads .now) (a .nexts .now) (g .1) (length (a .plan .now)) n))))))
+    (suffixes-ready (of e (g .0)) (a .labels .now) (a .roots .now) (a .sensitive .now) (a .eligible .now) (a .candidates .now) (a .importers .now) (a .targets .now) (a .heads .now) (a .nexts .now) (g .1) (length (a .plan .now)) n, (roots-ready (of e (g .0)) (a .labels .now) (a .roots .now) (a .sensitive .now) (a .eligible .now) (a .candidates .now) (a .importers .now) (a .targets .now) (a .heads .now) (a .nexts .now) (g .1) (length (a .plan .now)) n, (g .2 .settledSize, (g .2 .settles, (g .2 .bits, (orders-ready (of e (g .0)) (a .labels .now) (a .roots .now) (a .sensitive .now) (a .eligible .now) (a .candidates .now) (a .importers .now) (a .targets .now) (a .heads .now) (a .nexts .now) (g .1), candidates-ready (of e (g .0)) (a .labels .now) (a .roots .now) (a .sensitive .now) (a .eligible .now) (a .candidates .now) (a .importers .now) (a .targets .now) (a .heads .now) (a .nexts .now) (g .1) (length (a .plan .now)) n))))))
 
 close-cyclic-chunk-members-requires : tie.Need-close-cyclic-chunk-members-requires
 close-cyclic-chunk-members-requires c κs =

@@ -22,10 +22,10 @@ use Rattle.wrap_plan.proofs.core.close_plan.Lts as lts
 use Rattle.wrap_plan.proofs.core.close_once.Reads as close-once-reads
 
 abbrev Inv-loop : tie.InvT-loop
-Inv-loop normal included reads chunk record-module record-kind record-target dependency-module dependency statement-module owner canonical chain-symbol chain-link reference-statement reference-symbol depended-reference depended member-chunk member labels roots sensitive eligible candidates importers targets heads nexts notes₀ leads₀ plan₀ more₀ notes leads plan more = (length notes ≡ length notes₀) × (length leads ≡ length leads₀) × (length plan ≡ length plan₀) × ((rest : Rest) → Made (whole rest normal included reads chunk record-module record-kind record-target dependency-module dependency statement-module owner canonical chain-symbol chain-link reference-statement reference-symbol depended-reference depended member-chunk member) labels roots sensitive eligible candidates importers targets heads nexts → Kept (whole rest normal included reads chunk record-module record-kind record-target dependency-module dependency statement-module owner canonical chain-symbol chain-link reference-statement reference-symbol depended-reference depended member-chunk member) roots sensitive eligible notes₀ leads₀ plan₀ → Turning (whole rest normal included reads chunk record-module record-kind record-target dependency-module dependency statement-module owner canonical chain-symbol chain-link reference-statement reference-symbol depended-reference depended member-chunk member) roots sensitive eligible notes leads plan₀ plan more)
+Inv-loop normal included reads chunk record-module record-kind record-target dependency-module dependency statement-module owner canonical chain-symbol chain-link reference-statement reference-symbol depended-reference depended member-chunk member labels roots sensitive eligible candidates importers targets heads nexts settled₀ leads₀ plan₀ more₀ settled leads plan more = (length settled ≡ length settled₀) × (length leads ≡ length leads₀) × (length plan ≡ length plan₀) × ((rest : Rest) → Made (whole rest normal included reads chunk record-module record-kind record-target dependency-module dependency statement-module owner canonical chain-symbol chain-link reference-statement reference-symbol depended-reference depended member-chunk member) labels roots sensitive eligible candidates importers targets heads nexts → Kept (whole rest normal included reads chunk record-module record-kind record-target dependency-module dependency statement-module owner canonical chain-symbol chain-link reference-statement reference-symbol depended-reference depended member-chunk member) roots sensitive eligible settled₀ leads₀ plan₀ → Turning (whole rest normal included reads chunk record-module record-kind record-target dependency-module dependency statement-module owner canonical chain-symbol chain-link reference-statement reference-symbol depended-reference depended member-chunk member) roots sensitive eligible settled leads plan₀ plan more)
 
 abbrev μ-loop : tie.MeasureT-loop
-μ-loop normal included reads chunk record-module record-kind record-target dependency-module dependency statement-module owner canonical chain-symbol chain-link reference-statement reference-symbol depended-reference depended member-chunk member labels roots sensitive eligible candidates importers targets heads nexts notes₀ leads₀ plan₀ more₀ notes leads plan more = zeros plan + bit more
+μ-loop normal included reads chunk record-module record-kind record-target dependency-module dependency statement-module owner canonical chain-symbol chain-link reference-statement reference-symbol depended-reference depended member-chunk member labels roots sensitive eligible candidates importers targets heads nexts settled₀ leads₀ plan₀ more₀ settled leads plan more = zeros plan + bit more
 
 -- the project with a rest, and what is known of it
 
@@ -36,9 +36,9 @@ abbrev MadeOf : tie.Start Inv-loop μ-loop → Rest → Type 0
 MadeOf e rest = let a = e .args in Made (of e rest) (a .labels .now) (a .roots .now) (a .sensitive .now) (a .eligible .now) (a .candidates .now) (a .importers .now) (a .targets .now) (a .heads .now) (a .nexts .now)
 
 abbrev KeptOf : tie.Start Inv-loop μ-loop → Rest → List ℕ → List ℕ → List ℕ → Type 0
-KeptOf e rest notes leads plan = let a = e .args in Kept (of e rest) (a .roots .now) (a .sensitive .now) (a .eligible .now) notes leads plan
+KeptOf e rest settled leads plan = let a = e .args in Kept (of e rest) (a .roots .now) (a .sensitive .now) (a .eligible .now) settled leads plan
 
-ready : (e : tie.Start Inv-loop μ-loop) → let a = e .args in (rest : Rest) × MadeOf e rest × KeptOf e rest (a .notes .now) (a .leads .now) (a .plan .now)
+ready : (e : tie.Start Inv-loop μ-loop) → let a = e .args in (rest : Rest) × MadeOf e rest × KeptOf e rest (a .settled .now) (a .leads .now) (a .plan .now)
 unfolding Ready
 ready e = e .pre
 
@@ -46,7 +46,7 @@ ready e = e .pre
 abbrev Pass : Type 0
 Pass = tie.After-close-once Inv-loop μ-loop
 
-passed : (k : Pass) → let e = k .before .before .before .before .before .before .before .before .before .before .before .before .before .before .before .before .before .before .before .before .before .before .before .before .before .before .before .before .before .before .before .before .before .before .before .before .before .before in let l = k .before .before .before .before .before in (rest : Rest) → MadeOf e rest → KeptOf e rest (l .loop .notes) (l .loop .leads) (l .loop .plan)
+passed : (k : Pass) → let e = k .before .before .before .before .before .before .before .before .before .before .before .before .before .before .before .before .before .before .before .before .before .before .before .before .before .before .before .before .before .before .before .before .before .before .before .before .before .before in let l = k .before .before .before .before .before in (rest : Rest) → MadeOf e rest → KeptOf e rest (l .loop .settled) (l .loop .leads) (l .loop .plan)
     → KeptOf e rest (k .close-once .last .1 .1 .1 .1 .1 .1 .1 .1 .1 .1 .1 .1 .1 .1 .1 .1 .1 .1 .1 .1 .1 .1 .1 .1 .1 .1 .1 .1 .1 .0) (k .close-once .last .1 .1 .1 .1 .1 .1 .1 .1 .1 .1 .1 .1 .1 .1 .1 .1 .1 .1 .1 .1 .1 .1 .1 .1 .1 .1 .1 .1 .1 .1 .0) (k .close-once .last .1 .1 .1 .1 .1 .1 .1 .1 .1 .1 .1 .1 .1 .1 .1 .1 .1 .1 .1 .1 .1 .1 .1 .1 .1 .1 .1 .1 .1 .1 .1 .0) × Passed (asked (ordersOf (of e rest)) (labelsOf (of e rest)) (of e rest)) (l .loop .plan) (k .close-once .last .1 .1 .1 .1 .1 .1 .1 .1 .1 .1 .1 .1 .1 .1 .1 .1 .1 .1 .1 .1 .1 .1 .1 .1 .1 .1 .1 .1 .1 .1 .1 .0) (k .close-once .result)
 unfolding Once
 passed k = k .close-once .ensures
@@ -97,8 +97,8 @@ returns c =
     let a = e .args in
     let l = c .before in
     λ rest made kept.
-    turning-end (of e rest) (a .roots .now) (a .sensitive .now) (a .eligible .now) (l .loop .notes) (l .loop .leads) (a .plan .now) (l .loop .plan) (kept .bits)
-    (subst (Turning (of e rest) (a .roots .now) (a .sensitive .now) (a .eligible .now) (l .loop .notes) (l .loop .leads) (a .plan .now) (l .loop .plan)) (c .loop-test .left) (l .loop .inv .3 rest made kept))
+    turning-end (of e rest) (a .roots .now) (a .sensitive .now) (a .eligible .now) (l .loop .settled) (l .loop .leads) (a .plan .now) (l .loop .plan) (kept .bits)
+    (subst (Turning (of e rest) (a .roots .now) (a .sensitive .now) (a .eligible .now) (l .loop .settled) (l .loop .leads) (a .plan .now) (l .loop .plan)) (c .loop-test .left) (l .loop .inv .3 rest made kept))
 
 pub close-plan-spec : {M : Type 1} → statement M
 close-plan-spec =

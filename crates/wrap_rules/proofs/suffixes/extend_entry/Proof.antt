@@ -7,11 +7,10 @@ use native.Mathlib.Omega.{arith}
 use lib.ListN.{length, getD, take, drop, replicate, length-append}
 use lib.Seq.{take-at}
 use borrow.Author.Needs.{needs}
-use Rattle.lists.specs.Words.{Distinct}
 use Rattle.tables.proofs.Accepted.{getD-mem}
 use Rattle.expected_order.specs.Expected.{expected}
 use Rattle.expected_order.specs.Visit.{Fit}
-use Rattle.expected_order.proofs.Laws.{expected-in, expected-length, expected-distinct}
+use Rattle.expected_order.proofs.Laws.{expected-in, expected-length}
 use Rattle.wrap_rules.specs.Suffix.{Extended}
 use Rattle.wrap_rules.proofs.Parts.{part-length}
 use borrow.Author.Needs.{needs}
@@ -85,9 +84,7 @@ extend-order-requires : tie.Need-extend-order-requires
 extend-order-requires c κs =
     let k = c .before .before .before .before .before in
     let e = c .before .before .before .before .before .before .before .before .before .before .before .before .before .before .before .before .before in
-    let a = e .args in
-    let once = expected-distinct (a .normal .now) (a .included .now) (a .record-module .now) (a .record-kind .now) (a .record-target .now) (a .root) in
-    (subst (λ (xs : List ℕ). (i : ℕ) → i < length xs → getD xs i 0 < size e) (sym (read k)) (inside e), (subst Distinct (sym (read k)) once, (e .pre .0 .sensitives, (e .pre .0 .eligibles, (e .pre .0 .few, e .pre .1 .1)))))
+    (subst (λ (xs : List ℕ). (i : ℕ) → i < length xs → getD xs i 0 < size e) (sym (read k)) (inside e), (e .pre .0 .sensitives, (e .pre .0 .eligibles, (e .pre .0 .few, e .pre .1 .1))))
 
 same-length : tie.Need-same-length
 same-length c = search needs
@@ -100,7 +97,7 @@ returns c =
     let k = c .before .before .before .before .before .before .before .before .before .before in
     let a = c .before .before .before .before .before .before .before .before .before .before .before .before .before .before .before .before .before .before .before .before .before .before .args in
     let x = c .before .before .before .before .extend-order in
-    subst (λ (xs : List ℕ). Extended xs (a .sensitive .now) (a .eligible .now) (a .k) (a .notes .now) (x .last .1 .1 .1 .0) (a .plan .now) (x .last .1 .1 .1 .1 .0) (x .result)) (read k) (x .ensures)
+    subst (λ (xs : List ℕ). Extended xs (a .sensitive .now) (a .eligible .now) (a .k) (a .settled .now) (x .last .1 .1 .1 .0) (a .plan .now) (x .last .1 .1 .1 .1 .0) (x .result)) (read k) (x .ensures)
 
 pub extend-entry-spec : {M : Type 1} → statement M
 extend-entry-spec =
