@@ -10,7 +10,7 @@ use native.Mathlib.Omega.{arith}
 use lib.ListN.{length, getD, replicate, length-replicate, getD-replicate}
 use lib.Seq.{ext-getD}
 use Rattle.lists.specs.Words.{upTo, keep, any, elem, has}
-use Rattle.lists.proofs.Laws.{both, and-parts, and-join, iff-eq, any-mem, mem-any, keep-mem, keep-cong, elem-mem, mem-elem, mem-upTo, upTo-mem, has-in, has-marksOf, length-marksOf}
+use Rattle.lists.proofs.Laws.{both, and-parts, and-join, iff-eq, any-mem, mem-any, keep-mem, keep-cong, elem-mem, mem-elem, mem-upTo, upTo-mem, has-in, has-marksOf, length-marksOf, getD-map-upTo, length-map-upTo}
 use Rattle.walk.specs.Reach.{Reach, here, step, Reach⁺}
 use Rattle.walk.specs.Walk.{everywhere}
 use Rattle.walk.proofs.Orders.{reach-next, order-met}
@@ -20,7 +20,7 @@ use Rattle.chunk_cycles.specs.Cycles.{reached, connected, component, cyc
 use Rattle.chunk_cycles.specs.Graph.{Graph}
 use Rattle.chunk_cycles.specs.Steps.{reachMarks, inBoth, relabelled, componentLabelled, labelled, labelledAt}
 use Rattle.tables.proofs.OwnerRows.{values-row, row-values}
-use Rattle.chunk_cycles.proofs.Lists.{getD-map-upTo, length-map-upTo, map-upTo-cong, map-upTo-self, keep-map}
+use Rattle.chunk_cycles.proofs.Lists.{map-upTo-cong, map-upTo-self, keep-map}
 use Rattle.chunk_cycles.proofs.Strong.{reached-reach, reach-reached, connected-reach, reach-connected, connected-in, connected-self, connected-sym, connected-trans, cyclic-same, cyclic-reach, reach-cyclic, lowest, lowest-in, lowest-same, label-cyclic, label-none, label-test}
 use Rattle.chunk_cycles.proofs.Paths.{graph-inside}
 use Rattle.chunk_cycles.proofs.Numbers.{circle-rises}

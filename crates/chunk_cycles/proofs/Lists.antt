@@ -2,16 +2,16 @@
 -- Assumes nothing.
 use mathlib.Core.Path.{_≡_, refl, sym, ap, _∙_}
 use mathlib.Core.Logic.{⊎-elim}
-use mathlib.Core.Bool.{Bool, true, false, cond, not, _&&_, _||_, true≢false}
+use mathlib.Core.Bool.{Bool, true, false, cond, _||_, true≢false}
 use mathlib.Core.List.{List, [], _∷_, map}
 use Prim.Native.Nat.{ℕ, zero, suc, _+_, _≤_, _<_}
-use native.Mathlib.Nat.{eq-or-lt-of-le, zero-add, add-zero, add-suc, suc-add}
+use native.Mathlib.Nat.{eq-or-lt-of-le, zero-add}
 use native.Mathlib.Numerals.{add-one}
 use native.Mathlib.Omega.{arith}
-use lib.ListN.{length, getD, drop, length-map}
+use lib.ListN.{length, getD, drop}
 use lib.Seq.{ext-getD, drop-cons}
-use Rattle.lists.specs.Words.{isZero, countFrom, upTo, keep, any}
-use Rattle.lists.proofs.Laws.{both, length-countFrom, countFrom-append, mem-any, any-append, keep-none, upTo-mem}
+use Rattle.lists.specs.Words.{countFrom, upTo, keep, any}
+use Rattle.lists.proofs.Laws.{both, getD-map-upTo, length-map-upTo, countFrom-append, mem-any, any-append, keep-none, upTo-mem}
 use Rattle.tables.specs.Project.{missing}
 use Rattle.tables.specs.Readings.{firstOf}
 
@@ -25,27 +25,7 @@ first-keep f i (suc n) x a b e =
     (λ t. rw t (⊎-elim (λ q. absurd (true≢false (sym e ∙ sym (ap f q) ∙ t))) (λ q. let r = first-keep f (suc i) n x q (omega arith) e in (r .0, r .1, omega (arith, r .2))) (eq-or-lt-of-le a)))
     (both (f i))
 
--- a list by a function of its places
-getD-map-from : (f : ℕ → ℕ) (i n k d : ℕ) → k < n → getD (map f (countFrom i n)) k d ≡ f (i + k)
-getD-map-from f i zero k d l = absurd (omega arith)
-getD-map-from f i (suc n) zero d l = ap f (sym (add-zero i))
-getD-map-from f i (suc n) (suc k) d l = getD-map-from f (suc i) n k d (omega arith) ∙ ap f (suc-add i k ∙ sym (add-suc i k))
-
-pub getD-map-upTo : (f : ℕ → ℕ) (n k d : ℕ) → k < n → getD (map f (upTo n)) k d ≡ f k
-getD-map-upTo f n k d l = getD-map-from f 0 n k d l ∙ ap f (zero-add k)
-
--- a mark that is not 0 is in, and one that is 0 is out
-pub mark-in : (x : ℕ) → (x ≡ 0 → ⊥) → not (isZero x) ≡ true
-mark-in zero k = absurd (k refl)
-mark-in (suc x) k = refl
-
-pub mark-out : (x : ℕ) → x ≡ 0 → not (isZero x) ≡ false
-mark-out x e = ap (λ (y : ℕ). not (isZero y)) e
-
 -- two lists by functions of their places
-pub length-map-upTo : (f : ℕ → ℕ) (n : ℕ) → length (map f (upTo n)) ≡ n
-length-map-upTo f n = length-map (upTo n) f ∙ length-countFrom 0 n
-
 pub map-upTo-cong : (f g : ℕ → ℕ) (n : ℕ) → ((d : ℕ) → d < n → f d ≡ g d) → map f (upTo n) ≡ map g (upTo n)
 map-upTo-cong f g n h =
     ext-getD 0 (map f (upTo n)) (map g (upTo n)) (length-map-upTo f n ∙ sym (length-map-upTo g n))
@@ -91,13 +71,3 @@ first-at f n i l none e =
 pub first-none : (f : ℕ → Bool) (n : ℕ) → any f (upTo n) ≡ false → missing ≡ firstOf (keep f (upTo n))
 first-none f n e =
     sym (ap firstOf (keep-none f (upTo n) (λ x h. ⊎-elim (λ t. absurd (true≢false (sym (mem-any f (upTo n) h t) ∙ e))) (λ t. t) (both (f x)))))
-
--- within a list the value that stands past its end does not matter
-pub getD-in : (xs : List ℕ) (i d e : ℕ) → i < length xs → getD xs i d ≡ getD xs i e
-getD-in [] i d e l = absurd (omega arith)
-getD-in (x ∷ xs) zero d e l = refl
-getD-in (x ∷ xs) (suc i) d e l = getD-in xs i d e (omega arith)
-
-pub and-out : (a b : Bool) → b ≡ false → (a && b) ≡ false
-and-out true b e = e
-and-out false b e = refl

@@ -9,7 +9,7 @@ use native.Mathlib.Omega.{arith}
 use lib.ListN.{length, getD, set, replicate, length-set, length-map}
 use lib.Seq.{getD-set-same, getD-set-other, ext-getD}
 use Rattle.lists.specs.Words.{isZero, upTo}
-use Rattle.lists.proofs.Laws.{length-countFrom}
+use Rattle.lists.proofs.Laws.{length-countFrom, getD-map-upTo}
 use Rattle.walk.specs.Walk.{St, everywhere, unmet, Visits}
 use Rattle.walk.proofs.Visits.{Grown, walk-fold}
 use Rattle.walk.proofs.Orders.{order-marks}
@@ -19,7 +19,6 @@ use Rattle.tables.specs.Threads.{NextRow}
 use Rattle.tables.proofs.Threads.{At, at-next, passed, passed-first, passed-next, passed-all}
 use Rattle.chunk_cycles.specs.Cycles.{reached}
 use Rattle.chunk_cycles.specs.Steps.{marking, nothing, Marked, reachMarks, relabelled}
-use Rattle.chunk_cycles.proofs.Lists.{getD-map-upTo}
 
 -- visiting
 

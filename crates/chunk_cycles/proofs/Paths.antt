@@ -11,7 +11,7 @@ use lib.ListN.{getD, length-map, List·getD-eq-default}
 use lib.Dec.{eqb}
 use borrow.Author.Tests.{eqb-true, eqb-false, eq-eqb, ne-eqb}
 use Rattle.lists.specs.Words.{upTo, elem}
-use Rattle.lists.proofs.Laws.{both, not-true, and-parts, and-join, length-countFrom}
+use Rattle.lists.proofs.Laws.{both, not-true, and-parts, and-join, length-countFrom, getD-map-upTo}
 use Rattle.walk.specs.Reach.{Reach, here, step, Reach⁺}
 use Rattle.tables.specs.Project.{Project, missing}
 use Rattle.tables.specs.Readings.{chunks, valuesOf}
@@ -19,7 +19,6 @@ use Rattle.chunk_cycles.specs.Cycles.{reached, connected, cyclic, label,
 use Rattle.chunk_cycles.specs.Paths.{Edge, Path*, stay, go, Path⁺, Connected, Cyclic, Lowest, MoreImports}
 use Rattle.chunk_cycles.specs.Graph.{Graph, ImportsFit}
 use Rattle.tables.proofs.OwnerRows.{values-row, row-values}
-use Rattle.chunk_cycles.proofs.Lists.{getD-map-upTo}
 use Rattle.chunk_cycles.proofs.Strong.{reached-reach, reach-reached, connected-reach, reach-connected, cyclic-cases, other-cyclic, edge-cyclic, cyclic-reach, reach-cyclic, lowest, lowest-least, lowest-connected, label-cyclic, label-none, same-label, label-same, cycle-reach, reach-cycle}
 
 -- edges of columns lead to places below n

@@ -20,7 +20,7 @@ use Rattle.chunk_cycles.specs.Cycles.{labels, importedBy, labelsOf, cycl
 use Rattle.chunk_cycles.specs.Graph.{ImportsFit}
 use Rattle.chunk_cycles.specs.Steps.{ChunksLabelled}
 use Rattle.chunk_cycles.specs.Operations.{labelsNumber, LabelsPromise, reachNumber, ReachPromise}
-use Rattle.chunk_cycles.proofs.Lists.{length-map-upTo}
+use Rattle.lists.proofs.Laws.{length-map-upTo}
 
 -- the import rows of an accepted project are a graph over its chunks
 pub accepted-fit : (p : Project) → Accepted p → ImportsFit p

@@ -9,7 +9,7 @@ use native.Mathlib.Nat.{not-suc-le-zero, eq-or-lt-of-le, zero-add, add-zero, add
 use native.Mathlib.Numerals.{add-one}
 use native.Mathlib.Omega.{arith}
 use native.Mathlib.Decide.{ℕ-discrete, decLt}
-use lib.ListN.{length, getD, set, take, drop, replicate, replicate-append-replicate, length-append, List·getD-eq-default}
+use lib.ListN.{length, getD, set, take, drop, replicate, replicate-append-replicate, length-append, length-map, List·getD-eq-default}
 use lib.Seq.{ext-getD, drop-cons, set-at, append-snoc, take-suc}
 use lib.Dec.{eqb, ltb, leb}
 use borrow.Author.Tests.{eq-eqb, ne-eqb, eqb-true}
@@ -36,6 +36,10 @@ and-parts false b e = absurd (false≢true e)
 pub and-join : (a b : Bool) → a ≡ true → b ≡ true → (a && b) ≡ true
 and-join true b e f = f
 and-join false b e f = e
+
+pub and-out : (a b : Bool) → b ≡ false → (a && b) ≡ false
+and-out true b e = e
+and-out false b e = refl
 
 pub or-parts : (a b : Bool) → (a || b) ≡ true → (a ≡ true) ⊎ (b ≡ true)
 or-parts true b e = inl refl
@@ -279,3 +283,29 @@ ones-in s i l n = ap ones (drop-cons s i 0 l) ∙ one (getD s i 0) n ∙ ap (λ 
 pub ones-out : (s : List ℕ) (i : ℕ) → i < length s → getD s i 0 ≡ 0 → ones (drop i s) ≡ ones (drop (i + 1) s)
 ones-out s i l e =
     ap ones (drop-cons s i 0 l) ∙ ap (λ (x : ℕ). ones (x ∷ drop (suc i) s)) e ∙ ap (λ (j : ℕ). ones (drop j s)) (sym (add-one i))
+
+-- a mark that is not 0 is in, and one that is 0 is out
+pub mark-in : (x : ℕ) → (x ≡ 0 → ⊥) → not (isZero x) ≡ true
+mark-in zero k = absurd (k refl)
+mark-in (suc x) k = refl
+
+pub mark-out : (x : ℕ) → x ≡ 0 → not (isZero x) ≡ false
+mark-out x e = ap (λ (y : ℕ). not (isZero y)) e
+
+-- a list by a function of its places
+getD-map-from : (f : ℕ → ℕ) (i n k d : ℕ) → k < n → getD (map f (countFrom i n)) k d ≡ f (i + k)
+getD-map-from f i zero k d l = absurd (omega arith)
+getD-map-from f i (suc n) zero d l = ap f (sym (add-zero i))
+getD-map-from f i (suc n) (suc k) d l = getD-map-from f (suc i) n k d (omega arith) ∙ ap f (suc-add i k ∙ sym (add-suc i k))
+
+pub getD-map-upTo : (f : ℕ → ℕ) (n k d : ℕ) → k < n → getD (map f (upTo n)) k d ≡ f k
+getD-map-upTo f n k d l = getD-map-from f 0 n k d l ∙ ap f (zero-add k)
+
+pub length-map-upTo : (f : ℕ → ℕ) (n : ℕ) → length (map f (upTo n)) ≡ n
+length-map-upTo f n = length-map (upTo n) f ∙ length-countFrom 0 n
+
+-- within a list the value that stands past its end does not matter
+pub getD-in : (xs : List ℕ) (i d e : ℕ) → i < length xs → getD xs i d ≡ getD xs i e
+getD-in [] i d e l = absurd (omega arith)
+getD-in (x ∷ xs) zero d e l = refl
+getD-in (x ∷ xs) (suc i) d e l = getD-in xs i d e (omega arith)

@@ -10,12 +10,11 @@ use native.Mathlib.Decide.{ℕ-discrete, decLt}
 use lib.ListN.{length, getD, set, length-set, List·getD-eq-default}
 use lib.Seq.{ext-getD, getD-set-same, getD-set-other}
 use Rattle.lists.specs.Words.{isZero, upTo, has}
-use Rattle.lists.proofs.Laws.{has-in}
+use Rattle.lists.proofs.Laws.{has-in, mark-in, mark-out, getD-map-upTo, length-map-upTo}
 use Rattle.walk.specs.Close.{Within, Bits}
 use Rattle.walk.proofs.Visits.{fresh-zero, set-zeros, set-bits}
 use Rattle.tables.specs.Lookups.{greaterOf}
 use Rattle.tables.proofs.Greater.{greater-first, greater-second, greater-one}
-use Rattle.chunk_cycles.proofs.Lists.{mark-in, mark-out, getD-map-upTo, length-map-upTo}
 use Rattle.marks.specs.Steps.{looked, Raised, Owners, Adding, Added}
 
 -- writing a column from place 0

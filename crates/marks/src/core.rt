@@ -1,7 +1,9 @@
 // For crates above, on tested tables.
 ghost use mathlib.Core.Path.{_≡_};
-ghost use Prim.Native.Nat.{_<_};
+ghost use mathlib.Core.Bool.{true, false};
+ghost use Prim.Native.Nat.{ℕ, _<_};
 ghost use lib.ListN.{length, getD};
+ghost use Rattle.lists.specs.Words.{has};
 ghost use Rattle.tables.specs.Project.{missing};
 ghost use Rattle.tables.specs.Accepted.{Below};
 ghost use Rattle.marks.specs.Steps.{looked, Raised, Owners, Added, InAll};
@@ -88,4 +90,24 @@ pub fn add(first: &[u32], second: &[u32], third: &[u32], set: &mut [u32]) -> boo
         changed = true;
     }
     changed
+}
+
+// Whether a member of two sets is out of a third.
+pub fn any_open(first: &[u32], second: &[u32], set: &[u32]) -> bool
+    requires one { ⌜ length (now first) ≡ length (now set) ⌝ }
+    requires two { ⌜ length (now second) ≡ length (now set) ⌝ }
+    ensures { λ r. ⌜ (r ≡ false → (m : ℕ) → m < length (now (set .entry)) → has (now (first .entry)) m ≡ true → has (now (second .entry)) m ≡ true → has (now (set .entry)) m ≡ true) ⌝ }
+{
+    for m in 0..set.len() {
+        if second[m] == 0 {
+            continue;
+        }
+        if set[m] != 0 {
+            continue;
+        }
+        if first[m] != 0 {
+            return true;
+        }
+    }
+    false
 }

@@ -11,7 +11,7 @@ use lib.ListN.{length, getD, List·getD-eq-default}
 use lib.Dec.{eqb}
 use borrow.Author.Tests.{eq-eqb, ne-eqb, eqb-true, eqb-false}
 use Rattle.lists.specs.Words.{isZero, upTo, keep, has, marksOf}
-use Rattle.lists.proofs.Laws.{both, not-true, and-parts, and-join, or-parts, or-left, or-right, has-in, length-marksOf}
+use Rattle.lists.proofs.Laws.{both, not-true, and-parts, and-join, or-parts, or-left, or-right, has-in, length-marksOf, getD-in, getD-map-upTo, length-map-upTo, mark-in}
 use Rattle.walk.specs.Close.{Within, Bits}
 use Rattle.tables.specs.Project.{Project, missing}
 use Rattle.tables.specs.Readings.{modules, chunks, flagged, isImport}
@@ -19,7 +19,6 @@ use Rattle.tables.specs.Accepted.{Accepted}
 use Rattle.expected_order.specs.Expected.{expected}
 use Rattle.expected_order.specs.OfProject.{expectedOf}
 use Rattle.chunk_cycles.specs.Cycles.{label, labels, cyclic, importedBy, labelsOf}
-use Rattle.chunk_cycles.proofs.Lists.{getD-in, getD-map-upTo, length-map-upTo, mark-in}
 use Rattle.chunk_cycles.proofs.Paths.{graph-inside}
 use Rattle.chunk_cycles.proofs.Promises.{accepted-fit}
 use Rattle.chunk_cycles.proofs.Strong.{lowest-in, label-cyclic, label-none}

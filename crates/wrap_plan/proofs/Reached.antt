@@ -12,7 +12,7 @@ use lib.Seq.{ext-getD}
 use lib.Dec.{eqb}
 use borrow.Author.Tests.{lt-ltb, ltb-true, eqb-true, eq-eqb, ne-eqb}
 use Rattle.lists.specs.Words.{countFrom, upTo, keep, any, elem, has, bit, marksOf}
-use Rattle.lists.proofs.Laws.{both, not-false, and-parts, and-join, or-parts, or-left, or-right, iff-eq, has-in, mem-keep, keep-mem, keep-append, elem-mem, mem-elem, mem-upTo, countFrom-append, length-keep, length-countFrom, length-marksOf, has-marksOf, marksOf-at, marksOf-has, marksOf-cong, front-more}
+use Rattle.lists.proofs.Laws.{both, not-false, and-parts, and-join, or-parts, or-left, or-right, iff-eq, has-in, mem-keep, keep-mem, keep-append, elem-mem, mem-elem, mem-upTo, countFrom-append, length-keep, length-countFrom, length-marksOf, has-marksOf, marksOf-at, marksOf-has, marksOf-cong, front-more, mark-in}
 use Rattle.walk.specs.Walk.{everywhere, postOrder}
 use Rattle.walk.specs.Reach.{Reach, here, step, ReachAny, passing, through}
 use Rattle.walk.specs.Close.{Within, Bits}
@@ -26,7 +26,6 @@ use Rattle.tables.proofs.Accepted.{getD-mem}
 use Rattle.expected_order.specs.Expected.{expected}
 use Rattle.expected_order.proofs.Laws.{imports-in, expected-member}
 use Rattle.actual_order.proofs.Actuals.{mem-flat}
-use Rattle.chunk_cycles.proofs.Lists.{mark-in}
 use Rattle.sensitivity.specs.Marks.{eligible}
 use Rattle.sensitivity.proofs.Marks.{eligible-normal, eligible-in}
 use Rattle.wrap_rules.specs.Rules.{importsOf}

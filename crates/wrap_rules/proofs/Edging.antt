@@ -12,12 +12,11 @@ use lib.Seq.{getD-set-same, getD-set-other}
 use lib.Dec.{eqb}
 use borrow.Author.Tests.{eqb-true, eqb-false}
 use Rattle.lists.specs.Words.{has}
-use Rattle.lists.proofs.Laws.{both, has-in}
+use Rattle.lists.proofs.Laws.{both, has-in, getD-map-upTo, length-map-upTo}
 use Rattle.walk.specs.Close.{Within}
 use Rattle.tables.specs.Project.{missing}
 use Rattle.tables.specs.Readings.{isImport, resolved, anyTarget}
 use Rattle.tables.specs.Threads.{Threadable, Threads}
-use Rattle.chunk_cycles.proofs.Lists.{getD-map-upTo, length-map-upTo}
 use Rattle.chunk_cycles.specs.Threads.{Linked}
 use Rattle.wrap_rules.specs.Spread.{Along, Under, Spreads, Spreadable, ModuleGraph, EdgesBelow, Edges, importTargets}
 use Rattle.wrap_rules.specs.Asked.{Row}

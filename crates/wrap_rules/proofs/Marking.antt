@@ -10,13 +10,12 @@ use native.Mathlib.Decide.{ℕ-discrete}
 use lib.ListN.{length, getD, set}
 use lib.Seq.{getD-set-same, getD-set-other}
 use Rattle.lists.specs.Words.{isZero, has, ones}
-use Rattle.lists.proofs.Laws.{has-in}
+use Rattle.lists.proofs.Laws.{has-in, mark-in, mark-out, getD-in}
 use Rattle.walk.specs.Close.{Within}
 use Rattle.tables.specs.Lookups.{greaterOf}
 use Rattle.tables.specs.Project.{missing}
 use Rattle.tables.specs.Accepted.{Below}
 use Rattle.tables.proofs.Greater.{greater-first, greater-second, greater-one}
-use Rattle.chunk_cycles.proofs.Lists.{mark-in, mark-out, getD-in}
 use Rattle.marks.specs.Steps.{looked, Owners, InAll}
 use Rattle.wrap_rules.specs.Asked.{Marks, Together, Row, Importer, ChainTouch, SymbolTouch, ReferenceTouch, Touching, bySymbol, byDepended, Reader, TopLevelRead, Linking}
 use Rattle.marks.proofs.Steps.{length-looked, looked-at, looked-has, has-looked}

@@ -5,24 +5,17 @@ use mathlib.Core.Logic.{_⊎_, inl, inr, ⊎-elim}
 use mathlib.Core.Bool.{Bool, true, not, _&&_, _||_}
 use mathlib.Core.List.{List, [], _∷_}
 use Prim.Native.Nat.{ℕ, zero, suc, _<_}
-use native.Mathlib.Nat.{not-suc-le-zero}
 use native.Mathlib.Omega.{arith}
 use lib.ListN.{length, getD}
 use lib.Dec.{eqb}
 use borrow.Author.Tests.{eq-eqb, ne-eqb, eqb-false}
 use Rattle.lists.specs.Words.{any, has}
-use Rattle.lists.proofs.Laws.{both, not-true, and-parts, and-join, or-parts, or-left, or-right, any-mem, mem-any}
+use Rattle.lists.proofs.Laws.{both, not-true, and-parts, and-join, or-parts, or-left, or-right, any-mem, mem-any, getD-in}
 use Rattle.tables.specs.Project.{Project, missing}
 use Rattle.tables.specs.Readings.{valuesOf}
 use Rattle.tables.specs.Accepted.{Accepted}
 use Rattle.tables.proofs.OwnerRows.{values-row, row-values}
 use Rattle.wrap_rules.specs.Rules.{chainTouches, symbolTouches, referenceTouches}
-
--- a row of a column is the same whatever stands for a missing row
-pub getD-in : (xs : List ℕ) (i a b : ℕ) → i < length xs → getD xs i a ≡ getD xs i b
-getD-in [] i a b l = absurd (not-suc-le-zero l)
-getD-in (x ∷ xs) zero a b l = refl
-getD-in (x ∷ xs) (suc i) a b l = getD-in xs i a b (omega arith)
 
 module _ (p : Project) (S : List ℕ) where
   -- a symbol's owner is planned, or the owner of a link of its chain

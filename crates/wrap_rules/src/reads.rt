@@ -10,6 +10,7 @@ ghost use Rattle.marks.specs.Steps.{Added};
 ghost use Rattle.wrap_rules.specs.Asked.{Marks, ChainTouch, SymbolTouch, ReferenceTouch, Touching, Reader, Linking, Symbols, Depending, Reading, TopLevelRead};
 use lists::core::copy_to;
 use marks::core::add;
+use marks::core::any_open;
 use marks::core::look_up;
 use marks::core::mark_owners;
 use marks::core::mark_rows;
@@ -138,26 +139,6 @@ fn mark_touching(
         &symbols[..n],
         references,
     );
-}
-
-// Whether a member of two sets is out of a third.
-pub fn any_open(first: &[u32], second: &[u32], set: &[u32]) -> bool
-    requires one { ⌜ length (now first) ≡ length (now set) ⌝ }
-    requires two { ⌜ length (now second) ≡ length (now set) ⌝ }
-    ensures { λ r. ⌜ (r ≡ false → (m : ℕ) → m < length (now (set .entry)) → has (now (first .entry)) m ≡ true → has (now (second .entry)) m ≡ true → has (now (set .entry)) m ≡ true) ⌝ }
-{
-    for m in 0..set.len() {
-        if second[m] == 0 {
-            continue;
-        }
-        if set[m] != 0 {
-            continue;
-        }
-        if first[m] != 0 {
-            return true;
-        }
-    }
-    false
 }
 
 // One pass of rule (iv) over the candidates, the reached eligible modules. Whether any module was added.

@@ -12,9 +12,9 @@ ghost use Rattle.wrap_rules.specs.Rules.{suffixAsks};
 ghost use Rattle.marks.specs.Steps.{Added};
 ghost use Rattle.wrap_rules.specs.Asked.{Marks};
 ghost use Rattle.wrap_rules.specs.Suffix.{FirstIn, InSuffix, WholeSuffix, Extended, sensitiveOrders, Settled, Candidates, Suffixes};
-use crate::reads::any_open;
 use expected_order::core::expected_order_for_root;
 use marks::core::add;
+use marks::core::any_open;
 use marks::core::mark_owners;
 
 // The place of the first member of an order that is in two sets, or the order's length.

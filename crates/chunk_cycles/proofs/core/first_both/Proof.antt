@@ -7,9 +7,9 @@ use native.Mathlib.Omega.{arith}
 use lib.ListN.{length, getD}
 use borrow.Author.Needs.{needs}
 use Rattle.lists.specs.Words.{any, has, upTo}
-use Rattle.lists.proofs.Laws.{and-join}
+use Rattle.lists.proofs.Laws.{and-join, mark-in, mark-out, and-out}
 use Rattle.chunk_cycles.specs.Steps.{inBoth}
-use Rattle.chunk_cycles.proofs.Lists.{mark-in, mark-out, none-below, first-at, first-none, and-out}
+use Rattle.chunk_cycles.proofs.Lists.{none-below, first-at, first-none}
 use Rattle.chunk_cycles.proofs.core.first_both.Statement.{statement}
 use Rattle.chunk_cycles.proofs.core.first_both.Tie as tie
 

@@ -7,9 +7,8 @@ use native.Mathlib.Omega.{arith}
 use lib.ListN.{length, getD}
 use borrow.Author.Needs.{needs}
 use Rattle.lists.specs.Words.{has}
-use Rattle.lists.proofs.Laws.{and-join}
+use Rattle.lists.proofs.Laws.{and-join, mark-in, mark-out, and-out}
 use Rattle.chunk_cycles.specs.Steps.{inBoth}
-use Rattle.chunk_cycles.proofs.Lists.{mark-in, mark-out, and-out}
 use Rattle.chunk_cycles.proofs.Marks.{Labelling, labelling-start, labelling-pass, labelling-set, labelling-end}
 use Rattle.chunk_cycles.proofs.core.label_both.Statement.{statement}
 use Rattle.chunk_cycles.proofs.core.label_both.Tie as tie

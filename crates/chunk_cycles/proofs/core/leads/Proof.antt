@@ -5,7 +5,7 @@ use native.Mathlib.Omega.{arith}
 use lib.ListN.{length, getD}
 use borrow.Author.Needs.{needs}
 use Rattle.lists.specs.Words.{has}
-use Rattle.chunk_cycles.proofs.Lists.{mark-in, mark-out}
+use Rattle.lists.proofs.Laws.{mark-in, mark-out}
 use Rattle.tables.proofs.Threads.{Searching, searching-start, searching-next, searching-found, searching-end}
 use Rattle.chunk_cycles.proofs.core.leads.Statement.{statement}
 use Rattle.chunk_cycles.proofs.core.leads.Tie as tie

@@ -9,10 +9,10 @@ use lib.ListN.{length, getD}
 use borrow.Author.Needs.{needs}
 use borrow.Author.Tests.{eq-eqb, ne-eqb}
 use Rattle.lists.specs.Words.{any, has, upTo}
-use Rattle.lists.proofs.Laws.{and-join, mem-any, upTo-mem}
+use Rattle.lists.proofs.Laws.{and-join, mem-any, upTo-mem, mark-in, mark-out, getD-in, and-out}
 use Rattle.tables.specs.Project.{missing}
 use Rattle.chunk_cycles.specs.Steps.{labelled, labelledAt}
-use Rattle.chunk_cycles.proofs.Lists.{mark-in, mark-out, none-below, getD-in, and-out}
+use Rattle.chunk_cycles.proofs.Lists.{none-below}
 use Rattle.chunk_cycles.proofs.core.meets_labelled.Statement.{statement}
 use Rattle.chunk_cycles.proofs.core.meets_labelled.Tie as tie
 

@@ -7,7 +7,7 @@ use native.Mathlib.Omega.{arith}
 use lib.ListN.{length, getD}
 use borrow.Author.Needs.{needs}
 use Rattle.lists.specs.Words.{has}
-use Rattle.chunk_cycles.proofs.Lists.{mark-in, mark-out}
+use Rattle.lists.proofs.Laws.{mark-in, mark-out}
 use Rattle.marks.specs.Steps.{Adding, InAll}
 use Rattle.marks.proofs.Steps.{adding-start, adding-pass, adding-put}
 use Rattle.marks.proofs.core.add.Statement.{statement}

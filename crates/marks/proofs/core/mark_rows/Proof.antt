@@ -6,7 +6,7 @@ use native.Mathlib.Omega.{arith}
 use lib.ListN.{length, getD}
 use borrow.Author.Needs.{needs}
 use Rattle.tables.specs.Project.{missing}
-use Rattle.chunk_cycles.proofs.Lists.{getD-in}
+use Rattle.lists.proofs.Laws.{getD-in}
 use Rattle.marks.specs.Steps.{looked, Owners}
 use Rattle.marks.proofs.Steps.{looked-at, owners-start, owners-put}
 use Rattle.marks.proofs.core.mark_rows.Statement.{statement}

@@ -2,7 +2,7 @@
 -- Assumes nothing.
 use mathlib.Core.Path.{sym}
 use lib.ListN.{List·getD-eq-default}
-use Rattle.chunk_cycles.proofs.Lists.{getD-in}
+use Rattle.lists.proofs.Laws.{getD-in}
 use borrow.Author.Needs.{needs}
 use Rattle.marks.proofs.core.value_at.Statement.{statement}
 use Rattle.marks.proofs.core.value_at.Tie as tie

@@ -9,8 +9,7 @@ use lib.ListN.{length, getD}
 use lib.Dec.{eqb}
 use borrow.Author.Needs.{needs}
 use borrow.Author.Tests.{eq-eqb, ne-eqb}
-use Rattle.lists.proofs.Laws.{and-join}
-use Rattle.chunk_cycles.proofs.Lists.{and-out}
+use Rattle.lists.proofs.Laws.{and-join, and-out}
 use Rattle.tables.specs.Project.{missing}
 use Rattle.tables.specs.Readings.{flagged}
 use Rattle.actual_order.specs.Cores.{Fit, Members}

@@ -18,7 +18,7 @@ use Rattle.wrap_rules.proofs.reads.close_top_level_readers.Tie as tie
 use Rattle.wrap_rules.proofs.reads.close_top_level_readers.Reads as reads
 use Rattle.wrap_rules.proofs.reads.close_top_level_readers.Lts as lts
 use Rattle.marks.proofs.core.add.Reads as add-reads
-use Rattle.wrap_rules.proofs.reads.any_open.Reads as any-open-reads
+use Rattle.marks.proofs.core.any_open.Reads as any-open-reads
 use Rattle.wrap_rules.proofs.reads.mark_readers.Reads as mark-readers-reads
 use Rattle.wrap_rules.proofs.reads.mark_touching.Reads as mark-touching-reads
 

@@ -9,8 +9,7 @@ use lib.ListN.{length, getD, drop, length-append, length-drop}
 use lib.Dec.{eqb}
 use borrow.Author.Needs.{needs}
 use borrow.Author.Tests.{eq-eqb, ne-eqb}
-use Rattle.lists.proofs.Laws.{and-join}
-use Rattle.chunk_cycles.proofs.Lists.{and-out}
+use Rattle.lists.proofs.Laws.{and-join, and-out}
 use Rattle.tables.specs.Project.{missing}
 use Rattle.tables.specs.Readings.{flagged}
 use Rattle.wrap_rules.proofs.Listing.{isRoot, rootsTo, roots-few, Listing, listing-start, listing-pass, listing-put, listing-end}

@@ -9,7 +9,7 @@ use lib.Dec.{ltb, leb}
 use borrow.Author.Count.{below-more}
 use borrow.Author.Needs.{needs}
 use borrow.Author.Tests.{lt-ltb, le-ltb, le-leb, lt-leb}
-use Rattle.chunk_cycles.proofs.Lists.{and-out}
+use Rattle.lists.proofs.Laws.{and-out}
 use Rattle.tables.specs.Refusal.{rowLimit, below}
 use Rattle.tables.proofs.Scan.{rows-pass, row-fails}
 use Rattle.wrap_rules.proofs.seeds.seeds_fit.Statement.{statement}

@@ -8,7 +8,7 @@ use lib.ListN.{length, getD}
 use borrow.Author.Needs.{needs}
 use Rattle.lists.specs.Words.{has}
 use Rattle.chunk_cycles.specs.Threads.{Linked}
-use Rattle.chunk_cycles.proofs.Lists.{mark-in, mark-out}
+use Rattle.lists.proofs.Laws.{mark-in, mark-out}
 use Rattle.wrap_rules.proofs.Spreading.{Spreading, spreading-start, spreading-pass, spreading-visit, spreading-end}
 use Rattle.wrap_rules.proofs.spread.spread.Statement.{statement}
 use Rattle.wrap_rules.proofs.spread.spread.Tie as tie

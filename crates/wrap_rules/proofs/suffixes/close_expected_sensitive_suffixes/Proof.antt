@@ -12,7 +12,7 @@ use Rattle.wrap_rules.proofs.suffixes.close_expected_sensitive_suffixes
 use Rattle.wrap_rules.proofs.suffixes.close_expected_sensitive_suffixes.Tie as tie
 use Rattle.wrap_rules.proofs.suffixes.close_expected_sensitive_suffixes.Reads as reads
 use Rattle.wrap_rules.proofs.suffixes.close_expected_sensitive_suffixes.Lts as lts
-use Rattle.wrap_rules.proofs.reads.any_open.Reads as any-open-reads
+use Rattle.marks.proofs.core.any_open.Reads as any-open-reads
 use Rattle.wrap_rules.proofs.suffixes.extend_entries.Reads as extend-entries-reads
 
 any-open-requires : tie.Need-any-open-requires

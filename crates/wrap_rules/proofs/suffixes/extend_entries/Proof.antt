@@ -8,9 +8,8 @@ use native.Mathlib.Omega.{arith}
 use lib.ListN.{length, getD, take}
 use lib.Seq.{take-length}
 use borrow.Author.Needs.{needs}
-use Rattle.chunk_cycles.proofs.Lists.{mark-in}
 use Rattle.lists.specs.Words.{has}
-use Rattle.lists.proofs.Laws.{not-true, not-false}
+use Rattle.lists.proofs.Laws.{not-true, not-false, mark-in}
 use Rattle.wrap_rules.specs.Passes.{Passed}
 use Rattle.wrap_rules.specs.Rules.{suffixAsks}
 use Rattle.wrap_rules.specs.Suffix.{sensitiveOrders, Suffixes}

@@ -9,7 +9,7 @@ use lib.ListN.{length, getD}
 use borrow.Author.Count.{below-more}
 use borrow.Author.Needs.{needs}
 use Rattle.lists.specs.Words.{has}
-use Rattle.chunk_cycles.proofs.Lists.{mark-in, mark-out}
+use Rattle.lists.proofs.Laws.{mark-in, mark-out}
 use Rattle.wrap_rules.specs.Suffix.{FirstIn}
 use Rattle.wrap_rules.proofs.suffixes.first_in.Statement.{statement}
 use Rattle.wrap_rules.proofs.suffixes.first_in.Tie as tie

@@ -1,4 +1,4 @@
--- `wrap_rules::reads::any_open` meets its contract: no place below `m` is in two sets and out of the third.
+-- `marks::core::any_open` meets its contract: no place below `m` is in two sets and out of the third.
 -- Assumes nothing.
 use Prim.Native.Nat.{ℕ, _+_, _-_, _<_}
 use mathlib.Core.Path.{_≡_, refl, sym, subst, _∙_}
@@ -9,11 +9,11 @@ use native.Mathlib.Decide.{ℕ-discrete}
 use lib.ListN.{length, getD}
 use borrow.Author.Needs.{needs}
 use Rattle.lists.specs.Words.{has}
-use Rattle.chunk_cycles.proofs.Lists.{mark-in, mark-out}
-use Rattle.wrap_rules.proofs.reads.any_open.Statement.{statement}
-use Rattle.wrap_rules.proofs.reads.any_open.Tie as tie
-use Rattle.wrap_rules.proofs.reads.any_open.Reads as reads
-use Rattle.wrap_rules.proofs.reads.any_open.Lts as lts
+use Rattle.lists.proofs.Laws.{mark-in, mark-out}
+use Rattle.marks.proofs.core.any_open.Statement.{statement}
+use Rattle.marks.proofs.core.any_open.Tie as tie
+use Rattle.marks.proofs.core.any_open.Reads as reads
+use Rattle.marks.proofs.core.any_open.Lts as lts
 
 -- what is in two sets is in the third, below m
 abbrev Shut : List ℕ → List ℕ → List ℕ → ℕ → Type 0
