@@ -2,19 +2,21 @@
 -- Assumes nothing.
 use mathlib.Core.Path.{_≡_, refl, sym, ap, subst, _∙_, fun-ext}
 use mathlib.Core.Logic.{_⊎_, ⊎-elim}
-use mathlib.Core.Bool.{Bool, true, false, _&&_, _||_, false≢true}
+use mathlib.Core.Bool.{Bool, true, false, not, _&&_, _||_, false≢true}
 use mathlib.Core.List.{List, [], _∷_, _++_, map, map-append, List·Memᴰ, List·Memᴰ·head, Memᴰ·of-map}
 use Prim.Native.Nat.{ℕ, _+_, _-_, _≤_, _<_}
 use native.Mathlib.Omega.{arith}
 use native.Mathlib.Decide.{decLt}
 use lib.ListN.{length, getD, take, drop, length-drop, length-set}
 use lib.Seq.{getD-drop, take-length}
-use Rattle.lists.specs.Words.{keep, any, elem, has}
-use Rattle.lists.proofs.Laws.{both, and-parts, and-join, any-append, has-in, mem-keep, keep-mem, elem-mem, mem-elem, any-mem, mem-any, take-more}
+use Rattle.lists.specs.Words.{isZero, keep, any, elem, has, ones}
+use Rattle.lists.proofs.Laws.{both, and-parts, and-join, any-append, has-in, mem-keep, keep-mem, elem-mem, mem-elem, any-mem, mem-any, take-more, ones-zeros}
 use Rattle.walk.specs.Close.{Within, Closed, Monotone, Bits}
+use Rattle.walk.proofs.Visits.{none-fresh}
 use Rattle.tables.specs.Accepted.{Below}
 use Rattle.tables.proofs.Accepted.{getD-mem}
 use Rattle.expected_order.specs.Expected.{expected}
+use Rattle.chunk_cycles.proofs.Lists.{getD-in}
 use Rattle.wrap_rules.specs.Rules.{fromFirst, suffixAsks}
 use Rattle.wrap_rules.specs.Passes.{Passed}
 use Rattle.marks.specs.Steps.{looked, Owners, Added}
@@ -198,20 +200,40 @@ pub no-orders : (eligible : ℕ → Bool) (s : List ℕ) → Bits s → Passed (
 unfolding Closed suffixAsks
 no-orders eligible s b = passed-closed (suffixAsks eligible []) s b (λ m l e. absurd (false≢true (and-parts (eligible m) false e .1)))
 
--- nothing is asked where every sensitive candidate is planned
-pub none-open : (normal included recordModule recordKind recordTarget roots sensitive eligible candidates S : List ℕ) → Candidates normal included recordModule recordKind recordTarget roots eligible candidates
-    → ((m : ℕ) → m < length S → has sensitive m ≡ true → has candidates m ≡ true → has S m ≡ true)
-    → Closed (suffixAsks (has eligible) (sensitiveOrders normal included recordModule recordKind recordTarget sensitive roots)) S
-unfolding Closed suffixAsks sensitiveOrders Candidates
-none-open normal included recordModule recordKind recordTarget roots sensitive eligible candidates S inside shut m l e =
-    let order : ℕ → List ℕ = λ (root : ℕ). keep (has sensitive) (expected normal included recordModule recordKind recordTarget root) in
-    let a = and-parts (has eligible m) _ e in
-    let r = any-mem (λ (xs : List ℕ). elem m (fromFirst (has S) xs)) (map order roots) (a .1) in
-    let q = Memᴰ·of-map order roots (r .1) in
-    let p = fromFirst-places (has S) (r .0) (elem-mem m (fromFirst (has S) (r .0)) (r .2)) in
-    let h : List·Memᴰ m (order (q .0)) = subst (List·Memᴰ m) (sym (q .2)) (subst (λ (x : ℕ). List·Memᴰ x (r .0)) (p .5) (getD-mem (r .0) (p .1) (p .3))) in
-    let k = mem-keep (has sensitive) (expected normal included recordModule recordKind recordTarget (q .0)) h in
-    shut m l (k .1) (inside (q .0) m (q .1) (k .0) (a .0))
+-- nothing is asked of any order
+module _ (normal included recordModule recordKind recordTarget roots sensitive eligible S : List ℕ) where
+  abbrev NoneAsked : Type 0
+  NoneAsked = Closed (suffixAsks (has eligible) (sensitiveOrders normal included recordModule recordKind recordTarget sensitive roots)) S
+
+  -- where what is sensitive and eligible in the orders is planned
+  orders-closed : ((root m : ℕ) → m < length S → List·Memᴰ root roots → List·Memᴰ m (expected normal included recordModule recordKind recordTarget root) → has sensitive m ≡ true → has eligible m ≡ true → has S m ≡ true) → NoneAsked
+  unfolding Closed suffixAsks sensitiveOrders
+  orders-closed planned m l e =
+      let order : ℕ → List ℕ = λ (root : ℕ). keep (has sensitive) (expected normal included recordModule recordKind recordTarget root) in
+      let a = and-parts (has eligible m) _ e in
+      let r = any-mem (λ (xs : List ℕ). elem m (fromFirst (has S) xs)) (map order roots) (a .1) in
+      let q = Memᴰ·of-map order roots (r .1) in
+      let p = fromFirst-places (has S) (r .0) (elem-mem m (fromFirst (has S) (r .0)) (r .2)) in
+      let h : List·Memᴰ m (order (q .0)) = subst (List·Memᴰ m) (sym (q .2)) (subst (λ (x : ℕ). List·Memᴰ x (r .0)) (p .5) (getD-mem (r .0) (p .1) (p .3))) in
+      let k = mem-keep (has sensitive) (expected normal included recordModule recordKind recordTarget (q .0)) h in
+      planned (q .0) m l (q .1) (k .0) (k .1) (a .0)
+
+  -- every sensitive candidate is planned
+  pub none-open : (candidates : List ℕ) → Candidates normal included recordModule recordKind recordTarget roots eligible candidates
+      → ((m : ℕ) → m < length S → has sensitive m ≡ true → has candidates m ≡ true → has S m ≡ true) → NoneAsked
+  unfolding Candidates
+  none-open candidates inside shut = orders-closed (λ root m l h i q g. shut m l q (inside root m h i g))
+
+  -- every root is settled
+  pub all-settled : (settled : List ℕ) → length settled ≡ length roots → Settled normal included recordModule recordKind recordTarget roots sensitive eligible settled S → ones settled ≡ length settled → NoneAsked
+  unfolding Settled AllPlanned
+  all-settled settled n s full =
+      orders-closed
+      (λ root m l h i q g.
+      let r = mem-at roots h in
+      let k : r .0 < length settled = omega (arith, r .1) in
+      let marked : has settled (r .0) ≡ true = ap not (ap isZero (getD-in settled (r .0) 0 1 k) ∙ none-fresh settled (r .0) (omega (arith, ones-zeros settled))) in
+      s (r .0) (r .1) marked m (subst (λ (x : ℕ). List·Memᴰ m (expected normal included recordModule recordKind recordTarget x)) (sym (r .2)) i) q g)
 
 -- what is left of a list is all of it
 pub take-rest : (n : ℕ) (xs : List ℕ) → take (length xs - n) (drop n xs) ≡ drop n xs

@@ -13,6 +13,7 @@ ghost use Rattle.marks.specs.Steps.{Added};
 ghost use Rattle.wrap_rules.specs.Asked.{Marks};
 ghost use Rattle.wrap_rules.specs.Suffix.{FirstIn, InSuffix, WholeSuffix, Extended, sensitiveOrders, Settled, Candidates, Suffixes};
 use expected_order::core::expected_order_for_root;
+use lists::core::count_marked;
 use marks::core::add;
 use marks::core::any_open;
 use marks::core::mark_owners;
@@ -179,7 +180,8 @@ fn extend_entries<'a>(
     changed
 }
 
-// One pass of rule (i). It asks for nothing where every sensitive candidate, a reached eligible module, is planned. Whether any module was added.
+// One pass of rule (i). It asks for nothing where every entry is settled, or every sensitive candidate, a reached eligible module, is planned.
+// Whether any module was added.
 pub fn close_expected_sensitive_suffixes<'a>(
     normal: &'a [u32],
     included: &'a [u32],
@@ -203,6 +205,9 @@ pub fn close_expected_sensitive_suffixes<'a>(
     ensures settled { λ _. ⌜ Settled (now (normal .entry)) (now (included .entry)) (now («record_module» .entry)) (now («record_kind» .entry)) (now («record_target» .entry)) (now (roots .entry)) (now (sensitive .entry)) (now (eligible .entry)) (now (settled .exit)) (now (plan .exit)) ⌝ }
     ensures plan { λ r. ⌜ Passed (suffixAsks (has (now (eligible .entry))) (sensitiveOrders (now (normal .entry)) (now (included .entry)) (now («record_module» .entry)) (now («record_kind» .entry)) (now («record_target» .entry)) (now (sensitive .entry)) (now (roots .entry)))) (now (plan .entry)) (now (plan .exit)) r ⌝ }
 {
+    if count_marked(settled) == settled.len() {
+        return false;
+    }
     if !any_open(sensitive, candidates, plan) {
         return false;
     }
