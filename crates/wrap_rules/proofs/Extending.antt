@@ -10,13 +10,12 @@ use native.Mathlib.Decide.{decLt}
 use lib.ListN.{length, getD, take, drop, length-drop, length-set}
 use lib.Seq.{getD-drop, take-length}
 use Rattle.lists.specs.Words.{isZero, keep, any, elem, has, ones}
-use Rattle.lists.proofs.Laws.{both, and-parts, and-join, any-append, has-in, mem-keep, keep-mem, elem-mem, mem-elem, any-mem, mem-any, take-more, ones-zeros}
+use Rattle.lists.proofs.Laws.{both, and-parts, and-join, any-append, has-in, mem-keep, keep-mem, elem-mem, mem-elem, any-mem, mem-any, take-more, ones-zeros, getD-in}
 use Rattle.walk.specs.Close.{Within, Closed, Monotone, Bits}
 use Rattle.walk.proofs.Visits.{none-fresh}
 use Rattle.tables.specs.Accepted.{Below}
 use Rattle.tables.proofs.Accepted.{getD-mem}
 use Rattle.expected_order.specs.Expected.{expected}
-use Rattle.chunk_cycles.proofs.Lists.{getD-in}
 use Rattle.wrap_rules.specs.Rules.{fromFirst, suffixAsks}
 use Rattle.wrap_rules.specs.Passes.{Passed}
 use Rattle.marks.specs.Steps.{looked, Owners, Added}
