@@ -39,12 +39,12 @@ export function moduleFiles(project) {
   return Object.fromEntries(project.modules.map(file));
 }
 
-// A file for each chunk: its imports in load order, then the bodies of its included members, each run once.
+// A file for each chunk: its imports in load order (the sort is stable: ties stay as the import rows stand), then the bodies of its included members, each run once.
 export function chunkFiles(project) {
   const { order, imports, members, modules } = project;
   const file = (_, chunk) => {
     const imported = imports.filter((row) => row[0] === chunk).map((row) => row[1]);
-    imported.sort((a, b) => order[a] - order[b] || a - b);
+    imported.sort((a, b) => order[a] - order[b]);
     const bodies = members.filter((row) => row[0] === chunk && modules[row[1]][1] === 1);
     const text = importsOf(imported.map((other) => `c${other}.mjs`)) + bodies.map((row) => `ranOnce(${row[1]});\n`).join("");
     return [`c${chunk}.mjs`, text];

@@ -23,12 +23,18 @@ function linesOf(text) {
 
 const lineOf = (lines, word, entry) => lines.find((line) => line[0] === word && line[1] === String(entry))?.slice(2).join(" ");
 
-const tally = { expected: 0, actual: 0, cycles: 0, selves: 0, modules: 0 };
+const tally = { expected: 0, actual: 0, cycles: 0, selves: 0, ties: 0, modules: 0 };
 
 function hasCycle(rows) {
   const reaches = (from, to, met = new Set()) =>
     rows.some(([a, b]) => a === from && (b === to || (!met.has(b) && reaches(b, to, met.add(b)))));
   return rows.some(([a]) => reaches(a, a));
+}
+
+// Whether a chunk imports two chunks of the same order, the higher in the earlier row.
+function hasTie({ imports, order }) {
+  const tied = ([a, b], [c, d]) => a === c && order[b] === order[d] && b > d;
+  return imports.some((row, at) => imports.slice(at + 1).some((later) => tied(row, later)));
 }
 
 // Compares a project's orders of each entry; `rootOf` says which file an entry's run starts at.
@@ -47,6 +53,7 @@ async function compare(project, word, files, rootOf) {
     tally[word] += 1;
     tally.cycles += hasCycle(edges) ? 1 : 0;
     tally.selves += edges.some(([a, b]) => a === b) ? 1 : 0;
+    tally.ties += word === "actual" && hasTie(project) ? 1 : 0;
     tally.modules += theirs === "" ? 0 : theirs.split(" ").length;
   }
   return true;
@@ -63,7 +70,8 @@ async function all() {
   while (tally.expected < until.expected) if (!(await compareModules(randomModules(random)))) return;
   while (tally.actual < until.actual) if (!(await compareChunks(randomChunks(random, !flags["no-ties"])))) return;
   console.log(`${tally.expected} expected orders and ${tally.actual} actual orders are the engine's (node ${process.version}, seed ${flags.seed}):`);
-  console.log(`${tally.modules} places, ${tally.cycles} orders of graphs with a cycle, ${tally.selves} with a self import\n`);
+  console.log(`${tally.modules} places, ${tally.cycles} orders of graphs with a cycle, ${tally.selves} with a self import,`);
+  console.log(`${tally.ties} of chunks with ties that are imported the higher first\n`);
   console.log("Outside the premises:\n\n| | records (module kind target) | expected 1 | the engine |\n|---|---|---|---|");
   for (const { name, project, files } of cases) {
     const ours = lineOf(linesOf(listing(project)), "expected", 1);

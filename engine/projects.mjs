@@ -41,6 +41,13 @@ export const plainRow = (chunk) => [1, 1, 1, 0, 1, 0, chunk];
 
 const rising = (rows) => rows.sort((a, b) => a[0] - b[0]);
 
+function shuffle(random, rows) {
+  for (let i = rows.length - 1; i > 0; i--) {
+    const other = random.below(i + 1);
+    [rows[i], rows[other]] = [rows[other], rows[i]];
+  }
+}
+
 // Modules in one chunk whose records are all kind 0 with a target: cycles, self imports and repeats among them.
 export function randomModules(random) {
   const count = 1 + random.below(12);
@@ -79,17 +86,14 @@ export function* smallModules() {
   }
 }
 
-// Chunks whose modules are unwrapped: cycles, self imports, members twice, modules not included.
+// Chunks whose modules are unwrapped: cycles, self imports, members twice, modules not included; import rows in any order within a chunk.
 export function randomChunks(random, ties) {
   const count = 1 + random.below(12);
   const chunks = 1 + random.below(6);
   const modules = Array.from({ length: count }, () => [1, random.coin(90) ? 1 : 0, 1, 0, 1, 0, random.below(chunks)]);
   const members = modules.map((row, module) => [row[6], module]);
   for (let i = random.below(3); i > 0; i--) members.push([random.below(chunks), random.below(count)]);
-  for (let i = members.length - 1; i > 0; i--) {
-    const other = random.below(i + 1);
-    [members[i], members[other]] = [members[other], members[i]];
-  }
+  shuffle(random, members);
   const imports = [];
   const back = [0, 30, 100][random.below(3)];
   for (let from = 0; from < chunks; from++) {
@@ -97,6 +101,7 @@ export function randomChunks(random, ties) {
       if (random.coin(to > from ? 50 : back / 2)) imports.push([from, to]);
     }
   }
+  shuffle(random, imports);
   const order = Array.from({ length: chunks }, (_, chunk) => (ties ? random.below(chunks + 1) : (chunk * 5 + 3) % 7));
   const entries = modules.map((row, module) => [module, row[6]]).filter(() => random.coin(40));
   if (entries.length === 0) entries.push([0, modules[0][6]]);

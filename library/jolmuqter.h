@@ -22,7 +22,7 @@
  *   depended       reference, symbol
  *   chunks         order                                                                                                 0 to 1,024 rows
  *   members        chunk, member (a module)                                                                              sorted by chunk
- *   imports        chunk, imported chunk                                                                                 sorted by chunk
+ *   imports        chunk, imported chunk; a chunk's rows in the order in which imported chunks of equal order load       sorted by chunk
  *   entries        module, chunk or the mark
  *   seeds          module                                                          0 to 16,384 rows, as any list with no other limit
  *

@@ -96,6 +96,37 @@ pub fn chunk_graphs(try_it: &mut dyn FnMut(Project)) {
   chunk_graphs_of(4, &[&[3, 0, 2, 1]], try_it);
 }
 
+/// All graphs of three chunks with a module each and every order of their import rows, where two chunks or all have the same `order`.
+pub fn tied_chunks(try_it: &mut dyn FnMut(Project)) {
+  const ORDERS: [[u32; 3]; 7] =
+    [[0, 0, 0], [0, 0, 1], [0, 1, 0], [1, 0, 0], [0, 1, 1], [1, 0, 1], [1, 1, 0]];
+  let mut lists: Vec<Vec<u32>> = vec![vec![]];
+  for length in 0..3 {
+    let shorter: Vec<Vec<u32>> = lists.iter().filter(|list| list.len() == length).cloned().collect();
+    for list in shorter {
+      lists.extend((0..3).filter(|other| !list.contains(other)).map(|other| [&list[..], &[other]].concat()));
+    }
+  }
+  for order in ORDERS {
+    for zero in &lists {
+      for one in &lists {
+        for two in &lists {
+          let mut p = plain(4);
+          p[ORDER] = order.to_vec();
+          for (chunk, imported) in (0..).zip([zero, one, two]) {
+            p[CHUNK][chunk as usize + 1] = chunk;
+            p.push(MEMBER_CHUNK, [chunk, chunk + 1]);
+            p.push(ENTRY, [chunk + 1, chunk]);
+            imported.iter().for_each(|&other| p.push(IMPORT_CHUNK, [chunk, other]));
+          }
+          p.push(RECORD_MODULE, [1, 0, 2]);
+          try_it(p);
+        }
+      }
+    }
+  }
+}
+
 /// Two modules with every value of every flag, and every kind of the record between them. Externals with rows are refused.
 pub fn module_rows(try_it: &mut dyn FnMut(Project)) {
   let mut rows = Vec::new();

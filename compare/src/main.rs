@@ -86,9 +86,10 @@ fn numbered(seed: u64, number: usize) -> Project {
 
 fn run_all(flags: &Flags) {
   let mut judge = Judge { subject: Some(library::call), ..Judge::default() };
-  let families: [(&str, fn(&mut dyn FnMut(Project))); 5] = [
+  let families: [(&str, fn(&mut dyn FnMut(Project))); 6] = [
     ("graphs of three modules", exhaustive::module_graphs),
     ("graphs of chunks", exhaustive::chunk_graphs),
+    ("three chunks with ties", exhaustive::tied_chunks),
     ("rows of two modules", exhaustive::module_rows),
     ("references of three symbols", exhaustive::references),
     ("sizes around the limits", limits::limits),
@@ -111,7 +112,7 @@ fn wrong_readings(flags: &Flags) {
   for &wrong in Wrong::ALL {
     let number = (0..flags.count).find(|&number| {
       let p = numbered(flags.seed, number);
-      p.modules() <= 48 && refusal::of_project(&p) == 0 && !p.tied() && replay::told(&p, wrong)
+      p.modules() <= 48 && refusal::of_project(&p) == 0 && replay::told(&p, wrong)
     });
     match number {
       Some(number) => println!("{:>7} projects tell: {}", number + 1, wrong.words()),

@@ -1,4 +1,4 @@
-//! Document 01's eight operations, written from its words and not from the Rust. Plain and slow on purpose.
+//! Document 01's eight operations, with ties as C-13 has them, written from their words and not from the Rust. Plain and slow on purpose.
 //! A project that it is made of passes tests 1 to 4.
 use project::{MARK, Project, column::*};
 
@@ -252,7 +252,16 @@ impl<'a> Model<'a> {
     }
     load.met_chunks[chunk as usize] = true;
     let mut imported = self.imported[chunk as usize].clone();
-    imported.sort_by_key(|&other| (self.p[ORDER][other as usize], other));
+    if self.is(Wrong::TiesByChunkRow) {
+      imported.sort();
+    }
+    if self.is(Wrong::TiesByLaterImport) {
+      imported.reverse();
+    }
+    if !self.is(Wrong::ChunksAsWritten) {
+      // Stable: those of equal `order` stay as their import rows stand.
+      imported.sort_by_key(|&other| self.p[ORDER][other as usize]);
+    }
     if self.is(Wrong::ChunksByRow) {
       imported.sort();
     }

@@ -1,4 +1,4 @@
-//! The replay list: small cases with the original's answers, as numbers that the program crate `replay` reads.
+//! The replay list: small cases with the original's answers (where there are ties the model's), as numbers that the program crate `replay` reads.
 //!
 //! First how many cases. A case is a line with `#` and its name; then `runtime dynamic`, 14 row counts, how many values the columns have, these,
 //! and how many calls. A call is its operation (its place in the list of `Call`'s kinds), its argument, how many seeds and these, the lengths
@@ -15,8 +15,20 @@ use crate::{
   wrong::Wrong,
 };
 
-/// Whether a wrong reading differs from the original on a project.
+/// Whether a wrong reading of ties loads the chunks of an entry in another order than the model.
+fn tie_told(p: &Project, wrong: Wrong) -> bool {
+  let (model, turned) = (Model::of(p), Model::turned(p, Some(wrong)));
+  model.analysed().into_iter().any(|root| turned.actual(root) != model.actual(root))
+}
+
+/// Whether a wrong reading differs from the original on a project; one of ties, from the model. The later row is told where the chunk rows rise.
 pub fn told(p: &Project, wrong: Wrong) -> bool {
+  if Wrong::TIES.contains(&wrong) {
+    return tie_told(p, wrong) && (wrong == Wrong::TiesByChunkRow || !tie_told(p, Wrong::TiesByChunkRow));
+  }
+  if p.tied() {
+    return false;
+  }
   let (turned, original) = (Model::turned(p, Some(wrong)), Original::of(p));
   let (numbers, sorted) = turned.numbers_and_sorted();
   let reaches: Vec<bool> = (0..p.chunks() as u32).map(|chunk| turned.reaches(chunk)).collect();
@@ -69,7 +81,7 @@ fn every_call(p: &Project) -> Vec<(Call, Vec<usize>)> {
 
 /// For each wrong reading the smallest project found that tells it. The first six are document 01's own wrong turns.
 fn telling(random: &dyn Fn(usize) -> Project) -> Vec<Case> {
-  let fits = |p: &Project| p.modules() <= 12 && refusal::of_project(p) == 0 && !p.tied();
+  let fits = |p: &Project| p.modules() <= 12 && refusal::of_project(p) == 0;
   let tell = |(at, &wrong): (usize, &Wrong)| {
     let shows = |p: &Project| fits(p) && told(p, wrong);
     let found = (0..).map(random).find(shows).unwrap();
@@ -134,6 +146,20 @@ fn larger(random: &dyn Fn(usize) -> Project) -> Vec<Case> {
     Case { name: format!("several rules, {}", at + 1), calls: every_call(&project), project, wrong: None }
   };
   (0..).map(random).filter(rich).take(8).enumerate().map(case).collect()
+}
+
+/// Projects with ties whose whole plan each wrong reading of ties changes.
+fn ties(random: &dyn Fn(usize) -> Project) -> Vec<Case> {
+  let decides = |p: &Project| {
+    p.modules() <= 24
+      && refusal::of_project(p) == 0
+      && Wrong::TIES.iter().all(|&wrong| Model::turned(p, Some(wrong)).plan() != Model::of(p).plan())
+  };
+  let case = |(at, project): (usize, Project)| {
+    let project = shrunk(&project, &decides);
+    Case { name: format!("ties, {}", at + 1), calls: every_call(&project), project, wrong: None }
+  };
+  (0..).map(random).filter(decides).take(4).enumerate().map(case).collect()
 }
 
 /// A small project with a row in every list.
@@ -357,16 +383,21 @@ fn of_the_original(p: &Project, original: &Original, call: &Call) -> Option<Give
   })
 }
 
+/// Whether the original says what a call gives: with ties it leaves open what the load order decides.
+fn said(p: &Project, call: &Call) -> bool {
+  !p.tied() || !matches!(call, Call::Actual(_) | Call::Risk(_) | Call::Whole)
+}
+
 /// The first accepted call of a case whose answer the original doesn't give.
 fn not_the_originals(case: &Case) -> Option<&Call> {
   let p = &case.project;
   if refusal::of_project(p) != 0 {
     return None;
   }
-  assert!(!p.tied());
   let (model, original) = (Model::of(p), Original::of(p));
   let differs = |(call, rooms): &&(Call, Vec<usize>)| {
     refusal::of_call(p, call, rooms) == 0
+      && said(p, call)
       && of_the_original(p, &original, call).is_some_and(|given| given != model.give(call))
   };
   case.calls.iter().find(differs).map(|(call, _)| call)
@@ -385,6 +416,7 @@ pub fn data(random: &dyn Fn(usize) -> Project) -> (String, usize, usize) {
   let mut cases = listing();
   cases.extend(telling(random));
   cases.extend(larger(random));
+  cases.extend(ties(random));
   cases.extend(refusals());
   cases.push(arguments());
   cases.extend(limits());
@@ -392,7 +424,7 @@ pub fn data(random: &dyn Fn(usize) -> Project) -> (String, usize, usize) {
   let mut answers = 0;
   for case in &cases {
     let Case { name, project: p, calls, wrong } = case;
-    // Every answer is the original's own: where the model's were to differ, nothing is written.
+    // Every answer that the original says is its own: where the model's were to differ, nothing is written.
     assert_eq!(not_the_originals(case), None, "{name}");
     assert!(wrong.is_none_or(|wrong| changed(case, wrong) > 0), "{name}");
     let model = (refusal::of_project(p) == 0).then(|| Model::of(p));

@@ -36,6 +36,9 @@ wrong! {
   ExcludedListed "modules that aren't included are listed",
   // actual order
   ChunksByRow "imported chunks by row",
+  ChunksAsWritten "imported chunks as they are written, whatever their order",
+  TiesByChunkRow "of chunks with the same order the lower chunk row first",
+  TiesByLaterImport "of chunks with the same order the later import row first",
   ImportsAfter "members before the imported chunks",
   WrappedMembersRun "wrapped members execute",
   UnwrappedRun "targets without wrap execute",
@@ -106,4 +109,7 @@ wrong! {
 impl Wrong {
   /// Leaving out each of the four rules.
   pub const RULES: [Wrong; 4] = [Wrong::NoSuffix, Wrong::NoCycle, Wrong::NoImport, Wrong::NoRead];
+
+  /// The readings of ties. The original leaves these open: the model tells them.
+  pub const TIES: [Wrong; 2] = [Wrong::TiesByChunkRow, Wrong::TiesByLaterImport];
 }

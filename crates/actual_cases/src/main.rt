@@ -180,7 +180,7 @@ fn listing() {
     );
 }
 
-// Chunk 0 imports 2 and 1, which have the same order: 1 loads first.
+// Chunk 0 imports 2 and 1, which have the same order: 2, whose import row is the earlier, loads first.
 fn tied() {
     let normal = [1u32; 4];
     let included = [1u32; 4];

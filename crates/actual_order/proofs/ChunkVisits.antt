@@ -12,10 +12,11 @@ use Rattle.walk.proofs.Placing.{place-count, place-length}
 use Rattle.tables.specs.Accepted.{Below}
 use Rattle.tables.specs.Readings.{valuesOf}
 use Rattle.tables.specs.Refusal.{moduleLimit}
-use Rattle.actual_order.specs.Cores.{Loads, Starts, loaded, placing, visiting, RoomFor, pending, Next, Entered}
+use Rattle.load_order.specs.inner.Rows.{Loads}
+use Rattle.actual_order.specs.Cores.{Starts, loaded, placing, visiting, RoomFor, pending, Next, Entered}
 use Rattle.actual_order.specs.declared.core.ActualOrderTraversal.{ActualOrderTraversal}
 use Rattle.actual_order.specs.declared.core.Pending.{Pending}
-use Rattle.actual_order.proofs.Arranging.{below-mem, values-below}
+use Rattle.load_order.proofs.Arranging.{below-mem, values-below}
 use Rattle.actual_order.proofs.Lending.{Lent, lent-start, lent-marks, lent-keeps, lent-within, lent-room, lent-one, lent-falls, lent-leads, lent-next, lent-nearer, lent-end}
 
 module _ (importChunk starts loads : List ℕ) where

@@ -9,7 +9,7 @@ use lib.ListN.{length, getD}
 use Rattle.lists.specs.Words.{Distinct}
 use Rattle.tables.specs.Project.{Project, missing}
 use Rattle.tables.specs.Readings.{modules, chunks, isNormal, flagged, wrapped, membersOf, entryChunkOf}
-use Rattle.actual_order.specs.LoadOrder.{loadOrder}
+use Rattle.load_order.specs.LoadOrder.{loadOrder}
 use Rattle.actual_order.specs.Actual.{chunkOrder, hostsInTurn, runOf, actualOf, hostsOf}
 use Rattle.actual_order.proofs.Actuals.{run-distinct, run-member, run-length, run-noted, run-hosts-length, turn-host}
 

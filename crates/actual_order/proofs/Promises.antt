@@ -17,9 +17,10 @@ use Rattle.tables.specs.declared.Answer.{Answer}
 use Rattle.tables.specs.declared.Answer.the-variants.{Refused, Counted}
 use Rattle.tables.proofs.Accepted.{accepted}
 use Rattle.tables.proofs.Answering.{verdict-project, verdict-unfit, verdict-short, verdict-none, counted-refused, after-refused, counted-accepted, after-accepted}
-use Rattle.actual_order.specs.LoadOrder.{loadOrder}
+use Rattle.load_order.specs.LoadOrder.{loadOrder}
 use Rattle.actual_order.specs.Actual.{Executed, executeAll, hostsInTurn, runOf, actualOf, hostsOf}
-use Rattle.actual_order.specs.Cores.{Imports, Fit, Members, Listed, analysedChunk}
+use Rattle.load_order.specs.inner.Rows.{Imports}
+use Rattle.actual_order.specs.Cores.{Fit, Members, Listed, analysedChunk}
 use Rattle.actual_order.specs.Promise.{actualVerdict, ActualOrder}
 use Rattle.actual_order.proofs.Actuals.{run-hosts-length}
 use Rattle.actual_order.proofs.Roots.{Chunk, analysed-chunk, analysed-found}
@@ -35,7 +36,6 @@ module _ (p : Project) (a : Accepted p) where
     chunks = a .values .importChunk;
     inside = a .values .imports;
     rows = a .sizes .importChunk;
-    once = λ i j l h u v. a .agrees .imports i j l h (omega (arith, a .sizes .imports)) u v;
   }
 
   pub modules-fit : Fit (p .normal) (p .included) (p .wrap) (p .recordModule) (p .recordKind) (p .recordTarget) (modules p)

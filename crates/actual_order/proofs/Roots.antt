@@ -17,8 +17,8 @@ use Rattle.tables.specs.Readings.{flagged, rowsOf, valuesOf, firstOf, analysedR
 use Rattle.tables.specs.Accepted.{Accepted, BelowOrMissing}
 use Rattle.tables.proofs.Accepted.{getD-mem}
 use Rattle.actual_order.specs.Cores.{analysedChunk}
-use Rattle.actual_order.proofs.LoadOrders.{Pairs}
-use Rattle.actual_order.proofs.Arranging.{mem-rows, rows-none, rows-rise, mem-values}
+use Rattle.load_order.proofs.LoadOrders.{Pairs}
+use Rattle.load_order.proofs.Arranging.{mem-rows, rows-none, rows-rise, mem-values}
 
 -- the first row of an owner
 

@@ -21,7 +21,7 @@ use Rattle.tables.proofs.Rows.{targets-of-run}
 use Rattle.actual_order.specs.Actual.{unwrapped, triggered}
 use Rattle.actual_order.specs.Cores.{rowTriggers}
 use Rattle.actual_order.proofs.Actuals.{mem-flat}
-use Rattle.actual_order.proofs.Arranging.{mem-rows}
+use Rattle.load_order.proofs.Arranging.{mem-rows}
 
 keep-flat : (f : ℕ → Bool) (g : ℕ → List ℕ) (xs : List ℕ) → keep f (flatMap g xs) ≡ flatMap (λ (x : ℕ). keep f (g x)) xs
 unfolding flatMap

@@ -9,7 +9,7 @@ use Rattle.lists.specs.Words.{keep}
 use Rattle.walk.specs.Walk.{St, visit, snoc, everywhere, postOrder}
 use Rattle.tables.specs.Project.{Project, missing}
 use Rattle.tables.specs.Readings.{chunks, isNormal, flagged, wrapped, isEager, anyTarget, targetsOf, membersOf, entryChunkOf}
-use Rattle.actual_order.specs.LoadOrder.{loadOrder}
+use Rattle.load_order.specs.LoadOrder.{loadOrder}
 
 -- what executing modules makes: the list, and the noted hosts
 pub record Executed : Type 0 where

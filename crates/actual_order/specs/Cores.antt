@@ -3,13 +3,13 @@
 use mathlib.Core.Path.{_≡_}
 use mathlib.Core.Bool.{Bool, false, cond}
 use mathlib.Core.List.{List, [], _∷_, _++_, flatMap, List·Memᴰ}
-use Prim.Native.Nat.{ℕ, _+_, _-_, _*_, _≤_, _<_}
+use Prim.Native.Nat.{ℕ, _+_, _-_, _≤_, _<_}
 use lib.ListN.{length, getD, take, drop, set}
 use Rattle.lists.specs.Words.{isZero, zeros, countFrom, keep}
 use Rattle.walk.specs.Walk.{St, Placed, visit}
 use Rattle.tables.specs.Lookups.{Rising, FirstRows}
 use Rattle.tables.specs.Accepted.{Below, BelowOrMissing}
-use Rattle.tables.specs.Refusal.{moduleLimit, chunkLimit, rowLimit}
+use Rattle.tables.specs.Refusal.{moduleLimit, rowLimit}
 use Rattle.tables.specs.Project.{missing}
 use Rattle.tables.specs.Readings.{flagged, wrapped, isEager, anyTarget, rowTargets, valuesOf, firstOf}
 use Rattle.actual_order.specs.Actual.{Executed, noted, executes, triggered}
@@ -17,31 +17,6 @@ use Rattle.actual_order.specs.declared.core.ActualOrderTraversal.{Actual
 use Rattle.actual_order.specs.declared.core.Pending.{Pending}
 use Rattle.actual_order.specs.declared.core.Trigger.{Trigger}
 use Rattle.actual_order.specs.declared.core.Trigger.the-variants.{Nothing, Module}
-
--- a chunk's `order` and row as one number: it rises by order, and by row in a tie
-abbrev pub rank : List ℕ → ℕ → ℕ
-rank order d = getD order d 0 * 1024 + d
-
--- every one is below n
-abbrev pub Inside : ℕ → List ℕ → Type 0
-Inside n xs = (d : ℕ) → List·Memᴰ d xs → d < n
-
--- the chunk imports as the tests leave them: by rising chunk, no pair twice, and each between chunks
-pub record Imports (order importChunk imports : List ℕ) : Type 0 where
-  pub limit : length order ≤ chunkLimit
-  pub rising : Rising importChunk
-  pub lengths : length imports ≡ length importChunk
-  pub chunks : Below (length order) importChunk
-  pub inside : Below (length order) imports
-  pub rows : length importChunk ≤ rowLimit
-  pub once : (i j : ℕ) → i < j → j < length importChunk → getD importChunk i 0 ≡ getD importChunk j 0 → getD imports i 0 ≡ getD imports j 0 → ⊥
-
--- chunks in load order, chunk by rising chunk
-pub record Loads (importChunk loads : List ℕ) (n : ℕ) : Type 0 where
-  pub rising : Rising importChunk
-  pub lengths : length loads ≡ length importChunk
-  pub inside : Below n loads
-  pub rows : length importChunk ≤ rowLimit
 
 -- a row loads one chunk
 abbrev pub loaded : List ℕ → ℕ → List ℕ

@@ -1,5 +1,4 @@
 -- The actual order of an entry, and its hosts.
-pub mod LoadOrder
 pub mod Actual
 pub mod Cores
 pub mod Promise

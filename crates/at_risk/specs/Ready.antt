@@ -7,7 +7,8 @@ use lib.ListN.{length}
 use Rattle.tables.specs.Refusal.{moduleLimit, chunkLimit, rowLimit}
 use Rattle.tables.specs.Readings.{valuesOf}
 use Rattle.actual_order.specs.Actual.{Executed, executeAll, hostsInTurn}
-use Rattle.actual_order.specs.Cores.{Fit, Members, Imports}
+use Rattle.load_order.specs.inner.Rows.{Imports}
+use Rattle.actual_order.specs.Cores.{Fit, Members}
 use Rattle.chunk_cycles.specs.Cycles.{labels as labelled}
 use Rattle.chunk_cycles.specs.Graph.{Graph}
 use Rattle.sensitivity.specs.Ready.{Statements, UseRows}

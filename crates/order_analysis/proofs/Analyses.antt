@@ -17,9 +17,10 @@ use Rattle.tables.proofs.Accepted.{getD-mem}
 use Rattle.expected_order.specs.Expected.{expected}
 use Rattle.expected_order.specs.OfProject.{expectedOf}
 use Rattle.actual_order.specs.Actual.{runOf, actualOf, hostsOf}
-use Rattle.actual_order.specs.LoadOrder.{loadOrder}
-use Rattle.actual_order.specs.Cores.{Fit, Members, Loads}
-use Rattle.actual_order.proofs.Arranging.{arranged-loads}
+use Rattle.load_order.specs.LoadOrder.{loadOrder}
+use Rattle.load_order.specs.inner.Rows.{Loads}
+use Rattle.actual_order.specs.Cores.{Fit, Members}
+use Rattle.load_order.proofs.Arranging.{arranged-loads}
 use Rattle.actual_order.proofs.Promises.{imports-fit, modules-fit, members-fit}
 use Rattle.actual_order.proofs.Roots.{first-found}
 use Rattle.chunk_cycles.specs.Cycles.{labels, importedBy, labelsOf, reachesCycle, reachesCycleOf}

@@ -12,7 +12,7 @@ use Rattle.tables.specs.Readings.{modules, flagged, valuesOf}
 use Rattle.tables.specs.Accepted.{Below, BelowOrMissing, Accepted}
 use Rattle.expected_order.specs.Expected.{expected}
 use Rattle.actual_order.specs.Actual.{Executed}
-use Rattle.actual_order.specs.LoadOrder.{loadOrder}
+use Rattle.load_order.specs.LoadOrder.{loadOrder}
 use Rattle.chunk_cycles.specs.Cycles.{labelsOf, reachesCycle}
 use Rattle.at_risk.specs.Ready.{run}
 use Rattle.at_risk.specs.Steps.{atRisk}

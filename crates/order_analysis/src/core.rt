@@ -1,16 +1,17 @@
 // The whole analysis over tested tables.
 ghost use mathlib.Core.Path.{_≡_};
 ghost use lib.ListN.{length};
-ghost use Rattle.actual_order.specs.Cores.{Fit, Members, Loads};
+ghost use Rattle.load_order.specs.inner.Rows.{Loads};
+ghost use Rattle.actual_order.specs.Cores.{Fit, Members};
 ghost use Rattle.at_risk.specs.Ready.{Labelled, Rows};
 ghost use Rattle.at_risk.specs.Steps.{join};
 ghost use Rattle.wrap_plan.specs.Closing.{whole, Acceptable};
 ghost use Rattle.order_analysis.specs.Analysis.{Entries, risks, withRisks, withAll, Analysable, Analyzed, AnalysisCounted};
-use actual_order::core::arrange;
 use at_risk::entries::add_entry_risk;
 use chunk_cycles::core::label_chunks;
 use lists::core::count_marked;
 use lists::core::fill;
+use load_order::core::arrange;
 use sensitivity::core::mark_eligible;
 use sensitivity::core::mark_sensitive;
 use tables::ModuleIdx;

@@ -9,7 +9,7 @@ use Rattle.sort_modules.specs.Sort.{visited, numbers, sorted}
 use Rattle.sort_modules.specs.OfProject.{numbersOf, sortedOf}
 use Rattle.expected_order.specs.Expected.{expected}
 use Rattle.expected_order.specs.OfProject.{expectedOf}
-use Rattle.actual_order.specs.LoadOrder.{sortBy, loadOrder}
+use Rattle.load_order.specs.LoadOrder.{sortBy, loadOrder}
 use Rattle.actual_order.specs.Actual.{triggered, execute, executeAll, eagerMembers, chunkOrder, hostsInTurn, runOf, actualOf, hostsOf}
 use Rattle.chunk_cycles.specs.Cycles.{cyclicOf, connected, component, cyclic, label, labels, reachesCycle, labelsOf, reachesCycleOf}
 use Rattle.chunk_cycles.specs.Cycles as cycles

@@ -22,7 +22,7 @@ use Rattle.tables.proofs.Accepted.{accepted}
 use Rattle.expected_order.specs.Expected.{expected}
 use Rattle.expected_order.specs.OfProject.{expectedOf}
 use Rattle.expected_order.proofs.Laws.{reached-path}
-use Rattle.actual_order.specs.LoadOrder.{loadOrder}
+use Rattle.load_order.specs.LoadOrder.{loadOrder}
 use Rattle.actual_order.specs.Actual.{executes, triggered, unwrapped, eagerMembers, chunkOrder, hostsInTurn, runOf, actualOf}
 use Rattle.actual_order.proofs.Actuals.{mem-flat, run-order, turn-host}
 use Rattle.sensitivity.specs.Marks.{sensitive, eligible}

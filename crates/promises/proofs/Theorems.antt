@@ -22,7 +22,7 @@ use Rattle.chunk_cycles.proofs.Paths.{component-grows}
 use Rattle.expected_order.specs.OfProject.{expectedOf}
 use Rattle.expected_order.proofs.Laws.{expected-distinct}
 use Rattle.actual_order.specs.Actual.{runOf, actualOf, hostsOf, hostsInTurn}
-use Rattle.actual_order.specs.LoadOrder.{loadOrder}
+use Rattle.load_order.specs.LoadOrder.{loadOrder}
 use Rattle.actual_order.proofs.Actuals.{run-distinct}
 use Rattle.sensitivity.specs.Marks.{sensitive, eligible}
 use Rattle.at_risk.specs.Risk.{isFlagged}

@@ -49,7 +49,8 @@ use denote.Triple.Walked.{says, needs, Stays, stay-ref, stay-slice, stay-none-sl
 use denote.Triple.Cycle.{measured, at-on, mutual-elim}
 use denote.Exit.{yes}
 use Rattle.lists.specs.Words.{zeros}
-use Rattle.actual_order.specs.Cores.{Loads, Starts, loaded, pending, Next}
+use Rattle.load_order.specs.inner.Rows.{Loads}
+use Rattle.actual_order.specs.Cores.{Starts, loaded, pending, Next}
 use Rattle.actual_order.proofs.ChunkVisits.{Needs, Says, Enters, Proceeds, MayLeave, Leaves, Turn, start, same-marks, same-visited, next-fits, falls, call-fits, next-turn, nearer, leave-fits, ended}
 use Rattle.actual_order.specs.declared.core.ActualOrderTraversal.{ActualOrderTraversal}
 use Rattle.actual_order.specs.declared.core.Pending.{Pending}

@@ -7,10 +7,11 @@ use native.Mathlib.Omega.{arith}
 use lib.ListN.{length, take, drop, replicate}
 use borrow.Author.Needs.{needs}
 use Rattle.tables.specs.Readings.{valuesOf}
-use Rattle.actual_order.specs.LoadOrder.{loadOrder}
+use Rattle.load_order.specs.LoadOrder.{loadOrder}
 use Rattle.actual_order.specs.Actual.{executeAll, hostsInTurn}
-use Rattle.actual_order.specs.Cores.{Loads, Listed}
-use Rattle.actual_order.proofs.Arranging.{arranged-loads}
+use Rattle.load_order.specs.inner.Rows.{Loads}
+use Rattle.actual_order.specs.Cores.{Listed}
+use Rattle.load_order.proofs.Arranging.{arranged-loads}
 use Rattle.actual_order.proofs.Chunks.{zeroed-length, part-front, part-size, part-within}
 use Rattle.actual_order.proofs.core.actual_order_from.Statement.{statement}
 use Rattle.actual_order.proofs.core.actual_order_from.Tie as tie

@@ -10,7 +10,8 @@ use Rattle.lists.specs.Words.{zeros}
 use Rattle.walk.specs.Walk.{place, everywhere, Visits}
 use Rattle.walk.proofs.Visits.{zeros-replicate}
 use Rattle.tables.specs.Readings.{valuesOf}
-use Rattle.actual_order.specs.Cores.{Loads, Starts, visiting}
+use Rattle.load_order.specs.inner.Rows.{Loads}
+use Rattle.actual_order.specs.Cores.{Starts, visiting}
 use Rattle.actual_order.proofs.Chunks.{zeroed, zeroed-length, part-size, part-within, part-starts, chunks-written}
 use Rattle.actual_order.proofs.core.chunk_order.Statement.{statement}
 use Rattle.actual_order.proofs.core.chunk_order.Tie as tie

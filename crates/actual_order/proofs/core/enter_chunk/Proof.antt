@@ -12,7 +12,7 @@ use Rattle.tables.specs.Lookups.{FirstRow}
 use Rattle.tables.specs.Accepted.{Below}
 use Rattle.tables.specs.Readings.{valuesOf}
 use Rattle.actual_order.specs.Cores.{loaded, pending, Passed}
-use Rattle.actual_order.proofs.Arranging.{values-rows}
+use Rattle.load_order.proofs.Arranging.{values-rows}
 use Rattle.actual_order.proofs.Starting.{start-at}
 use Rattle.actual_order.proofs.Passing.{passed-none}
 use Rattle.actual_order.proofs.core.enter_chunk.Statement.{statement}

@@ -11,7 +11,7 @@ use Rattle.walk.proofs.Visits.{zeros-le}
 use Rattle.tables.specs.Accepted.{Below}
 use Rattle.actual_order.specs.Actual.{unwrapped, eagerMembers}
 use Rattle.actual_order.specs.Cores.{Fit, Starts, Filling, executing, hosted}
-use Rattle.actual_order.proofs.Arranging.{values-below}
+use Rattle.load_order.proofs.Arranging.{values-below}
 use Rattle.actual_order.proofs.Filling.{Kept, Turns, turns-none, turns-keep, turns-more, turns-all}
 use Rattle.actual_order.proofs.core.execute_chunks.Statement.{statement}
 use Rattle.actual_order.proofs.core.execute_chunks.Tie as tie

@@ -8,9 +8,9 @@ use lib.ListN.{length, take, drop, replicate}
 use lib.Seq.{length-take-le, take-at}
 use Rattle.tables.specs.Readings.{valuesOf}
 use Rattle.expected_order.specs.Expected.{expected as expectedFrom}
-use Rattle.actual_order.specs.LoadOrder.{loadOrder}
-use Rattle.actual_order.specs.Cores.{Imports, Loads}
-use Rattle.actual_order.proofs.Arranging.{arranged-loads}
+use Rattle.load_order.specs.LoadOrder.{loadOrder}
+use Rattle.load_order.specs.inner.Rows.{Imports, Loads}
+use Rattle.load_order.proofs.Arranging.{arranged-loads}
 use Rattle.chunk_cycles.specs.Cycles.{labels as labelled, reachesCycle}
 use Rattle.chunk_cycles.specs.Graph.{Graph}
 use Rattle.at_risk.specs.Ready.{run, Labelled}
@@ -21,7 +21,7 @@ use Rattle.at_risk.proofs.entries.add_marked_risk.Statement.{statement}
 use Rattle.at_risk.proofs.entries.add_marked_risk.Tie as tie
 use Rattle.at_risk.proofs.entries.add_marked_risk.Reads as reads
 use Rattle.at_risk.proofs.entries.add_marked_risk.Lts as lts
-use Rattle.actual_order.proofs.core.arrange.Reads as arrange-reads
+use Rattle.load_order.proofs.core.arrange.Reads as arrange-reads
 use Rattle.at_risk.proofs.entries.add_entry_risk.Reads as add-entry-risk-reads
 use Rattle.chunk_cycles.proofs.core.label_chunks.Reads as label-chunks-reads
 
