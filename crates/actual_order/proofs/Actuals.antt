@@ -2,7 +2,7 @@
 -- Assumes nothing.
 use mathlib.Core.Path.{_≡_, refl, sym, ap, subst, _∙_}
 use mathlib.Core.Logic.{_⊎_, inl, inr, ⊎-elim}
-use mathlib.Core.Bool.{Bool, true, false, cond, not}
+use mathlib.Core.Bool.{Bool, true, false, cond}
 use mathlib.Core.List.{List, [], _∷_, _++_, foldl, flatMap, append-assoc, append-nil, List·Memᴰ, List·Memᴰ·append-cases, List·Memᴰ·head, List·Memᴰ·tail, List·Memᴰ·not-nil, List·Memᴰ·eq-of-singleton, Memᴰ·append-left, Memᴰ·append-right}
 use Prim.Native.Nat.{ℕ, zero, suc, _+_, _≤_, _<_}
 use native.Mathlib.Omega.{arith}
@@ -13,23 +13,16 @@ use lib.Dec.{eqb}
 use borrow.Author.Tests.{eqb-false}
 use Rattle.lists.specs.Words.{Distinct}
 use Rattle.lists.proofs.Laws.{both, not-true, and-parts, mem-keep}
-use Rattle.walk.specs.Walk.{St, fresh, enter, visit, walk, snoc, unmet, postOrder}
+use Rattle.walk.specs.Walk.{St, fresh, enter, visit, snoc, unmet, postOrder}
 use Rattle.walk.proofs.Visits.{zeros-replicate, visit-old, visit-new, visit-fold, walk-fuel, snoc-fold}
 use Rattle.walk.proofs.Orders.{order-met, order-distinct, order-length}
 use Rattle.tables.specs.Project.{missing}
 use Rattle.tables.specs.Readings.{isNormal, flagged, wrapped, isEager, anyTarget, targetsOf, membersOf}
-use Rattle.actual_order.specs.Actual.{Executed, note, executes, triggered, execute, unexecuted, executeAll, unwrapped, eagerMembers, chunkOrder, hostsInTurn}
+pub use Rattle.visit_steps.proofs.Leading.{mem-flat}
+use Rattle.actual_order.specs.Actual.{Executed, note, executes, triggered, execute, unexecuted, unwrapped, eagerMembers}
+use Rattle.actual_order.specs.inner.InTurn.{executeAll, chunkOrder, hostsInTurn}
 
 -- members of a list of lists in turn
-pub mem-flat : {x : ℕ} (f : ℕ → List ℕ) (ys : List ℕ) → List·Memᴰ x (flatMap f ys) → (y : ℕ) × List·Memᴰ y ys × List·Memᴰ x (f y)
-unfolding flatMap
-mem-flat f [] h = absurd (List·Memᴰ·not-nil h)
-mem-flat f (y ∷ ys) h =
-    ⊎-elim
-    (λ a. (y, List·Memᴰ·head refl, a))
-    (λ b. let r = mem-flat f ys b in (r .0, List·Memᴰ·tail (r .1), r .2))
-    (List·Memᴰ·append-cases (f y) h)
-
 -- what one host's run lists
 
 module _ (succ : ℕ → List ℕ) (gate : ℕ → Bool) where

@@ -1,83 +1,66 @@
--- The chunks that a visit lists, the hosts that they give, and slices that start as zeros.
+-- The run of a root, as the scope says it: its entry chunk's visit, in which each chunk's members execute once the imported chunks are visited, and last the
+-- root. It is the run of hosts in turn: chunks in the order in which their visits end, then all members.
 -- Assumes nothing.
-use mathlib.Core.Path.{_≡_, refl, sym, ap, subst, _∙_}
-use mathlib.Core.Bool.{cond}
-use mathlib.Core.List.{List, [], _∷_, _++_, append-nil}
-use Prim.Native.Nat.{ℕ, zero, suc, _≤_, _<_}
-use native.Mathlib.Omega.{arith}
-use lib.ListN.{length, getD, take, drop, replicate, length-replicate, length-append}
-use lib.Seq.{take-at}
-use borrow.Author.Tests.{eq-eqb, ne-eqb}
-use Rattle.lists.specs.Words.{keep}
-use Rattle.lists.proofs.Laws.{keep-all}
-use Rattle.walk.specs.Walk.{St, Placed, place, everywhere, postOrder, Visits}
-use Rattle.walk.proofs.Going.{visited-walk}
-use Rattle.walk.proofs.Orders.{order-met}
-use Rattle.walk.proofs.Placing.{placed-order}
-use Rattle.tables.specs.Lookups.{FirstRows}
-use Rattle.tables.specs.Readings.{wrapped}
-use Rattle.tables.proofs.Accepted.{getD-mem}
-use Rattle.actual_order.specs.Actual.{chunkOrder}
-use Rattle.actual_order.specs.Cores.{visiting, Written, Starts}
+use mathlib.Core.Path.{_≡_, sym, ap, subst, _∙_}
+use mathlib.Core.Bool.{true, cond}
+use mathlib.Core.List.{List, [], _∷_, foldl, foldl-append, flatMap, List·Memᴰ}
+use Prim.Native.Nat.{ℕ, _≤_, _<_}
+use lib.ListN.{length}
+use Rattle.lists.specs.Words.{Distinct}
+use Rattle.walk.specs.Walk.{St, everywhere, postOrder}
+use Rattle.walk.proofs.Visits.{walk-made}
+use Rattle.tables.specs.Project.{Project}
+use Rattle.tables.specs.Readings.{chunks, isNormal, flagged, wrapped, entryChunkOf}
+use Rattle.load_order.specs.LoadOrder.{loadOrder}
+use Rattle.actual_order.specs.Actual.{Executed, execute, unexecuted, eagerMembers, executeMembers, visitChunk, runFrom, runOf}
+use Rattle.actual_order.specs.inner.InTurn.{executeAll, chunkOrder, hostsInTurn}
+use Rattle.actual_order.proofs.Actuals.{run-distinct, run-member, run-length, run-hosts-length}
+use Rattle.actual_order.proofs.Hosting.{fold-flat}
 
--- a front part of zeros
-pub zeroed : (n k : ℕ) → n ≤ k → take n (replicate {A = ℕ} k 0) ≡ replicate n 0
-zeroed zero k l = refl
-zeroed (suc n) zero l = absurd (omega arith)
-zeroed (suc n) (suc k) l = ap (λ (x : List ℕ). 0 ∷ x) (zeroed n k (omega arith))
+module _ (normal included wrap recordModule recordKind recordTarget memberChunk member : List ℕ) (loads : ℕ → List ℕ) (n : ℕ) where
+  abbrev run : St Executed → ℕ → St Executed
+  run = execute normal included wrap recordModule recordKind recordTarget
 
-pub zeroed-length : (n k : ℕ) → n ≤ k → n ≡ length (take n (replicate {A = ℕ} k 0))
-zeroed-length n k l = sym (ap length (zeroed n k l) ∙ length-replicate n 0)
+  -- a chunk's visit executes the members of the chunks in the order in which their visits end
+  visit-chunk : (st : St Executed) (c : ℕ) → visitChunk normal included wrap recordModule recordKind recordTarget memberChunk member loads n st c ≡ foldl run st (flatMap (eagerMembers wrap memberChunk member) (chunkOrder loads n c))
+  unfolding visitChunk executeMembers chunkOrder
+  visit-chunk st c =
+      walk-made loads everywhere (executeMembers normal included wrap recordModule recordKind recordTarget memberChunk member) st n (c ∷ [])
+      ∙ fold-flat run (eagerMembers wrap memberChunk member) st (postOrder loads everywhere n (c ∷ []))
 
--- such a part that was lent came back as a list: it is still the front part
-module _ (n k : ℕ) (l : n ≤ k) (part : List ℕ) (e : length part ≡ length (take n (replicate {A = ℕ} k 0))) where
-  pub part-length : length part ≡ n
-  part-length = e ∙ sym (zeroed-length n k l)
+  pub from-in-turn : (root chunk : ℕ) → runFrom normal included wrap recordModule recordKind recordTarget memberChunk member loads n root chunk
+      ≡ executeAll normal included wrap recordModule recordKind recordTarget (hostsInTurn wrap memberChunk member loads n root chunk)
+  unfolding runFrom executeAll hostsInTurn
+  from-in-turn root chunk =
+      let start : St Executed = unexecuted normal included wrap recordModule recordKind recordTarget in
+      let last : List ℕ = cond (wrapped wrap root) (root ∷ []) [] in
+      ap (λ (s : St Executed). s .made)
+      (ap (λ (s : St Executed). foldl run s last) (visit-chunk start chunk)
+      ∙ sym (foldl-append run start (flatMap (eagerMembers wrap memberChunk member) (chunkOrder loads n chunk)) last))
 
-  pub part-front : take n (part ++ drop n (replicate k 0)) ≡ part
-  part-front = take-at part (drop n (replicate k 0)) n part-length
+  -- what a run lists, and its hosts: a place a module
+  module _ (root chunk : ℕ) where
+    abbrev hosts : List ℕ
+    hosts = hostsInTurn wrap memberChunk member loads n root chunk
 
-  pub part-size : n ≡ length (take n (part ++ drop n (replicate k 0)))
-  part-size = sym (ap length part-front ∙ part-length)
+    abbrev of-run : (P : Executed → Type 0) → P (executeAll normal included wrap recordModule recordKind recordTarget hosts) → P (runFrom normal included wrap recordModule recordKind recordTarget memberChunk member loads n root chunk)
+    of-run P h = subst P (sym (from-in-turn root chunk)) h
 
-  pub part-within : n ≤ length (part ++ drop n (replicate k 0))
-  part-within = omega (arith, length-append part (drop n (replicate k 0)), part-length)
+    pub from-distinct : Distinct (runFrom normal included wrap recordModule recordKind recordTarget memberChunk member loads n root chunk .listed)
+    from-distinct = of-run (λ (e : Executed). Distinct (e .listed)) (run-distinct normal included wrap recordModule recordKind recordTarget hosts)
 
-  -- the first rows that it has of a column
-  pub part-starts : (column : List ℕ) (m : ℕ) → FirstRows column part → m < n → Starts column (take n (part ++ drop n (replicate k 0))) m
-  part-starts column m rows h = record { rows = subst (FirstRows column) (sym part-front) rows; room = omega (arith, part-size) }
+    pub from-length : length (runFrom normal included wrap recordModule recordKind recordTarget memberChunk member loads n root chunk .listed) ≤ length normal
+    from-length = of-run (λ (e : Executed). length (e .listed) ≤ length normal) (run-length normal included wrap recordModule recordKind recordTarget hosts)
 
--- from nothing met, a chunk's visit lists the chunk order
-pub chunks-written : (loads : ℕ → List ℕ) (n c : ℕ) (visited marks′ visited′ : List ℕ) (r : ℕ) → n ≤ length visited
-    → Visits loads everywhere (place everywhere) (visiting (replicate n 0) visited 0) (c ∷ []) (visiting marks′ visited′ r) → Written (chunkOrder loads n c) visited visited′ r
-unfolding chunkOrder
-chunks-written loads n c visited marks′ visited′ r l v =
-    let list : List ℕ = postOrder loads everywhere n (c ∷ []) in
-    let all : keep everywhere list ≡ list = keep-all everywhere list (λ x h. refl) in
-    let made : _≡_ {A = Placed} (record { order = visited′; count = r }) (record { order = list ++ drop (length list) visited; count = length list }) =
-    sym (ap (λ (s : St Placed). s .made) (visited-walk loads everywhere (place everywhere) v))
-    ∙ placed-order everywhere loads everywhere n (c ∷ []) visited l
-    ∙ ap (λ (k : List ℕ). record { order = k ++ drop (length k) visited; count = length k }) all in
-    record { count = ap (λ (p : Placed). p .count) made; places = ap (λ (p : Placed). p .order) made }
+    pub from-member : (m : ℕ) → List·Memᴰ m (runFrom normal included wrap recordModule recordKind recordTarget memberChunk member loads n root chunk .listed) → (m < length normal) × (isNormal normal m ≡ true) × (flagged included m ≡ true)
+    from-member = of-run (λ (e : Executed). (m : ℕ) → List·Memᴰ m (e .listed) → (m < length normal) × (isNormal normal m ≡ true) × (flagged included m ≡ true)) (run-member normal included wrap recordModule recordKind recordTarget hosts)
 
--- which are chunks
-pub chunks-inside : (loads : ℕ → List ℕ) (n c i : ℕ) → i < length (chunkOrder loads n c) → getD (chunkOrder loads n c) i 0 < n
-unfolding chunkOrder
-chunks-inside loads n c i h = order-met loads everywhere n (c ∷ []) _ (getD-mem (postOrder loads everywhere n (c ∷ [])) i h) .0
+    pub from-hosts-length : length (runFrom normal included wrap recordModule recordKind recordTarget memberChunk member loads n root chunk .hosts) ≡ length normal
+    from-hosts-length = of-run (λ (e : Executed). length (e .hosts) ≡ length normal) (run-hosts-length normal included wrap recordModule recordKind recordTarget hosts)
 
--- "last, a root with wrap not 0"
-
-module _ (wrap : List ℕ) (root : ℕ) (hosts : List ℕ) where
-  pub root-plain : getD wrap root 0 ≡ 0 → hosts ++ cond (wrapped wrap root) (root ∷ []) [] ≡ hosts
-  root-plain e = rw (eq-eqb (getD wrap root 0) 0 e) (append-nil hosts)
-
-  pub root-wrapped : (getD wrap root 0 ≡ 0 → ⊥) → hosts ++ cond (wrapped wrap root) (root ∷ []) [] ≡ hosts ++ (root ∷ [])
-  root-wrapped n = rw (ne-eqb (getD wrap root 0) 0 n)
-
--- what was written stands in front
-module _ (list old new : List ℕ) (r : ℕ) (w : Written list old new r) where
-  pub written-front : take r new ≡ list
-  written-front = ap (take r) (w .places) ∙ take-at list (drop (length list) old) r (sym (w .count))
-
-  pub written-within : r ≤ length new
-  written-within = omega (arith, w .count, ap length (w .places), length-append list (drop (length list) old))
+-- the run of a root of a project
+pub run-in-turn : (p : Project) (wrap : List ℕ) (root : ℕ) → runOf p wrap root
+    ≡ executeAll (p .normal) (p .included) wrap (p .recordModule) (p .recordKind) (p .recordTarget)
+    (hostsInTurn wrap (p .memberChunk) (p .member) (loadOrder (p .order) (p .importChunk) (p .imports)) (chunks p) root (entryChunkOf p root))
+unfolding runOf
+run-in-turn p wrap root = from-in-turn (p .normal) (p .included) wrap (p .recordModule) (p .recordKind) (p .recordTarget) (p .memberChunk) (p .member) (loadOrder (p .order) (p .importChunk) (p .imports)) (chunks p) root (entryChunkOf p root)

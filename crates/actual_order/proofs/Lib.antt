@@ -1,18 +1,13 @@
--- `Actuals`: what a run of hosts lists, and which hosts it notes; `OfProject`: the same of a project. `Starting`: the first rows of a column. `Passing`: met
--- places that are passed over. `Triggers`, `Filling`: modules executed into slices. `Chunks`: the visited chunks. `Lending`, `ChunkVisits`, `ModuleVisits`: visits with
--- the counters lent; `Relending`, `Machine`: what their proofs by hand share. `Roots`: the entry chunk of a root. `Promises`: what an accepted project
--- gives the cores, and the promise in each case.
+-- `Actuals`: what a run of hosts lists, and which hosts it notes; `OfProject`: the same of a project. `Chunks`: the run of a root is the scope's chunk visit.
+-- `Pruning`: a gate goes into the successors. `Columns`: what the columns that the visits read say. `Filling`, `Hosting`: hosts in turn, into slices and over
+-- columns. `Parts`: front parts of arrays. `Roots`: the entry chunk of a root. `Promises`: what an accepted project gives the cores, and the promise in each case.
 pub mod Actuals
 pub mod OfProject
-pub mod Starting
-pub mod Passing
-pub mod Triggers
-pub mod Lending
-pub mod Relending
-pub mod Machine
+pub mod Pruning
+pub mod Columns
 pub mod Filling
+pub mod Hosting
 pub mod Chunks
-pub mod ChunkVisits
-pub mod ModuleVisits
+pub mod Parts
 pub mod Roots
 pub mod Promises

@@ -1,6 +1,6 @@
 -- What holds of the actual order of a root of a project, and of its hosts.
 -- Assumes nothing.
-use mathlib.Core.Path.{_≡_}
+use mathlib.Core.Path.{_≡_, sym, subst}
 use mathlib.Core.Logic.{_⊎_, inl, inr, ⊎-elim}
 use mathlib.Core.Bool.{true, false}
 use mathlib.Core.List.{List, List·Memᴰ}
@@ -10,8 +10,10 @@ use Rattle.lists.specs.Words.{Distinct}
 use Rattle.tables.specs.Project.{Project, missing}
 use Rattle.tables.specs.Readings.{modules, chunks, isNormal, flagged, wrapped, membersOf, entryChunkOf}
 use Rattle.load_order.specs.LoadOrder.{loadOrder}
-use Rattle.actual_order.specs.Actual.{chunkOrder, hostsInTurn, runOf, actualOf, hostsOf}
-use Rattle.actual_order.proofs.Actuals.{run-distinct, run-member, run-length, run-noted, run-hosts-length, turn-host}
+use Rattle.actual_order.specs.Actual.{Executed, runOf, actualOf, hostsOf}
+use Rattle.actual_order.specs.inner.InTurn.{chunkOrder, hostsInTurn}
+use Rattle.actual_order.proofs.Actuals.{Noted, run-noted, turn-host}
+use Rattle.actual_order.proofs.Chunks.{from-distinct, from-member, from-length, from-hosts-length, run-in-turn}
 
 module _ (p : Project) (root : ℕ) where
   abbrev loads : ℕ → List ℕ
@@ -23,20 +25,20 @@ module _ (p : Project) (root : ℕ) where
   -- "no module stands twice"
   pub actual-distinct : Distinct (actualOf p root)
   unfolding actualOf runOf
-  actual-distinct = run-distinct (p .normal) (p .included) (p .wrap) (p .recordModule) (p .recordKind) (p .recordTarget) turns
+  actual-distinct = from-distinct (p .normal) (p .included) (p .wrap) (p .recordModule) (p .recordKind) (p .recordTarget) (p .memberChunk) (p .member) loads (chunks p) root (entryChunkOf p root)
 
   -- "each is normal and included"
   pub actual-member : (m : ℕ) → List·Memᴰ m (actualOf p root) → (m < modules p) × (isNormal (p .normal) m ≡ true) × (flagged (p .included) m ≡ true)
   unfolding actualOf runOf
-  actual-member = run-member (p .normal) (p .included) (p .wrap) (p .recordModule) (p .recordKind) (p .recordTarget) turns
+  actual-member = from-member (p .normal) (p .included) (p .wrap) (p .recordModule) (p .recordKind) (p .recordTarget) (p .memberChunk) (p .member) loads (chunks p) root (entryChunkOf p root)
 
   pub actual-length : length (actualOf p root) ≤ modules p
   unfolding actualOf runOf
-  actual-length = run-length (p .normal) (p .included) (p .wrap) (p .recordModule) (p .recordKind) (p .recordTarget) turns
+  actual-length = from-length (p .normal) (p .included) (p .wrap) (p .recordModule) (p .recordKind) (p .recordTarget) (p .memberChunk) (p .member) loads (chunks p) root (entryChunkOf p root)
 
   pub hosts-length : length (hostsOf p root) ≡ modules p
   unfolding hostsOf runOf
-  hosts-length = run-hosts-length (p .normal) (p .included) (p .wrap) (p .recordModule) (p .recordKind) (p .recordTarget) turns
+  hosts-length = from-hosts-length (p .normal) (p .included) (p .wrap) (p .recordModule) (p .recordKind) (p .recordTarget) (p .memberChunk) (p .member) loads (chunks p) root (entryChunkOf p root)
 
   -- a module with a noted host has wrap not 0; both are listed, and the host was executed by a chunk that is visited, or is the root
   pub record HasHost (m host : ℕ) : Type 0 where
@@ -45,8 +47,15 @@ module _ (p : Project) (root : ℕ) where
     pub host-listed : List·Memᴰ host (actualOf p root)
     pub from : ((c : ℕ) × List·Memᴰ c (chunkOrder loads (chunks p) (entryChunkOf p root)) × List·Memᴰ host (membersOf (p .memberChunk) (p .member) c) × (wrapped (p .wrap) host ≡ false)) ⊎ ((host ≡ root) × (wrapped (p .wrap) root ≡ true))
 
+  -- as the run notes them
+  abbrev AllNoted : Executed → Type 0
+  AllNoted e = (m : ℕ) → (getD (e .hosts) m missing ≡ missing) ⊎ Noted (p .normal) (p .included) (p .wrap) (p .recordModule) (p .recordKind) (p .recordTarget) turns e m
+
+  all-noted : AllNoted (runOf p (p .wrap) root)
+  all-noted = subst AllNoted (sym (run-in-turn p (p .wrap) root)) (run-noted (p .normal) (p .included) (p .wrap) (p .recordModule) (p .recordKind) (p .recordTarget) turns)
+
   pub hosts-noted : (m : ℕ) → (getD (hostsOf p root) m missing ≡ missing) ⊎ HasHost m (getD (hostsOf p root) m missing)
-  unfolding actualOf hostsOf runOf
+  unfolding actualOf hostsOf
   hosts-noted m =
       ⊎-elim
       (λ e. inl e)
@@ -56,4 +65,4 @@ module _ (p : Project) (root : ℕ) where
         host-listed = n .host-listed;
         from = turn-host (p .wrap) (p .memberChunk) (p .member) loads (chunks p) root (entryChunkOf p root) (getD (hostsOf p root) m missing) (n .host);
       })
-      (run-noted (p .normal) (p .included) (p .wrap) (p .recordModule) (p .recordKind) (p .recordTarget) turns m)
+      (all-noted m)

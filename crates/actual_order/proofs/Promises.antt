@@ -18,11 +18,11 @@ use Rattle.tables.specs.declared.Answer.the-variants.{Refused, Counted}
 use Rattle.tables.proofs.Accepted.{accepted}
 use Rattle.tables.proofs.Answering.{verdict-project, verdict-unfit, verdict-short, verdict-none, counted-refused, after-refused, counted-accepted, after-accepted}
 use Rattle.load_order.specs.LoadOrder.{loadOrder}
-use Rattle.actual_order.specs.Actual.{Executed, executeAll, hostsInTurn, runOf, actualOf, hostsOf}
+use Rattle.actual_order.specs.Actual.{Executed, runFrom, runOf, actualOf, hostsOf}
 use Rattle.load_order.specs.inner.Rows.{Imports}
-use Rattle.actual_order.specs.Cores.{Fit, Members, Listed, analysedChunk}
+use Rattle.actual_order.specs.inner.Cores.{Fit, Members, Listed, analysedChunk}
 use Rattle.actual_order.specs.Promise.{actualVerdict, ActualOrder}
-use Rattle.actual_order.proofs.Actuals.{run-hosts-length}
+use Rattle.actual_order.proofs.Chunks.{from-hosts-length}
 use Rattle.actual_order.proofs.Roots.{Chunk, analysed-chunk, analysed-found}
 
 -- what the tests leave, as the cores ask for it
@@ -56,8 +56,7 @@ module _ (p : Project) (a : Accepted p) where
 -- the run of a root from an entry chunk
 abbrev pub run-from : Project → ℕ → ℕ → Executed
 run-from p root c =
-    executeAll (p .normal) (p .included) (p .wrap) (p .recordModule) (p .recordKind) (p .recordTarget)
-    (hostsInTurn (p .wrap) (p .memberChunk) (p .member) (loadOrder (p .order) (p .importChunk) (p .imports)) (chunks p) root c)
+    runFrom (p .normal) (p .included) (p .wrap) (p .recordModule) (p .recordKind) (p .recordTarget) (p .memberChunk) (p .member) (loadOrder (p .order) (p .importChunk) (p .imports)) (chunks p) root c
 
 -- the promise, case by case
 
@@ -133,7 +132,7 @@ module _ (p : Project) (root : ℕ) (order hosts : List ℕ) where
           let zero : number ≡ 0 = verdict-none (refusal p) (isAnalysed p root) room clear known (and-join (leb (modules p) (length order)) (leb (modules p) (length hosts)) (le-leb (modules p) (length order) u) (le-leb (modules p) (length hosts) v)) in
           let same : run .listed ≡ actualOf p root = ap (λ (e : Executed). e .listed) run-is in
           let noted : run .hosts ≡ hostsOf p root = ap (λ (e : Executed). e .hosts) run-is in
-          let size : modules p ≡ length (run .hosts) = sym (run-hosts-length (p .normal) (p .included) (p .wrap) (p .recordModule) (p .recordKind) (p .recordTarget) _) in
+          let size : modules p ≡ length (run .hosts) = sym (from-hosts-length (p .normal) (p .included) (p .wrap) (p .recordModule) (p .recordKind) (p .recordTarget) (p .memberChunk) (p .member) (loadOrder (p .order) (p .importChunk) (p .imports)) (chunks p) root chunk) in
           record {
             number = sym zero;
             count = w .listed .count ∙ ap length same ∙ sym (counted-accepted number (length (actualOf p root)) zero);

@@ -16,7 +16,7 @@ use Rattle.tables.specs.Project.{Project, missing}
 use Rattle.tables.specs.Readings.{flagged, rowsOf, valuesOf, firstOf, analysedRow, isAnalysed}
 use Rattle.tables.specs.Accepted.{Accepted, BelowOrMissing}
 use Rattle.tables.proofs.Accepted.{getD-mem}
-use Rattle.actual_order.specs.Cores.{analysedChunk}
+use Rattle.actual_order.specs.inner.Cores.{analysedChunk}
 use Rattle.load_order.proofs.LoadOrders.{Pairs}
 use Rattle.load_order.proofs.Arranging.{mem-rows, rows-none, rows-rise, mem-values}
 

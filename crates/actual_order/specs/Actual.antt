@@ -1,24 +1,20 @@
 -- "Actual order and hosts" of an entry, over the columns that it reads and at a project.
 -- Assumes nothing.
 use mathlib.Core.Bool.{Bool, cond, not, _&&_}
-use mathlib.Core.List.{List, [], _∷_, _++_, foldl, flatMap}
+use mathlib.Core.List.{List, [], _∷_, foldl}
 use Prim.Native.Nat.{ℕ}
-use lib.ListN.{length, set, replicate}
-use lib.Dec.{eqb}
+use lib.ListN.{length, replicate}
 use Rattle.lists.specs.Words.{keep}
-use Rattle.walk.specs.Walk.{St, visit, snoc, everywhere, postOrder}
+use Rattle.walk.specs.Walk.{St, visit, walk, snoc, everywhere}
 use Rattle.tables.specs.Project.{Project, missing}
 use Rattle.tables.specs.Readings.{chunks, isNormal, flagged, wrapped, isEager, anyTarget, targetsOf, membersOf, entryChunkOf}
 use Rattle.load_order.specs.LoadOrder.{loadOrder}
+use Rattle.visit_steps.specs.Hosts.{noted}
 
 -- what executing modules makes: the list, and the noted hosts
 pub record Executed : Type 0 where
   pub listed : List ℕ
   pub hosts : List ℕ
-
--- "if it isn't the host, the host is noted"
-abbrev pub noted : ℕ → List ℕ → ℕ → List ℕ
-noted host hosts m = cond (eqb m host) hosts (set hosts m host)
 
 -- "then lists it; if it isn't the host, the host is noted"
 abbrev pub note : ℕ → Executed → ℕ → Executed
@@ -33,6 +29,14 @@ unfoldable pub triggered : List ℕ → List ℕ → List ℕ → List ℕ → L
 triggered normal wrap recordModule recordKind recordTarget m =
     keep (wrapped wrap) (targetsOf isEager anyTarget normal recordModule recordKind recordTarget m)
 
+-- "wrap 0"
+abbrev pub unwrapped : List ℕ → ℕ → Bool
+unwrapped wrap m = not (wrapped wrap m)
+
+-- a chunk's "members with wrap 0 .. in order"
+unfoldable pub eagerMembers : List ℕ → List ℕ → List ℕ → ℕ → List ℕ
+eagerMembers wrap memberChunk member c = keep (unwrapped wrap) (membersOf memberChunk member c)
+
 module _ (normal included wrap recordModule recordKind recordTarget : List ℕ) where
   -- "Executing a normal, included, unmet module first executes, under the same host, its targets .., then lists it": the walk, its own host
   unfoldable pub execute : St Executed → ℕ → St Executed
@@ -46,32 +50,25 @@ module _ (normal included wrap recordModule recordKind recordTarget : List ℕ) 
     made = record { listed = []; hosts = replicate (length normal) missing };
   }
 
-  -- the modules executed as their own hosts, in turn
-  unfoldable pub executeAll : List ℕ → Executed
-  executeAll hosts = foldl execute unexecuted hosts .made
+  -- "Then its members with wrap 0 execute in order, each its own host"
+  unfoldable pub executeMembers : List ℕ → List ℕ → St Executed → ℕ → St Executed
+  executeMembers memberChunk member st c = foldl execute st (eagerMembers wrap memberChunk member c)
 
--- "wrap 0"
-abbrev pub unwrapped : List ℕ → ℕ → Bool
-unwrapped wrap m = not (wrapped wrap m)
+  -- "A chunk visit visits the imported chunks first .. Then its members with wrap 0 execute ..": the walk over n chunks that load others, whose action on
+  -- leaving a chunk is to execute its members
+  unfoldable pub visitChunk : List ℕ → List ℕ → (ℕ → List ℕ) → ℕ → St Executed → ℕ → St Executed
+  visitChunk memberChunk member loads n st c =
+      walk loads everywhere (executeMembers memberChunk member) (record { marks = replicate n 0; made = st }) (c ∷ []) .made
 
--- a chunk's "members with wrap 0 .. in order"
-unfoldable pub eagerMembers : List ℕ → List ℕ → List ℕ → ℕ → List ℕ
-eagerMembers wrap memberChunk member c = keep (unwrapped wrap) (membersOf memberChunk member c)
+  -- a chunk's visit from nothing, and "Last, a root with wrap not 0 executes"
+  unfoldable pub runFrom : List ℕ → List ℕ → (ℕ → List ℕ) → ℕ → ℕ → ℕ → Executed
+  runFrom memberChunk member loads n root chunk =
+      foldl execute (visitChunk memberChunk member loads n unexecuted chunk) (cond (wrapped wrap root) (root ∷ []) []) .made
 
--- the chunks in the order in which their visits end, over n chunks that load others: "A chunk visit visits the imported chunks first"
-unfoldable pub chunkOrder : (ℕ → List ℕ) → ℕ → ℕ → List ℕ
-chunkOrder loads n c = postOrder loads everywhere n (c ∷ [])
-
--- the hosts in turn: each visited chunk's eager members, and "last, a root with wrap not 0"
-unfoldable pub hostsInTurn : List ℕ → List ℕ → List ℕ → (ℕ → List ℕ) → ℕ → ℕ → ℕ → List ℕ
-hostsInTurn wrap memberChunk member loads n root chunk =
-    flatMap (eagerMembers wrap memberChunk member) (chunkOrder loads n chunk) ++ cond (wrapped wrap root) (root ∷ []) []
-
--- the run of a root, with the wraps as they are given
+-- the run of a root from its entry chunk, with the wraps as they are given
 unfoldable pub runOf : Project → List ℕ → ℕ → Executed
 runOf p wrap root =
-    executeAll (p .normal) (p .included) wrap (p .recordModule) (p .recordKind) (p .recordTarget)
-    (hostsInTurn wrap (p .memberChunk) (p .member) (loadOrder (p .order) (p .importChunk) (p .imports)) (chunks p) root (entryChunkOf p root))
+    runFrom (p .normal) (p .included) wrap (p .recordModule) (p .recordKind) (p .recordTarget) (p .memberChunk) (p .member) (loadOrder (p .order) (p .importChunk) (p .imports)) (chunks p) root (entryChunkOf p root)
 
 -- the actual order of a root
 unfoldable pub actualOf : Project → ℕ → List ℕ

@@ -1,4 +1,4 @@
 -- The actual order of an entry, and its hosts.
 pub mod Actual
-pub mod Cores
 pub mod Promise
+pub mod inner

@@ -10,8 +10,8 @@ use Rattle.tables.specs.Refusal.{moduleLimit}
 use Rattle.tables.proofs.Accepted.{getD-mem}
 use Rattle.expected_order.specs.Expected.{expected}
 use Rattle.expected_order.proofs.Laws.{expected-distinct, expected-length, expected-in}
-use Rattle.actual_order.specs.Actual.{executeAll}
-use Rattle.actual_order.proofs.Actuals.{run-distinct, run-member, run-length}
+use Rattle.actual_order.specs.Actual.{runFrom}
+use Rattle.actual_order.proofs.Chunks.{from-distinct, from-member, from-length}
 use Rattle.at_risk.specs.Steps.{Order}
 
 -- a list without repeats of modules that have a row
@@ -30,9 +30,9 @@ module _ (normal : List ℕ) (n : ℕ) (e : length normal ≡ n) (few : n ≤ mo
       (expected-length normal included recordModule recordKind recordTarget root)
       (expected-in normal included recordModule recordKind recordTarget root)
 
-  pub actual-order : (included wrap recordModule recordKind recordTarget hosts : List ℕ) → Order (executeAll normal included wrap recordModule recordKind recordTarget hosts .listed) n
-  actual-order included wrap recordModule recordKind recordTarget hosts =
+  pub actual-order : (included wrap recordModule recordKind recordTarget memberChunk member : List ℕ) (loads : ℕ → List ℕ) (chunks root chunk : ℕ) → Order (runFrom normal included wrap recordModule recordKind recordTarget memberChunk member loads chunks root chunk .listed) n
+  actual-order included wrap recordModule recordKind recordTarget memberChunk member loads chunks root chunk =
       is-order _ (length normal) n e few
-      (run-distinct normal included wrap recordModule recordKind recordTarget hosts)
-      (run-length normal included wrap recordModule recordKind recordTarget hosts)
-      (λ x h. run-member normal included wrap recordModule recordKind recordTarget hosts x h .0)
+      (from-distinct normal included wrap recordModule recordKind recordTarget memberChunk member loads chunks root chunk)
+      (from-length normal included wrap recordModule recordKind recordTarget memberChunk member loads chunks root chunk)
+      (λ x h. from-member normal included wrap recordModule recordKind recordTarget memberChunk member loads chunks root chunk x h .0)

@@ -21,7 +21,7 @@ use Rattle.tables.proofs.Accepted.{accepted}
 use Rattle.tables.proofs.Answering.{verdict-project, verdict-unfit, verdict-short, verdict-none, counted-refused, after-refused, counted-accepted, after-accepted}
 use Rattle.expected_order.specs.OfProject.{expectedOf}
 use Rattle.actual_order.specs.Actual.{runOf, actualOf, hostsOf}
-use Rattle.actual_order.specs.Cores.{analysedChunk}
+use Rattle.actual_order.specs.inner.Cores.{analysedChunk}
 use Rattle.actual_order.proofs.Promises.{imports-fit, modules-fit, members-fit, run-from}
 use Rattle.actual_order.proofs.Roots.{Chunk, analysed-chunk, analysed-found}
 use Rattle.chunk_cycles.specs.Cycles.{reachesCycleOf}

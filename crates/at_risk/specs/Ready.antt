@@ -6,9 +6,9 @@ use Prim.Native.Nat.{ℕ, _≤_, _<_}
 use lib.ListN.{length}
 use Rattle.tables.specs.Refusal.{moduleLimit, chunkLimit, rowLimit}
 use Rattle.tables.specs.Readings.{valuesOf}
-use Rattle.actual_order.specs.Actual.{Executed, executeAll, hostsInTurn}
+use Rattle.actual_order.specs.Actual.{Executed, runFrom}
 use Rattle.load_order.specs.inner.Rows.{Imports}
-use Rattle.actual_order.specs.Cores.{Fit, Members}
+use Rattle.actual_order.specs.inner.Cores.{Fit, Members}
 use Rattle.chunk_cycles.specs.Cycles.{labels as labelled}
 use Rattle.chunk_cycles.specs.Graph.{Graph}
 use Rattle.sensitivity.specs.Ready.{Statements, UseRows}
@@ -16,7 +16,7 @@ use Rattle.sensitivity.specs.Ready.{Statements, UseRows}
 -- the run of a root from an entry chunk, over n chunks that load others
 abbrev pub run : List ℕ → List ℕ → List ℕ → List ℕ → List ℕ → List ℕ → List ℕ → List ℕ → (ℕ → List ℕ) → ℕ → ℕ → ℕ → Executed
 run normal included wrap recordModule recordKind recordTarget memberChunk member loads n root chunk =
-    executeAll normal included wrap recordModule recordKind recordTarget (hostsInTurn wrap memberChunk member loads n root chunk)
+    runFrom normal included wrap recordModule recordKind recordTarget memberChunk member loads n root chunk
 
 -- a row for each of n modules
 pub record Rows (sensitive eligible : List ℕ) (n : ℕ) : Type 0 where

@@ -8,7 +8,7 @@ ghost use Rattle.tables.specs.Refusal.{rowLimit};
 ghost use Rattle.expected_order.specs.Expected.{expected as expectedFrom};
 ghost use Rattle.load_order.specs.LoadOrder.{loadOrder};
 ghost use Rattle.load_order.specs.inner.Rows.{Imports, Loads};
-ghost use Rattle.actual_order.specs.Cores.{Fit, Members};
+ghost use Rattle.actual_order.specs.inner.Cores.{Fit, Members};
 ghost use Rattle.chunk_cycles.specs.Cycles.{reachesCycle};
 ghost use Rattle.at_risk.specs.Ready.{run, Rows, Chunks, Labelled, Tables};
 ghost use Rattle.sensitivity.specs.Marks.{usesWrapped, isSensitive, isEligible};

@@ -19,7 +19,7 @@ use Rattle.expected_order.specs.OfProject.{expectedOf}
 use Rattle.actual_order.specs.Actual.{runOf, actualOf, hostsOf}
 use Rattle.load_order.specs.LoadOrder.{loadOrder}
 use Rattle.load_order.specs.inner.Rows.{Loads}
-use Rattle.actual_order.specs.Cores.{Fit, Members}
+use Rattle.actual_order.specs.inner.Cores.{Fit, Members}
 use Rattle.load_order.proofs.Arranging.{arranged-loads}
 use Rattle.actual_order.proofs.Promises.{imports-fit, modules-fit, members-fit}
 use Rattle.actual_order.proofs.Roots.{first-found}

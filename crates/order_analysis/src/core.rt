@@ -2,7 +2,7 @@
 ghost use mathlib.Core.Path.{_≡_};
 ghost use lib.ListN.{length};
 ghost use Rattle.load_order.specs.inner.Rows.{Loads};
-ghost use Rattle.actual_order.specs.Cores.{Fit, Members};
+ghost use Rattle.actual_order.specs.inner.Cores.{Fit, Members};
 ghost use Rattle.at_risk.specs.Ready.{Labelled, Rows};
 ghost use Rattle.at_risk.specs.Steps.{join};
 ghost use Rattle.wrap_plan.specs.Closing.{whole, Acceptable};

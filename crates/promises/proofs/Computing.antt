@@ -10,7 +10,7 @@ use Rattle.sort_modules.specs.OfProject.{numbersOf, sortedOf}
 use Rattle.expected_order.specs.Expected.{expected}
 use Rattle.expected_order.specs.OfProject.{expectedOf}
 use Rattle.load_order.specs.LoadOrder.{sortBy, loadOrder}
-use Rattle.actual_order.specs.Actual.{triggered, execute, executeAll, eagerMembers, chunkOrder, hostsInTurn, runOf, actualOf, hostsOf}
+use Rattle.actual_order.specs.Actual.{triggered, execute, eagerMembers, executeMembers, visitChunk, runFrom, runOf, actualOf, hostsOf}
 use Rattle.chunk_cycles.specs.Cycles.{cyclicOf, connected, component, cyclic, label, labels, reachesCycle, labelsOf, reachesCycleOf}
 use Rattle.chunk_cycles.specs.Cycles as cycles
 use Rattle.sensitivity.specs.Marks.{wakes, usesWrapped, sensitive, eligible}
@@ -23,5 +23,5 @@ use Rattle.wrap_plan.specs.Planned.{ordersOf, planOf}
 use Rattle.order_analysis.specs.Whole.{seedsOf, wholePlan}
 
 unfoldable pub computing : Unit {0}
-unfolding visit walk postOrder rounds close rowsOf resolved targetsOf valuesOf isAnalysed entryChunkOf analysed sizesFit below belowOrMissing valuesFit rises rowsRise allNormal usesOwn dependedResolved plainSymbols entriesOnce importsOnce rowsAgree refusal visited numbers sorted numbersOf sortedOf expected expectedOf sortBy loadOrder triggered execute executeAll eagerMembers chunkOrder hostsInTurn runOf actualOf hostsOf connected component cyclic label labels reachesCycle labelsOf cyclicOf reachesCycleOf cycles.reached wakes usesWrapped sensitive eligible early isFlagged orderRisk cycleRisk riskOf expectedSensitiveOf riskOfEntry suffixAsks componentAsks leads importAsks symbolTouches referenceTouches readAsks asked start planFrom plan.reached ordersOf planOf seedsOf wholePlan flatMap sized zip actualSensitiveOf
+unfolding visit walk postOrder rounds close rowsOf resolved targetsOf valuesOf isAnalysed entryChunkOf analysed sizesFit below belowOrMissing valuesFit rises rowsRise allNormal usesOwn dependedResolved plainSymbols entriesOnce importsOnce rowsAgree refusal visited numbers sorted numbersOf sortedOf expected expectedOf sortBy loadOrder triggered execute eagerMembers executeMembers visitChunk runFrom runOf actualOf hostsOf connected component cyclic label labels reachesCycle labelsOf cyclicOf reachesCycleOf cycles.reached wakes usesWrapped sensitive eligible early isFlagged orderRisk cycleRisk riskOf expectedSensitiveOf riskOfEntry suffixAsks componentAsks leads importAsks symbolTouches referenceTouches readAsks asked start planFrom plan.reached ordersOf planOf seedsOf wholePlan flatMap sized zip actualSensitiveOf
 computing = tt

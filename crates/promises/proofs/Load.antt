@@ -23,8 +23,10 @@ use Rattle.expected_order.specs.Expected.{expected}
 use Rattle.expected_order.specs.OfProject.{expectedOf}
 use Rattle.expected_order.proofs.Laws.{reached-path}
 use Rattle.load_order.specs.LoadOrder.{loadOrder}
-use Rattle.actual_order.specs.Actual.{executes, triggered, unwrapped, eagerMembers, chunkOrder, hostsInTurn, runOf, actualOf}
+use Rattle.actual_order.specs.Actual.{Executed, executes, triggered, unwrapped, eagerMembers, runOf, actualOf}
+use Rattle.actual_order.specs.inner.InTurn.{chunkOrder, hostsInTurn}
 use Rattle.actual_order.proofs.Actuals.{mem-flat, run-order, turn-host}
+use Rattle.actual_order.proofs.Chunks.{run-in-turn}
 use Rattle.sensitivity.specs.Marks.{sensitive, eligible}
 use Rattle.at_risk.specs.Entry.{expectedSensitiveOf, actualSensitiveOf}
 use Rattle.wrap_rules.specs.Plan.{reached}
@@ -383,8 +385,8 @@ module _ (p : Project) (ok : refusal p ≡ 0) (plain : Plain p) where
     loading wrap = foldl (visit (wakes wrap) runs snoc fuel)
 
     run-made : (wrap : List ℕ) → runOf p wrap root .listed ≡ loading wrap none-met (eagerly wrap ++ last wrap) .made
-    unfolding runOf hostsInTurn postOrder walk
-    run-made wrap = run-order (p .normal) (p .included) wrap (p .recordModule) (p .recordKind) (p .recordTarget) (eagerly wrap ++ last wrap)
+    unfolding hostsInTurn postOrder walk
+    run-made wrap = ap (λ (e : Executed). e .listed) (run-in-turn p wrap root) ∙ run-order (p .normal) (p .included) wrap (p .recordModule) (p .recordKind) (p .recordTarget) (eagerly wrap ++ last wrap)
 
     root-such : isNormal (p .normal) root ≡ true → Such root
     root-such e = (root-reached p root (analysed-root p root an) e, e)

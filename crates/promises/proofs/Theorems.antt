@@ -11,7 +11,7 @@ use Rattle.lists.specs.Words.{upTo, elem, has, ones, Distinct}
 use Rattle.lists.proofs.Laws.{any-mem, keep-mem, upTo-mem}
 use Rattle.walk.specs.Close.{Within, Closed, Bits}
 use Rattle.tables.specs.Project.{Project}
-use Rattle.tables.specs.Readings.{modules, chunks, analysedRow, isAnalysed, analysed, entryChunkOf, rowsOf}
+use Rattle.tables.specs.Readings.{modules, analysedRow, isAnalysed, analysed, entryChunkOf, rowsOf}
 use Rattle.tables.specs.Refusal.{refusal}
 use Rattle.tables.specs.Answers.{numberOf, countOf, counted, after}
 use Rattle.tables.specs.declared.Answer.{Answer}
@@ -21,9 +21,8 @@ use Rattle.chunk_cycles.specs.Graph.{ImportsFit}
 use Rattle.chunk_cycles.proofs.Paths.{component-grows}
 use Rattle.expected_order.specs.OfProject.{expectedOf}
 use Rattle.expected_order.proofs.Laws.{expected-distinct}
-use Rattle.actual_order.specs.Actual.{runOf, actualOf, hostsOf, hostsInTurn}
-use Rattle.load_order.specs.LoadOrder.{loadOrder}
-use Rattle.actual_order.proofs.Actuals.{run-distinct}
+use Rattle.actual_order.specs.Actual.{actualOf, hostsOf}
+use Rattle.actual_order.proofs.OfProject.{actual-distinct}
 use Rattle.sensitivity.specs.Marks.{sensitive, eligible}
 use Rattle.at_risk.specs.Risk.{isFlagged}
 use Rattle.at_risk.specs.Entry.{expectedSensitiveOf, actualSensitiveOf, riskOfEntry}
@@ -106,16 +105,10 @@ analysed-root p root e =
     let q = mem-rows (p .entry) root (r .1) in
     subst (λ (x : ℕ). List·Memᴰ x (roots p)) (q .1) (Memᴰ·map (λ (row : ℕ). getD (p .entry) row 0) (keep-mem (analysedRow p) (upTo (length (p .entry))) (upTo-mem (q .0)) (r .2)))
 
--- no module stands twice in either order
+-- no module stands twice in the expected order
 expected-once : (p : Project) (root : ℕ) → Distinct (expectedOf p root)
 unfolding expectedOf
 expected-once p root = expected-distinct (p .normal) (p .included) (p .recordModule) (p .recordKind) (p .recordTarget) root
-
-actual-once : (p : Project) (root : ℕ) → Distinct (actualOf p root)
-unfolding actualOf runOf
-actual-once p root =
-    run-distinct (p .normal) (p .included) (p .wrap) (p .recordModule) (p .recordKind) (p .recordTarget)
-    (hostsInTurn (p .wrap) (p .memberChunk) (p .member) (loadOrder (p .order) (p .importChunk) (p .imports)) (chunks p) root (entryChunkOf p root))
 
 module _ (p : Project) (root : ℕ) (a : isAnalysed p root ≡ true) (eE : (m : ℕ) → List·Memᴰ m (expectedSensitiveOf p root) → eligible p m ≡ true) where
   -- rule (i): from the first planned module on all are planned
@@ -137,7 +130,7 @@ module _ (p : Project) (root : ℕ) (a : isAnalysed p root ≡ true) (eE : (m : 
   struck : ((m : ℕ) → List·Memᴰ m (actualSensitiveOf p root) → eligible p m ≡ true) → unplanned (wholePlan p) (expectedSensitiveOf p root) ≡ unplanned (wholePlan p) (actualSensitiveOf p root)
   unfolding expectedSensitiveOf actualSensitiveOf
   struck eA =
-      struck-same (sensitive p) (eligible p) (expectedOf p root) (actualOf p root) (hostsOf p root) (has (wholePlan p)) (expected-once p root) (actual-once p root) eE eA flagged-planned
+      struck-same (sensitive p) (eligible p) (expectedOf p root) (actualOf p root) (hostsOf p root) (has (wholePlan p)) (expected-once p root) (actual-distinct p root) eE eA flagged-planned
 
 pub wholePlanKeepsTheOrder : WholePlanKeepsTheOrder
 unfolding WholePlanKeepsTheOrder AllEligible

@@ -12,7 +12,7 @@ use Rattle.tables.specs.Readings.{modules}
 use Rattle.tables.specs.Refusal.{refusal}
 use Rattle.tables.specs.Accepted.{Accepted}
 use Rattle.tables.proofs.Accepted.{accepted}
-use Rattle.actual_order.specs.Cores.{Fit, Members, Listed, analysedChunk}
+use Rattle.actual_order.specs.inner.Cores.{Fit, Members, Listed, analysedChunk}
 use Rattle.actual_order.proofs.Promises.{imports-fit, modules-fit, members-fit, refused-project, refused-root, refused-order, refused-hosts, root-in, chunk-in, run-from, counted-run}
 use Rattle.actual_order.proofs.actual_order.Statement.{statement}
 use Rattle.actual_order.proofs.actual_order.Tie as tie

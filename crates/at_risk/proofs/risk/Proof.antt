@@ -11,7 +11,7 @@ use Rattle.tables.specs.Readings.{modules}
 use Rattle.tables.specs.Refusal.{refusal}
 use Rattle.tables.proofs.Accepted.{accepted}
 use Rattle.expected_order.specs.OfProject.{expectedOf}
-use Rattle.actual_order.specs.Cores.{analysedChunk}
+use Rattle.actual_order.specs.inner.Cores.{analysedChunk}
 use Rattle.actual_order.proofs.Promises.{run-from}
 use Rattle.chunk_cycles.specs.Cycles.{reachesCycleOf}
 use Rattle.sensitivity.specs.Marks.{sensitive, eligible}

@@ -1,162 +1,166 @@
--- `actual_order::core::actual_order_for_root` meets its contract: the visited chunks, and then what they execute, from nothing met and no host noted.
+-- `actual_order::core::actual_order_for_root` meets its contract: the visits over the two columns.
 -- Assumes nothing.
 use mathlib.Core.Path.{_≡_, sym, ap, subst, _∙_}
-use mathlib.Core.Bool.{cond}
-use mathlib.Core.List.{List, [], _∷_, _++_, foldl, flatMap}
-use Prim.Native.Nat.{ℕ, _+_, _≤_, _<_}
+use mathlib.Core.List.{List, _++_, map, foldl}
+use Prim.Native.Nat.{ℕ, _≤_}
 use native.Mathlib.Omega.{arith}
-use lib.ListN.{length, getD, take, replicate}
-use lib.Seq.{length-take-le}
+use lib.ListN.{length, take, drop, replicate}
 use borrow.Author.Needs.{needs}
-use Rattle.lists.specs.Words.{zeros}
-use Rattle.walk.proofs.Visits.{zeros-replicate}
+use Rattle.lists.specs.Words.{upTo}
+use Rattle.walk.specs.Walk.{St}
 use Rattle.tables.specs.Project.{missing}
-use Rattle.tables.specs.Readings.{wrapped, valuesOf}
-use Rattle.actual_order.specs.Actual.{eagerMembers, chunkOrder, hostsInTurn}
-use Rattle.actual_order.specs.Cores.{Fit, Members, Starts, executing, hosted}
-use Rattle.actual_order.proofs.Filling.{turns-listed}
-use Rattle.actual_order.proofs.Chunks.{zeroed, zeroed-length, part-size, part-within, part-starts, chunks-inside, written-front, written-within}
+use Rattle.tables.specs.Accepted.{BelowOrMissing}
+use Rattle.tables.specs.Readings.{valuesOf}
+use Rattle.triggers.specs.inner.Columns.{wayOf, rowTrigger}
+use Rattle.visit_steps.specs.inner.Steps.{Filling}
+use Rattle.module_visits.specs.inner.Visits.{executing, hosted}
+use Rattle.actual_order.specs.Actual.{Executed}
+use Rattle.actual_order.specs.inner.Cores.{Fit, namedBy, turns, Listed}
+use Rattle.actual_order.proofs.Columns.{ways, triggers, triggers-inside}
+use Rattle.actual_order.proofs.Hosting.{turns-written}
+use Rattle.actual_order.proofs.Chunks.{from-in-turn}
+use Rattle.actual_order.proofs.Parts.{zeroed-length, part-front, part-size, part-within}
 use Rattle.actual_order.proofs.core.actual_order_for_root.Statement.{statement}
 use Rattle.actual_order.proofs.core.actual_order_for_root.Tie as tie
 
-abbrev entry : tie.After-chunk-order → tie.Start
-entry o = o .before .before .before .before .before .before .before .before .before .before .before .before .before .before
+abbrev entry : tie.After-slice-known2 → tie.Start
+entry k = k .before .before .before .before .before .before .before .before .before .before .before .before
 
--- the list of the visited chunks
-abbrev list : tie.After-chunk-order → List ℕ
-list o = let a = entry o .args in chunkOrder (valuesOf (a .import-chunk .now) (a .loads .now)) (a .chunks) (a .chunk)
-
-front : (o : tie.After-chunk-order) → take (o .chunk-order .result) (o .chunk-order .last .1 .1 .0) ≡ list o
-front o = written-front (list o) _ (o .chunk-order .last .1 .1 .0) (o .chunk-order .result) (o .chunk-order .ensures)
-
-within : (o : tie.After-chunk-order) → o .chunk-order .result ≤ length (o .chunk-order .last .1 .1 .0)
-within o = written-within (list o) _ (o .chunk-order .last .1 .1 .0) (o .chunk-order .result) (o .chunk-order .ensures)
-
--- how many modules there are
-size : (o : tie.After-chunk-order) → length (entry o .args .normal .now) ≤ 4096
-size o = let e = entry o in omega (arith, e .pre .0 .normals, e .pre .1 .1 .1 .0 .0)
-
--- the first rows of the modules, and those of the members' chunks
-module _ (r : tie.After-first-rows) where
-  abbrev chunked : tie.After-chunk-order
-  chunked = r .before .before .before
-
+-- how many modules and records there are
+module _ (e : tie.Start) where
   abbrev modules : ℕ
-  modules = length (entry chunked .args .normal .now) + 1
+  modules = length (e .args .normal .now)
 
-  abbrev starts : List ℕ
-  starts = r .first-rows .last .1 .0
+  abbrev rows : ℕ
+  rows = length (e .args .record-module .now)
 
-  modules-fit : modules ≤ 4097
-  modules-fit = omega (arith, size chunked)
+  abbrev fit : let a = e .args in Fit (a .normal .now) (a .included .now) (a .wrap .now) (a .record-module .now) (a .record-kind .now) (a .record-target .now) (length (a .hosts .now))
+  fit = e .pre .0
 
-module _ (q : tie.After-first-rows2) where
-  abbrev started : tie.After-first-rows
-  started = q .before .before .before
+  size : modules ≤ 4096
+  size = omega (arith, fit .normals, e .pre .1 .1 .1 .0 .0)
 
-  abbrev places : ℕ
-  places = entry (chunked started) .args .chunks + 1
+  rows-fit : rows ≤ 16384
+  rows-fit = fit .rows
 
-  abbrev member-starts : List ℕ
-  member-starts = q .first-rows2 .last .1 .0
+  abbrev n : ℕ
+  n = length (e .args .hosts .now)
 
-  places-fit : places ≤ 1025
-  places-fit = omega (arith, entry (chunked started) .pre .1 .1 .1 .0 .1)
+  -- the two columns, as the definitions give them
+  abbrev way-column : List ℕ
+  way-column = let a = e .args in ways (a .normal .now) (a .included .now) (a .wrap .now) n
 
-abbrev filled : tie.After-slice-known3 → tie.After-fill
-filled k = k .before .before
+  abbrev trigger-column : List ℕ
+  trigger-column = let a = e .args in triggers (a .normal .now) (a .included .now) (a .wrap .now) n (a .record-module .now) (a .record-kind .now) (a .record-target .now)
 
-abbrev all-started : tie.After-fill → tie.After-first-rows2
-all-started f = f .before .before .before
+-- as they are written, and as they are lent
+module _ (r : tie.After-write-ways) where
+  abbrev start₁ : tie.Start
+  start₁ = entry (r .before .before)
 
-add-modules : tie.Need-add-modules
-add-modules c = search needs
+  abbrev written-ways : List ℕ
+  written-ways = r .write-ways .last .1 .1 .1 .0
 
-add-places : tie.Need-add-places
-add-places c = search needs
+  abbrev lent-ways : List ℕ
+  lent-ways = take (modules start₁) (written-ways ++ drop (modules start₁) (replicate 4096 0))
 
-slice-aggregate-chunk-order : tie.Need-slice-aggregate-chunk-order
-slice-aggregate-chunk-order c = search needs
+  ways-size : modules start₁ ≡ length lent-ways
+  ways-size = part-size (modules start₁) 4096 (size start₁) written-ways (r .write-ways .kept .1 .1 .1 .0)
 
-chunk-order-requires : tie.Need-chunk-order-requires
-chunk-order-requires c κs = search needs
+  ways-are : lent-ways ≡ way-column start₁
+  ways-are =
+      let a = start₁ .args in
+      part-front (modules start₁) 4096 (size start₁) written-ways (r .write-ways .kept .1 .1 .1 .0)
+      ∙ r .write-ways .ensures
+      ∙ ap (λ (i : ℕ). map (wayOf (a .normal .now) (a .included .now) (a .wrap .now)) (upTo i)) (sym (zeroed-length (modules start₁) 4096 (size start₁)) ∙ fit start₁ .normals)
 
-array-borrow-prefix-starts : tie.Need-array-borrow-prefix-starts
-array-borrow-prefix-starts c = search needs
+module _ (r : tie.After-write-triggers) where
+  abbrev ways-before : tie.After-write-ways
+  ways-before = r .before .before .before .before
 
-slice-aggregate-first-rows : tie.Need-slice-aggregate-first-rows
-slice-aggregate-first-rows c = let o = c .before .before in zeroed-length (length (entry o .args .normal .now) + 1) 4097 (omega (arith, size o))
+  abbrev start₂ : tie.Start
+  start₂ = start₁ ways-before
 
-first-rows-requires : tie.Need-first-rows-requires
-first-rows-requires c κs = search needs
+  abbrev written-triggers : List ℕ
+  written-triggers = r .write-triggers .last .1 .1 .1 .1 .0
 
-array-borrow-prefix-member-starts : tie.Need-array-borrow-prefix-member-starts
-array-borrow-prefix-member-starts c = search needs
+  abbrev lent-triggers : List ℕ
+  lent-triggers = take (rows start₂) (written-triggers ++ drop (rows start₂) (replicate 16384 0))
 
-slice-aggregate-first-rows-2 : tie.Need-slice-aggregate-first-rows-2
-slice-aggregate-first-rows-2 c = let e = entry (chunked (c .before .before)) in zeroed-length (e .args .chunks + 1) 1025 (omega (arith, e .pre .1 .1 .1 .0 .1))
+  triggers-size : rows start₂ ≡ length lent-triggers
+  triggers-size = part-size (rows start₂) 16384 (rows-fit start₂) written-triggers (r .write-triggers .kept .1 .1 .1 .1 .0)
 
-first-rows-requires-2 : tie.Need-first-rows-requires-2
-first-rows-requires-2 c κs = search needs
+  triggers-are : lent-triggers ≡ trigger-column start₂
+  triggers-are =
+      let a = start₂ .args in
+      part-front (rows start₂) 16384 (rows-fit start₂) written-triggers (r .write-triggers .kept .1 .1 .1 .1 .0)
+      ∙ r .write-triggers .ensures
+      ∙ ap (λ (w : List ℕ). map (rowTrigger (a .normal .now) w (a .record-kind .now) (a .record-target .now)) (upTo (length (take (rows start₂) (replicate {A = ℕ} 16384 0))))) (ways-are ways-before)
+      ∙ ap (λ (i : ℕ). map (rowTrigger (a .normal .now) (way-column start₂) (a .record-kind .now) (a .record-target .now)) (upTo i)) (sym (zeroed-length (rows start₂) 16384 (rows-fit start₂)))
 
-fill-requires : tie.Need-fill-requires
-fill-requires c κs = search needs
+array-borrow-prefix-ways : tie.Need-array-borrow-prefix-ways
+array-borrow-prefix-ways c = size (entry c)
 
-array-share-prefix-starts : tie.Need-array-share-prefix-starts
-array-share-prefix-starts c = let r = started (all-started (filled c)) in part-within (modules r) 4097 (modules-fit r) (starts r) (r .first-rows .kept .1 .0)
+slice-aggregate-write-ways : tie.Need-slice-aggregate-write-ways
+slice-aggregate-write-ways c = let e = entry (c .before) in zeroed-length (modules e) 4096 (size e)
 
-slice-aggregate-execute-all : tie.Need-slice-aggregate-execute-all
-slice-aggregate-execute-all c = let r = started (all-started (filled (c .before))) in part-size (modules r) 4097 (modules-fit r) (starts r) (r .first-rows .kept .1 .0)
+write-ways-requires : tie.Need-write-ways-requires
+write-ways-requires c κs =
+    let e = entry (c .before) in
+    let z = zeroed-length (modules e) 4096 (size e) in
+    (z, fit e .includeds ∙ sym (fit e .normals) ∙ z, fit e .wraps ∙ sym (fit e .normals) ∙ z)
 
-array-share-prefix-member-starts : tie.Need-array-share-prefix-member-starts
-array-share-prefix-member-starts c = let q = all-started (filled (c .before)) in part-within (places q) 1025 (places-fit q) (member-starts q) (q .first-rows2 .kept .1 .0)
+array-share-prefix-ways : tie.Need-array-share-prefix-ways
+array-share-prefix-ways c = let r = c .before in let e = start₁ r in part-within (modules e) 4096 (size e) (written-ways r) (r .write-ways .kept .1 .1 .1 .0)
 
-slice-aggregate-execute-all-2 : tie.Need-slice-aggregate-execute-all-2
-slice-aggregate-execute-all-2 c = let q = all-started (filled (c .before .before)) in part-size (places q) 1025 (places-fit q) (member-starts q) (q .first-rows2 .kept .1 .0)
+slice-aggregate-write-triggers : tie.Need-slice-aggregate-write-triggers
+slice-aggregate-write-triggers c = ways-size (c .before .before)
 
-array-share-prefix-visited : tie.Need-array-share-prefix-visited
-array-share-prefix-visited c = within (chunked (started (all-started (filled (c .before .before)))))
+array-borrow-prefix-triggers : tie.Need-array-borrow-prefix-triggers
+array-borrow-prefix-triggers c = rows-fit (start₁ (c .before .before))
 
-slice-aggregate-execute-all-3 : tie.Need-slice-aggregate-execute-all-3
-slice-aggregate-execute-all-3 c =
-    let o = chunked (started (all-started (filled (c .before .before .before)))) in
-    sym (length-take-le (o .chunk-order .result) (o .chunk-order .last .1 .1 .0) (within o))
+slice-aggregate-write-triggers-2 : tie.Need-slice-aggregate-write-triggers-2
+slice-aggregate-write-triggers-2 c = let e = start₁ (c .before .before .before) in zeroed-length (rows e) 16384 (rows-fit e)
 
-array-borrow-prefix-marks : tie.Need-array-borrow-prefix-marks
-array-borrow-prefix-marks c = size (chunked (started (all-started (filled (c .before .before .before)))))
+write-triggers-requires : tie.Need-write-triggers-requires
+write-triggers-requires c κs =
+    let r = c .before .before .before in
+    let e = start₁ r in
+    let z = zeroed-length (rows e) 16384 (rows-fit e) in
+    (fit e .kinds ∙ z, (fit e .targets ∙ z, sym (ways-size r)))
 
-slice-aggregate-execute-all-4 : tie.Need-slice-aggregate-execute-all-4
-slice-aggregate-execute-all-4 c =
-    let o = chunked (started (all-started (filled (c .before .before .before .before)))) in
-    zeroed-length (length (entry o .args .normal .now)) 4096 (size o)
+array-share-prefix-ways-2 : tie.Need-array-share-prefix-ways-2
+array-share-prefix-ways-2 c = let r = ways-before (c .before) in let e = start₁ r in part-within (modules e) 4096 (size e) (written-ways r) (r .write-ways .kept .1 .1 .1 .0)
 
-execute-all-requires : tie.Need-execute-all-requires
-execute-all-requires c κs =
-    let f = filled (c .before .before .before .before .before .before) in
-    let q = all-started f in
-    let r = started q in
-    let o = chunked r in
-    let e = entry o in
+slice-aggregate-run-visits : tie.Need-slice-aggregate-run-visits
+slice-aggregate-run-visits c = ways-size (ways-before (c .before .before))
+
+array-share-prefix-triggers : tie.Need-array-share-prefix-triggers
+array-share-prefix-triggers c = let r = c .before .before in let e = start₂ r in part-within (rows e) 16384 (rows-fit e) (written-triggers r) (r .write-triggers .kept .1 .1 .1 .1 .0)
+
+slice-aggregate-run-visits-2 : tie.Need-slice-aggregate-run-visits-2
+slice-aggregate-run-visits-2 c = triggers-size (c .before .before .before)
+
+run-visits-requires : tie.Need-run-visits-requires
+run-visits-requires c κs =
+    let r = c .before .before .before .before .before in
+    let e = start₂ r in
     let a = e .args in
-    let n : length (a .hosts .now) ≡ length (take (length (a .normal .now)) (replicate {A = ℕ} 4096 0)) = sym (e .pre .0 .normals) ∙ zeroed-length (length (a .normal .now)) 4096 (size o) in
-    let z : zeros (take (length (a .normal .now)) (replicate {A = ℕ} 4096 0)) ≡ length (a .normal .now) = ap zeros (zeroed (length (a .normal .now)) 4096 (size o)) ∙ zeros-replicate (length (a .normal .now)) in (
-      subst (Fit (a .normal .now) (a .included .now) (a .wrap .now) (a .record-module .now) (a .record-kind .now) (a .record-target .now)) n (e .pre .0),
-      (
-        subst (Starts (a .record-module .now) _) n (part-starts (modules r) 4097 (modules-fit r) (starts r) (r .first-rows .kept .1 .0) (a .record-module .now) (length (a .hosts .now)) (r .first-rows .ensures) (omega (arith, e .pre .0 .normals))),
-        (
-          f .fill .kept .0 ∙ n,
-          (
-            subst (Members (a .member-chunk .now) (a .member .now)) n (e .pre .1 .0),
-            (
-              λ i h.
-                  let inside = chunks-inside (valuesOf (a .import-chunk .now) (a .loads .now)) (a .chunks) (a .chunk) i (subst (λ (l : List ℕ). i < length l) (front o) h) in
-                  part-starts (places q) 1025 (places-fit q) (member-starts q) (q .first-rows2 .kept .1 .0) (a .member-chunk .now) (getD (take (o .chunk-order .result) (o .chunk-order .last .1 .1 .0)) i 0 + 1) (q .first-rows2 .ensures) (omega (arith, inside, ap (λ (l : List ℕ). getD l i 0) (front o))),
-              (subst (λ (k : ℕ). a .root < k) n (e .pre .1 .1 .1 .1 .0 .0), (omega (arith, z, e .pre .0 .normals, e .pre .1 .1 .1 .1 .1), omega (arith, z, size o))),
-            ),
-          ),
-        ),
-      ),
-    )
+    let f = fit e in
+    record {
+      each = sym (ways-size (ways-before r)) ∙ f .normals;
+      rising = f .rising;
+      rows = f .rows;
+      lengths = sym (triggers-size r);
+      inside = subst (BelowOrMissing (n e)) (sym (triggers-are r)) (triggers-inside (a .normal .now) (a .included .now) (a .wrap .now) (n e) (f .normals) (a .record-module .now) (a .record-kind .now) (a .record-target .now));
+      members = e .pre .1 .0;
+      loading = e .pre .1 .1 .0;
+      modules = e .pre .1 .1 .1 .0 .0;
+      places = e .pre .1 .1 .1 .0 .1;
+      root-in = e .pre .1 .1 .1 .1 .0 .0;
+      chunk-in = e .pre .1 .1 .1 .1 .0 .1;
+      room = e .pre .1 .1 .1 .1 .1;
+    }
 
 same-length : tie.Need-same-length
 same-length c = search needs
@@ -165,46 +169,38 @@ same-length-2 : tie.Need-same-length-2
 same-length-2 c = search needs
 
 returns : tie.Need-returns
-unfolding hostsInTurn
 returns c =
-    let x = c .before .before .before .before .before in
-    let f = filled (x .before .before .before .before .before .before .before) in
-    let o = chunked (started (all-started f)) in
-    let e = entry o in
+    let v = c .before .before .before .before in
+    let r = v .before .before .before .before .before .before in
+    let e = start₂ r in
     let a = e .args in
-    let n : ℕ = length (a .normal .now) in
-    let k = x .execute-all .last .1 .1 .1 .1 .1 .1 .1 .1 .1 .1 .1 in
-    let own : List ℕ → List ℕ = λ (l : List ℕ). flatMap (eagerMembers (a .wrap .now) (a .member-chunk .now) (a .member .now)) l ++ cond (wrapped (a .wrap .now) (a .root)) (a .root ∷ []) [] in
-    turns-listed (a .normal .now) (a .included .now) (a .wrap .now) (a .record-module .now) (a .record-kind .now) (a .record-target .now) (a .order .now) (k .0) (k .1 .0) (k .1 .1 .0) (x .execute-all .result) (own (list o)) (omega (arith, e .pre .0 .normals, e .pre .1 .1 .1 .1 .1))
-    (ap (λ (m : List ℕ). foldl (hosted (a .normal .now) (a .included .now) (a .wrap .now) (a .record-module .now) (a .record-kind .now) (a .record-target .now)) (executing m (a .order .now) (replicate n missing) 0) (own (list o))) (sym (zeroed n 4096 (size o)))
-    ∙ ap (λ (h : List ℕ). foldl (hosted (a .normal .now) (a .included .now) (a .wrap .now) (a .record-module .now) (a .record-kind .now) (a .record-target .now)) (executing (take n (replicate 4096 0)) (a .order .now) h 0) (own (list o))) (ap (λ (i : ℕ). replicate i missing) (e .pre .0 .normals) ∙ sym (f .fill .ensures))
-    ∙ ap (λ (l : List ℕ). foldl (hosted (a .normal .now) (a .included .now) (a .wrap .now) (a .record-module .now) (a .record-kind .now) (a .record-target .now)) (executing (take n (replicate 4096 0)) (a .order .now) (f .fill .last .0) 0) (own l)) (sym (front o))
-    ∙ x .execute-all .ensures)
+    let loads : ℕ → List ℕ = valuesOf (a .import-chunk .now) (a .loads .now) in
+    let k = v .run-visits .last .1 .1 .1 .1 .1 .1 .1 in
+    let s : St Filling = executing (replicate (n e) 0) (a .order .now) (replicate (n e) missing) 0 in
+    subst (λ (x : Executed). Listed x (a .order .now) (k .0) (k .1 .0) (v .run-visits .result)) (sym (from-in-turn (a .normal .now) (a .included .now) (a .wrap .now) (a .record-module .now) (a .record-kind .now) (a .record-target .now) (a .member-chunk .now) (a .member .now) loads (a .chunks) (a .root) (a .chunk)))
+    (turns-written (a .normal .now) (a .included .now) (a .wrap .now) (a .record-module .now) (a .record-kind .now) (a .record-target .now) (n e) (fit e) (a .member-chunk .now) (a .member .now) loads (a .chunks) (a .root) (a .chunk) (a .order .now) (k .0) (k .1 .0) (v .run-visits .result) (e .pre .1 .1 .1 .1 .1)
+    (sym
+    (ap (λ (w : List ℕ). foldl (hosted (namedBy (a .record-module .now) (lent-triggers r))) s (turns w (a .member-chunk .now) (a .member .now) loads (a .chunks) (a .root) (a .chunk)) .made) (ways-are (ways-before r))
+    ∙ ap (λ (t : List ℕ). foldl (hosted (namedBy (a .record-module .now) t)) s (turns (way-column e) (a .member-chunk .now) (a .member .now) loads (a .chunks) (a .root) (a .chunk)) .made) (triggers-are r))
+    ∙ v .run-visits .ensures))
 
 pub actual-order-for-root-spec : {M : Type 1} → statement M
 actual-order-for-root-spec =
     tie.close
     (tie.spec
-    add-modules
-    add-places
-    slice-aggregate-chunk-order
-    chunk-order-requires
-    array-borrow-prefix-starts
-    slice-aggregate-first-rows
-    first-rows-requires
-    array-borrow-prefix-member-starts
-    slice-aggregate-first-rows-2
-    first-rows-requires-2
-    fill-requires
-    array-share-prefix-starts
-    slice-aggregate-execute-all
-    array-share-prefix-member-starts
-    slice-aggregate-execute-all-2
-    array-share-prefix-visited
-    slice-aggregate-execute-all-3
-    array-borrow-prefix-marks
-    slice-aggregate-execute-all-4
-    execute-all-requires
+    array-borrow-prefix-ways
+    slice-aggregate-write-ways
+    write-ways-requires
+    array-share-prefix-ways
+    slice-aggregate-write-triggers
+    array-borrow-prefix-triggers
+    slice-aggregate-write-triggers-2
+    write-triggers-requires
+    array-share-prefix-ways-2
+    slice-aggregate-run-visits
+    array-share-prefix-triggers
+    slice-aggregate-run-visits-2
+    run-visits-requires
     same-length
     same-length-2
     returns)

@@ -8,11 +8,11 @@ use lib.ListN.{length, take, drop, replicate}
 use borrow.Author.Needs.{needs}
 use Rattle.tables.specs.Readings.{valuesOf}
 use Rattle.load_order.specs.LoadOrder.{loadOrder}
-use Rattle.actual_order.specs.Actual.{executeAll, hostsInTurn}
+use Rattle.actual_order.specs.Actual.{runFrom}
 use Rattle.load_order.specs.inner.Rows.{Loads}
-use Rattle.actual_order.specs.Cores.{Listed}
+use Rattle.actual_order.specs.inner.Cores.{Listed}
 use Rattle.load_order.proofs.Arranging.{arranged-loads}
-use Rattle.actual_order.proofs.Chunks.{zeroed-length, part-front, part-size, part-within}
+use Rattle.actual_order.proofs.Parts.{zeroed-length, part-front, part-size, part-within}
 use Rattle.actual_order.proofs.core.actual_order_from.Statement.{statement}
 use Rattle.actual_order.proofs.core.actual_order_from.Tie as tie
 
@@ -73,7 +73,7 @@ returns c =
     let x = r .before .before .before .before .before in
     let a = start x .args in
     let k = r .actual-order-for-root .last .1 .1 .1 .1 .1 .1 .1 .1 .1 .1 in
-    subst (λ (f : ℕ → List ℕ). Listed (executeAll (a .normal .now) (a .included .now) (a .wrap .now) (a .record-module .now) (a .record-kind .now) (a .record-target .now) (hostsInTurn (a .wrap .now) (a .member-chunk .now) (a .member .now) f (length (a .exec-order .now)) (a .root) (a .chunk))) (a .order .now) (k .0) (k .1 .0) (r .actual-order-for-root .result))
+    subst (λ (f : ℕ → List ℕ). Listed (runFrom (a .normal .now) (a .included .now) (a .wrap .now) (a .record-module .now) (a .record-kind .now) (a .record-target .now) (a .member-chunk .now) (a .member .now) f (length (a .exec-order .now)) (a .root) (a .chunk)) (a .order .now) (k .0) (k .1 .0) (r .actual-order-for-root .result))
     (arranged x) (r .actual-order-for-root .ensures)
 
 pub actual-order-from-spec : {M : Type 1} → statement M

@@ -8,8 +8,7 @@ use lib.ListN.{length, take, drop, replicate, length-append}
 use lib.Seq.{length-take-le, take-at}
 use Rattle.tables.specs.Readings.{valuesOf}
 use Rattle.actual_order.specs.Actual.{Executed}
-use Rattle.actual_order.specs.Cores.{Fit, Members}
-use Rattle.actual_order.proofs.Actuals.{run-hosts-length}
+use Rattle.actual_order.specs.inner.Cores.{Fit, Members}
 use Rattle.at_risk.specs.Ready.{run}
 use Rattle.at_risk.specs.Steps.{join, Order, Columns, atRisk}
 use Rattle.lists.proofs.Fronts.{front-room, front-length}
@@ -123,7 +122,7 @@ add-risk-requires c κs =
     let p = e .pre in
     let n = size (x .before) in
     let rows = p .1 .1 .1 .0 in (
-      (p .1 .1 .1 .1 .0, subst (λ (l : List ℕ). Order l n) (sym (actual-is x)) (actual-order (e .args .normal .now) n (p .0 .normals) (rows .few) (e .args .included .now) (e .args .wrap .now) (e .args .record-module .now) (e .args .record-kind .now) (e .args .record-target .now) _)),
+      (p .1 .1 .1 .1 .0, subst (λ (l : List ℕ). Order l n) (sym (actual-is x)) (actual-order (e .args .normal .now) n (p .0 .normals) (rows .few) (e .args .included .now) (e .args .wrap .now) (e .args .record-module .now) (e .args .record-kind .now) (e .args .record-target .now) (e .args .member-chunk .now) (e .args .member .now) (valuesOf (e .args .import-chunk .now) (e .args .loads .now)) (e .args .chunks) (e .args .root) (e .args .chunk))),
       (
         record { hostRows = front-length (hosts x) _ _ (hosts-length x); sensitiveRows = rows .sensitiveRows; eligibleRows = rows .eligibleRows },
         rows .few,

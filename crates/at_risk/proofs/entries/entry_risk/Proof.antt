@@ -8,7 +8,7 @@ use native.Mathlib.Omega.{arith}
 use lib.ListN.{length, take, drop, replicate}
 use lib.Seq.{length-take-le, take-at}
 use Rattle.lists.specs.Words.{marksOf}
-use Rattle.actual_order.specs.Cores.{Fit, Members}
+use Rattle.actual_order.specs.inner.Cores.{Fit, Members}
 use Rattle.sensitivity.specs.Marks.{isSensitive, isEligible, usesWrapped}
 use Rattle.lists.proofs.Fronts.{front-room, front-length}
 use Rattle.at_risk.proofs.Marked.{marked-risk}

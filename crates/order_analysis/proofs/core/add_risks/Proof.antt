@@ -12,7 +12,7 @@ use borrow.Author.Tests.{eq-eqb, ne-eqb}
 use Rattle.lists.proofs.Laws.{and-join, and-out}
 use Rattle.tables.specs.Project.{missing}
 use Rattle.tables.specs.Readings.{flagged}
-use Rattle.actual_order.specs.Cores.{Fit, Members}
+use Rattle.actual_order.specs.inner.Cores.{Fit, Members}
 use Rattle.at_risk.specs.Ready.{Rows}
 use Rattle.at_risk.specs.Steps.{join}
 use Rattle.order_analysis.specs.Analysis.{isRoot, riskAt, risks}

@@ -1,0 +1,2 @@
+-- `ChunkVisits`: a chunk's visit with the counters lent.
+pub mod ChunkVisits

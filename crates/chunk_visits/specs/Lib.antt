@@ -1,0 +1,2 @@
+-- Chunk visits.
+pub mod inner

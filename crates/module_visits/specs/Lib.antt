@@ -1,0 +1,2 @@
+-- Module visits.
+pub mod inner

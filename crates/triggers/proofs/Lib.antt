@@ -1,0 +1,2 @@
+-- `Columns`: the cases of the two columns.
+pub mod Columns

@@ -1,0 +1,2 @@
+-- In which way modules execute, and what record rows trigger.
+pub mod inner

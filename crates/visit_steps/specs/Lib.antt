@@ -1,0 +1,3 @@
+-- The steps of a visit.
+pub mod Hosts
+pub mod inner
