@@ -6,7 +6,7 @@ use mathlib.Core.List.{List}
 use Prim.Native.Nat.{ℕ, _<_}
 use lib.ListN.{replicate}
 use Rattle.lists.specs.Words.{has, marksOf}
-use Rattle.sensitivity.proofs.Marks.{marks-test}
+use Rattle.lists.proofs.Laws.{marks-test}
 use Rattle.at_risk.specs.Risk.{orderRisk, cycleRisk, riskOf}
 use Rattle.at_risk.specs.Steps.{join, atRisk}
 use Rattle.at_risk.proofs.Joins.{join-zero}

@@ -25,7 +25,8 @@ use Rattle.actual_order.specs.inner.Cores.{analysedChunk}
 use Rattle.actual_order.proofs.Promises.{imports-fit, modules-fit, members-fit, run-from}
 use Rattle.actual_order.proofs.Roots.{Chunk, analysed-chunk, analysed-found}
 use Rattle.chunk_cycles.specs.Cycles.{reachesCycleOf}
-use Rattle.sensitivity.specs.Marks.{sensitive, eligible}
+use Rattle.sensitivity.specs.Marks.{sensitive}
+use Rattle.eligibility.specs.Eligible.{eligible}
 use Rattle.at_risk.specs.Risk.{riskOf}
 use Rattle.at_risk.specs.Entry.{riskOfEntry, riskVerdict, EntryRisk}
 use Rattle.at_risk.specs.Ready.{Tables}

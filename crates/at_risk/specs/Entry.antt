@@ -14,7 +14,8 @@ use Rattle.tables.specs.declared.Answer.{Answer}
 use Rattle.expected_order.specs.OfProject.{expectedOf}
 use Rattle.actual_order.specs.Actual.{actualOf, hostsOf}
 use Rattle.chunk_cycles.specs.Cycles.{reachesCycleOf}
-use Rattle.sensitivity.specs.Marks.{sensitive, eligible}
+use Rattle.sensitivity.specs.Marks.{sensitive}
+use Rattle.eligibility.specs.Eligible.{eligible}
 use Rattle.at_risk.specs.Risk.{riskOf}
 
 -- "The entry's two sensitive orders are its expected and its actual order with all but the sensitive modules left out."

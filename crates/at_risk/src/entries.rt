@@ -11,18 +11,19 @@ ghost use Rattle.load_order.specs.inner.Rows.{Imports, Loads};
 ghost use Rattle.actual_order.specs.inner.Cores.{Fit, Members};
 ghost use Rattle.chunk_cycles.specs.Cycles.{reachesCycle};
 ghost use Rattle.at_risk.specs.Ready.{run, Rows, Chunks, Labelled, Tables};
-ghost use Rattle.sensitivity.specs.Marks.{usesWrapped, isSensitive, isEligible};
+ghost use Rattle.sensitivity.specs.Marks.{usesWrapped, isSensitive};
+ghost use Rattle.eligibility.specs.Eligible.{isEligible};
 ghost use Rattle.at_risk.specs.Risk.{riskOf};
 ghost use Rattle.at_risk.specs.Steps.{join, Order, atRisk};
 use crate::orders::add_risk;
 use actual_order::core::actual_order_for_root;
 use chunk_cycles::core::label_chunks;
 use chunk_cycles::core::reaches_cyclic;
+use eligibility::core::mark_eligible;
 use expected_order::core::expected_order_for_root;
 use lists::core::count_marked;
 use lists::core::fill;
 use load_order::core::arrange;
-use sensitivity::core::mark_eligible;
 use sensitivity::core::mark_sensitive;
 
 // Adds the risk of an entry whose expected order is given. `loads` has each chunk's imported chunks in load order.

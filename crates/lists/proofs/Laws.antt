@@ -1,6 +1,6 @@
 -- The laws of the words on lists.
 -- Assumes nothing.
-use mathlib.Core.Path.{_≡_, refl, sym, ap, subst, _∙_}
+use mathlib.Core.Path.{_≡_, refl, sym, ap, subst, fun-ext, _∙_}
 use mathlib.Core.Logic.{_⊎_, inl, inr, ⊎-elim}
 use mathlib.Core.Bool.{Bool, true, false, cond, not, _&&_, _||_, true≢false, false≢true}
 use mathlib.Core.List.{List, [], _∷_, _++_, map, List·Memᴰ, List·Memᴰ·append-cases, List·Memᴰ·head, List·Memᴰ·tail, List·Memᴰ·not-nil, List·Memᴰ·cases-cons, Memᴰ·append-left, Memᴰ·append-right}
@@ -238,6 +238,17 @@ has-in s i e = go (decLt i (length s))
     go : Dec (i < length s) → i < length s
     go (yes h) = h
     go (no h) = absurd (false≢true (sym (ap (λ (n : ℕ). not (isZero n)) (List·getD-eq-default s 0 (omega arith))) ∙ e))
+
+-- the marks of a test that holds below n only are that test
+pub marks-test : (f : ℕ → Bool) (n : ℕ) → ((m : ℕ) → f m ≡ true → m < n) → has (marksOf f n) ≡ f
+marks-test f n inside = fun-ext (λ m. go m (decLt m n))
+  where
+    go : (m : ℕ) → Dec (m < n) → has (marksOf f n) m ≡ f m
+    go m (yes l) = has-marksOf f n m l
+    go m (no l) =
+        iff-eq (has (marksOf f n) m) (f m)
+        (λ e. absurd (l (rw (length-marksOf f n) at (has-in (marksOf f n) m e))))
+        (λ e. absurd (l (inside m e)))
 
 -- a list of n marks, each 0 or 1, is the set of those that it has
 pub marksOf-has : (s : List ℕ) → ((i : ℕ) → getD s i 0 ≤ 1) → marksOf (has s) (length s) ≡ s

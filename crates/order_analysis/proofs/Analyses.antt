@@ -25,13 +25,15 @@ use Rattle.actual_order.proofs.Promises.{imports-fit, modules-fit, members-fit}
 use Rattle.actual_order.proofs.Roots.{first-found}
 use Rattle.chunk_cycles.specs.Cycles.{labels, importedBy, labelsOf, reachesCycle, reachesCycleOf}
 use Rattle.chunk_cycles.proofs.Promises.{accepted-fit}
-use Rattle.sensitivity.specs.Marks.{sensitive, eligible}
+use Rattle.sensitivity.specs.Marks.{sensitive}
+use Rattle.eligibility.specs.Eligible.{eligible}
 use Rattle.at_risk.specs.Risk.{orderRisk, cycleRisk, riskOf}
 use Rattle.at_risk.specs.Steps.{join}
 use Rattle.at_risk.specs.Entry.{riskOfEntry}
 use Rattle.at_risk.specs.Ready.{run, Labelled, Rows}
 use Rattle.at_risk.proofs.Joins.{join-zero}
-use Rattle.sensitivity.proofs.Marks.{eligible-marks, sensitive-marks}
+use Rattle.sensitivity.proofs.Marks.{sensitive-marks}
+use Rattle.eligibility.proofs.Eligible.{eligible-marks}
 use Rattle.wrap_rules.specs.Plan.{roots, start, planFrom, asked}
 use Rattle.wrap_plan.specs.Planned.{ordersOf, planOf}
 use Rattle.marks.specs.Steps.{looked, Owners}

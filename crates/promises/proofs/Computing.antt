@@ -13,7 +13,8 @@ use Rattle.load_order.specs.LoadOrder.{sortBy, loadOrder}
 use Rattle.actual_order.specs.Actual.{triggered, execute, eagerMembers, executeMembers, visitChunk, runFrom, runOf, actualOf, hostsOf}
 use Rattle.chunk_cycles.specs.Cycles.{cyclicOf, connected, component, cyclic, label, labels, reachesCycle, labelsOf, reachesCycleOf}
 use Rattle.chunk_cycles.specs.Cycles as cycles
-use Rattle.sensitivity.specs.Marks.{wakes, usesWrapped, sensitive, eligible}
+use Rattle.sensitivity.specs.Marks.{wakes, usesWrapped, sensitive}
+use Rattle.eligibility.specs.Eligible.{eligible}
 use Rattle.at_risk.specs.Risk.{early, isFlagged, orderRisk, cycleRisk, riskOf}
 use Rattle.at_risk.specs.Entry.{expectedSensitiveOf, actualSensitiveOf, riskOfEntry}
 use Rattle.wrap_rules.specs.Rules.{suffixAsks, componentAsks, leads, importAsks, symbolTouches, referenceTouches, readAsks}

@@ -27,7 +27,8 @@ use Rattle.actual_order.specs.Actual.{Executed, executes, triggered, unwrapped,
 use Rattle.actual_order.specs.inner.InTurn.{chunkOrder, hostsInTurn}
 use Rattle.actual_order.proofs.Actuals.{mem-flat, run-order, turn-host}
 use Rattle.actual_order.proofs.Chunks.{run-in-turn}
-use Rattle.sensitivity.specs.Marks.{sensitive, eligible}
+use Rattle.sensitivity.specs.Marks.{sensitive}
+use Rattle.eligibility.specs.Eligible.{eligible}
 use Rattle.at_risk.specs.Entry.{expectedSensitiveOf, actualSensitiveOf}
 use Rattle.wrap_rules.specs.Plan.{reached}
 use Rattle.wrap_rules.proofs.Rows.{mem-rows, flat-mem}

@@ -20,7 +20,7 @@ use Rattle.tables.specs.declared.Target.the-variants.{Missing, External, Normal
 use Rattle.tables.proofs.Targets.{normal-in}
 use Rattle.actual_order.specs.Actual.{triggered}
 use Rattle.actual_order.proofs.Actuals.{mem-flat}
-use Rattle.sensitivity.specs.Marks.{eligible}
+use Rattle.eligibility.specs.Eligible.{eligible}
 use Rattle.wrap_rules.specs.Rules.{importsOf, leads, importAsks}
 use Rattle.wrap_rules.specs.Plan.{reached, roots, importRule}
 use Rattle.wrap_rules.proofs.Rows.{mem-rows, flat-mem}

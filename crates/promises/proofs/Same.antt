@@ -8,7 +8,8 @@ use Rattle.tables.specs.Readings.{analysed, entryChunkOf}
 use Rattle.chunk_cycles.specs.Cycles.{labelsOf, reachesCycleOf}
 use Rattle.expected_order.specs.OfProject.{expectedOf}
 use Rattle.actual_order.specs.Actual.{runOf, actualOf, hostsOf}
-use Rattle.sensitivity.specs.Marks.{usesWrapped, sensitive, eligible}
+use Rattle.sensitivity.specs.Marks.{usesWrapped, sensitive}
+use Rattle.eligibility.specs.Eligible.{eligible}
 use Rattle.at_risk.specs.Entry.{expectedSensitiveOf, riskOfEntry}
 use Rattle.wrap_rules.specs.Rules.{componentAsks, leads, importAsks, symbolTouches, referenceTouches, readAsks}
 use Rattle.wrap_rules.specs.Plan.{Rule, suffixRule, componentRule, importRule, readRule, roots, reached, asks, asked, start, planFrom}

@@ -23,10 +23,11 @@ use Rattle.expected_order.specs.OfProject.{expectedOf}
 use Rattle.expected_order.proofs.Laws.{expected-distinct}
 use Rattle.actual_order.specs.Actual.{actualOf, hostsOf}
 use Rattle.actual_order.proofs.OfProject.{actual-distinct}
-use Rattle.sensitivity.specs.Marks.{sensitive, eligible}
+use Rattle.sensitivity.specs.Marks.{sensitive}
+use Rattle.eligibility.specs.Eligible.{eligible}
 use Rattle.at_risk.specs.Risk.{isFlagged}
 use Rattle.at_risk.specs.Entry.{expectedSensitiveOf, actualSensitiveOf, riskOfEntry}
-use Rattle.sensitivity.proofs.Marks.{eligible-in}
+use Rattle.eligibility.proofs.Eligible.{eligible-in}
 use Rattle.at_risk.proofs.Risks.{struck-same, flagged-risk}
 use Rattle.wrap_rules.specs.Rules.{fromFirst}
 use Rattle.wrap_rules.specs.Plan.{suffixRule, roots, asks}

@@ -9,9 +9,9 @@ use lib.ListN.{getD}
 use Rattle.lists.specs.Words.{every, elem, has}
 use Rattle.lists.proofs.Laws.{every-mem, elem-mem}
 use Rattle.chunk_cycles.specs.Paths.{Edge, MoreImports}
-use Rattle.sensitivity.specs.Marks.{eligible}
+use Rattle.eligibility.specs.Eligible.{eligible}
 use Rattle.at_risk.specs.Entry.{expectedSensitiveOf, actualSensitiveOf}
-use Rattle.sensitivity.proofs.Marks.{eligible-in}
+use Rattle.eligibility.proofs.Eligible.{eligible-in}
 use Rattle.order_analysis.specs.Whole.{seedsOf}
 use Rattle.promises.specs.Listing.{listing}
 use Rattle.promises.specs.Cases.{edge10}

@@ -11,7 +11,8 @@ use Rattle.tables.specs.Project.{Project}
 use Rattle.tables.specs.Readings.{modules, isNormal, isImport, normalTarget, targetsOf, rowsOf, valuesOf, isAnalysed}
 use Rattle.tables.specs.Refusal.{refusal}
 use Rattle.actual_order.specs.Actual.{executes, runOf}
-use Rattle.sensitivity.specs.Marks.{sensitive, eligible}
+use Rattle.sensitivity.specs.Marks.{sensitive}
+use Rattle.eligibility.specs.Eligible.{eligible}
 use Rattle.at_risk.specs.Entry.{expectedSensitiveOf}
 use Rattle.wrap_rules.specs.Plan.{reached}
 use Rattle.order_analysis.specs.Whole.{wholePlan}

@@ -9,7 +9,8 @@ use Rattle.tables.specs.Project.{Project}
 use Rattle.tables.specs.Readings.{isAnalysed}
 use Rattle.tables.specs.Refusal.{refusal}
 use Rattle.actual_order.specs.Actual.{runOf}
-use Rattle.sensitivity.specs.Marks.{sensitive, eligible}
+use Rattle.sensitivity.specs.Marks.{sensitive}
+use Rattle.eligibility.specs.Eligible.{eligible}
 use Rattle.at_risk.specs.Entry.{expectedSensitiveOf}
 use Rattle.wrap_rules.specs.Plan.{importRule}
 use Rattle.order_analysis.specs.Whole.{seedsOf, wholePlan}

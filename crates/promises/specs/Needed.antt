@@ -9,7 +9,7 @@ use Rattle.tables.specs.Project.{Project, project, missing}
 use Rattle.tables.specs.Readings.{modules, isAnalysed}
 use Rattle.tables.specs.Refusal.{refusal}
 use Rattle.chunk_cycles.specs.Cycles.{labelsOf}
-use Rattle.sensitivity.specs.Marks.{eligible}
+use Rattle.eligibility.specs.Eligible.{eligible}
 use Rattle.at_risk.specs.Entry.{expectedSensitiveOf, actualSensitiveOf}
 use Rattle.wrap_rules.specs.Plan.{Rule, suffixRule, componentRule, importRule, readRule, asks}
 use Rattle.wrap_plan.specs.Planned.{ordersOf, planOf}

@@ -14,7 +14,7 @@ use Rattle.tables.specs.Answers.{numberOf, countOf}
 use Rattle.tables.specs.declared.Answer.{Answer}
 use Rattle.chunk_cycles.specs.Cycles.{labelsOf}
 use Rattle.chunk_cycles.specs.Paths.{MoreImports}
-use Rattle.sensitivity.specs.Marks.{eligible}
+use Rattle.eligibility.specs.Eligible.{eligible}
 use Rattle.at_risk.specs.Entry.{expectedSensitiveOf, actualSensitiveOf}
 use Rattle.wrap_rules.specs.Plan.{Rule, asks}
 use Rattle.wrap_plan.specs.Planned.{ordersOf, planOf, PlanFromSeeds}

@@ -9,7 +9,7 @@ use Rattle.tables.specs.Readings.{isAnalysed}
 use Rattle.tables.specs.Refusal.{refusal}
 use Rattle.tables.specs.declared.Answer.the-variants.{Counted}
 use Rattle.chunk_cycles.specs.Paths.{MoreImports}
-use Rattle.sensitivity.specs.Marks.{eligible}
+use Rattle.eligibility.specs.Eligible.{eligible}
 use Rattle.at_risk.specs.Entry.{expectedSensitiveOf, actualSensitiveOf}
 use Rattle.wrap_plan.specs.Planned.{planOf, PlanFromSeeds}
 use Rattle.order_analysis.specs.Whole.{seedsOf, wholePlan, WholeAnalysis}

@@ -1,4 +1,3 @@
--- `Marks`: sensitive and eligible modules have a row. `Searches`: a run of statements. `Passes`: a pass that writes a mark a module.
+-- `Marks`: sensitive modules have a row. `Searches`: a run of statements.
 pub mod Marks
 pub mod Searches
-pub mod Passes

@@ -1,3 +1,3 @@
--- Sensitive and eligible modules. `Ready` is what functions on tested tables ask.
+-- Sensitive modules. `Ready` is what functions on tested tables ask.
 pub mod Marks
 pub mod Ready

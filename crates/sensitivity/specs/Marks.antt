@@ -1,10 +1,9 @@
--- "Sensitive" and "eligible" modules of a project.
+-- "Sensitive" modules of a project.
 -- Assumes nothing.
 use mathlib.Core.Bool.{Bool, not, _&&_, _||_}
 use mathlib.Core.List.{List}
 use Prim.Native.Nat.{ℕ}
-use lib.ListN.{getD}
-use lib.Dec.{eqb, ltb}
+use lib.Dec.{eqb}
 use Rattle.lists.specs.Words.{any}
 use Rattle.tables.specs.Project.{Project}
 use Rattle.tables.specs.Readings.{isNormal, flagged, wrapped, isImport, normalTarget, rowTargets, rowsOf, valuesOf}
@@ -33,11 +32,3 @@ sensitive p m =
     isSensitive (p .runtime) (p .normal) (p .included) (p .sensitive)
     (usesWrapped (p .normal) (p .wrap) (p .recordKind) (p .recordTarget) (p .statementModule) (p .statementIncluded) (p .useStatement) (p .useRecord))
     m
-
--- "Eligible: not the runtime, included, normal, exports 0 or 1, wrap 0."
-abbrev pub isEligible : ℕ → List ℕ → List ℕ → List ℕ → List ℕ → ℕ → Bool
-isEligible runtime normal included exports wrap m =
-    not (eqb m runtime) && (flagged included m && (isNormal normal m && (ltb (getD exports m 0) 2 && not (wrapped wrap m))))
-
-unfoldable pub eligible : Project → ℕ → Bool
-eligible p m = isEligible (p .runtime) (p .normal) (p .included) (p .exports) (p .wrap) m

@@ -31,12 +31,6 @@ pub record Statements (statementModule statementIncluded : List ℕ) : Type 0 wh
   pub includeds : length statementIncluded ≡ length statementModule
   pub few : length statementModule ≤ 16384
 
--- the columns that eligibility reads fit each other
-pub record Kinds (normal included exports wrap : List ℕ) : Type 0 where
-  pub includeds : length included ≡ length normal
-  pub exportKinds : length exports ≡ length normal
-  pub wraps : length wrap ≡ length normal
-
 -- the uses are few, and each names a statement and a record
 pub record UseRows (statementModule useStatement useRecord : List ℕ) (records : ℕ) : Type 0 where
   pub rows : length useStatement ≡ length useRecord

@@ -1,11 +1,11 @@
-// Sensitive and eligible modules, for crates above, on tested tables.
+// Sensitive modules, for crates above, on tested tables.
 ghost use mathlib.Core.Path.{_≡_};
 ghost use Prim.Native.Nat.{_+_, _-_, _<_, _≤_};
 ghost use lib.ListN.{length};
 ghost use Rattle.lists.specs.Words.{any, countFrom, bit, marksOf};
 ghost use Rattle.tables.specs.Lookups.{FirstRows};
-ghost use Rattle.sensitivity.specs.Marks.{wakes, statementWakes, usesWrapped, isSensitive, isEligible};
-ghost use Rattle.sensitivity.specs.Ready.{Records, Uses, Flags, Statements, Kinds, UseRows};
+ghost use Rattle.sensitivity.specs.Marks.{wakes, statementWakes, usesWrapped, isSensitive};
+ghost use Rattle.sensitivity.specs.Ready.{Records, Uses, Flags, Statements, UseRows};
 use tables::Target;
 use tables::core::first_rows;
 use tables::core::resolve;
@@ -164,33 +164,6 @@ fn is_order_sensitive(
     )
 }
 
-// Whether a module is eligible.
-fn is_order_wrap_eligible(
-    normal: &[u32],
-    included: &[u32],
-    exports: &[u32],
-    wrap: &[u32],
-    runtime: u32,
-    m: usize,
-) -> bool
-    requires { ⌜ Kinds (now normal) (now included) (now exports) (now wrap) × (m < length (now normal)) ⌝ }
-    ensures { λ r. ⌜ r ≡ isEligible runtime (now (normal .entry)) (now (included .entry)) (now (exports .entry)) (now (wrap .entry)) m ⌝ }
-{
-    if m == (runtime as usize) {
-        return false;
-    }
-    if included[m] != 1 {
-        return false;
-    }
-    if normal[m] != 1 {
-        return false;
-    }
-    if 1 < exports[m] {
-        return false;
-    }
-    wrap[m] == 0
-}
-
 // 1 for yes, 0 for no.
 fn mark(yes: bool) -> u32
     ensures { λ r. ⌜ r ≡ bit yes ⌝ }
@@ -199,26 +172,6 @@ fn mark(yes: bool) -> u32
         return 1;
     }
     0
-}
-
-// Marks the eligible modules.
-pub fn mark_eligible(
-    normal: &[u32],
-    included: &[u32],
-    exports: &[u32],
-    wrap: &[u32],
-    marks: &mut [u32],
-    runtime: u32,
-)
-    requires { ⌜ Kinds (now normal) (now included) (now exports) (now wrap) × (length (now marks) ≡ length (now normal)) ⌝ }
-    ensures { λ _. ⌜ now (marks .exit) ≡ marksOf (isEligible runtime (now (normal .entry)) (now (included .entry)) (now (exports .entry)) (now (wrap .entry))) (length (now (marks .entry))) ⌝ }
-{
-    let mut m = 0;
-    while m < marks.len() {
-        let eligible = is_order_wrap_eligible(normal, included, exports, wrap, runtime, m);
-        marks[m] = mark(eligible);
-        m += 1;
-    }
 }
 
 // Marks the sensitive modules. The uses of each statement are threaded, and each module's statements start where `starts` says.

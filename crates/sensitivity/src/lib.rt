@@ -1,2 +1,2 @@
-// Which modules are sensitive, and which are eligible.
+// Which modules are sensitive.
 pub mod core;

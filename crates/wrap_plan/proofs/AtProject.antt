@@ -11,7 +11,7 @@ use lib.ListN.{length, getD, List·getD-eq-default}
 use lib.Dec.{eqb}
 use borrow.Author.Tests.{eq-eqb, ne-eqb, eqb-true, eqb-false}
 use Rattle.lists.specs.Words.{isZero, upTo, keep, has, marksOf}
-use Rattle.lists.proofs.Laws.{both, not-true, and-parts, and-join, or-parts, or-left, or-right, has-in, length-marksOf, getD-in, getD-map-upTo, length-map-upTo, mark-in}
+use Rattle.lists.proofs.Laws.{both, not-true, and-parts, and-join, or-parts, or-left, or-right, has-in, length-marksOf, getD-in, getD-map-upTo, length-map-upTo, mark-in, marks-test}
 use Rattle.walk.specs.Close.{Within, Bits}
 use Rattle.tables.specs.Project.{Project, missing}
 use Rattle.tables.specs.Readings.{modules, chunks, flagged, isImport}
@@ -22,9 +22,11 @@ use Rattle.chunk_cycles.specs.Cycles.{label, labels, cyclic, importedBy, labels
 use Rattle.chunk_cycles.proofs.Paths.{graph-inside}
 use Rattle.chunk_cycles.proofs.Promises.{accepted-fit}
 use Rattle.chunk_cycles.proofs.Strong.{lowest-in, label-cyclic, label-none}
-use Rattle.sensitivity.specs.Marks.{sensitive, eligible}
+use Rattle.sensitivity.specs.Marks.{sensitive}
+use Rattle.eligibility.specs.Eligible.{eligible}
 use Rattle.at_risk.specs.Entry.{expectedSensitiveOf}
-use Rattle.sensitivity.proofs.Marks.{eligible-in, marks-test, eligible-marks, sensitive-marks}
+use Rattle.sensitivity.proofs.Marks.{sensitive-marks}
+use Rattle.eligibility.proofs.Eligible.{eligible-in, eligible-marks}
 use Rattle.wrap_rules.specs.Rules.{suffixAsks, sameComponent, importsOf, leads, chainTouches, symbolTouches, referenceTouches}
 use Rattle.wrap_rules.specs.Plan.{suffixRule, componentRule, importRule, readRule, roots, reached, asks}
 use Rattle.wrap_plan.specs.Planned.{ordersOf}

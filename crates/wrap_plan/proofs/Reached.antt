@@ -26,8 +26,8 @@ use Rattle.tables.proofs.Accepted.{getD-mem}
 use Rattle.expected_order.specs.Expected.{expected}
 use Rattle.expected_order.proofs.Laws.{imports-in, expected-member}
 use Rattle.actual_order.proofs.Actuals.{mem-flat}
-use Rattle.sensitivity.specs.Marks.{eligible}
-use Rattle.sensitivity.proofs.Marks.{eligible-normal, eligible-in}
+use Rattle.eligibility.specs.Eligible.{eligible}
+use Rattle.eligibility.proofs.Eligible.{eligible-normal, eligible-in}
 use Rattle.wrap_rules.specs.Rules.{importsOf}
 use Rattle.wrap_rules.specs.Plan.{roots, reached}
 use Rattle.marks.specs.Steps.{looked, Owners}

@@ -14,7 +14,7 @@ use Rattle.tables.specs.Readings.{modules}
 use Rattle.tables.specs.Accepted.{Below}
 use Rattle.chunk_cycles.specs.Cycles.{labelsOf}
 use Rattle.chunk_cycles.specs.Threads.{Linked}
-use Rattle.sensitivity.specs.Marks.{eligible}
+use Rattle.eligibility.specs.Eligible.{eligible}
 use Rattle.wrap_rules.specs.Rules.{suffixAsks}
 use Rattle.wrap_rules.specs.Plan.{suffixRule, componentRule, importRule, readRule, roots, reached, asks, asked}
 use Rattle.wrap_plan.specs.Planned.{ordersOf}

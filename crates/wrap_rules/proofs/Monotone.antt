@@ -13,7 +13,8 @@ use Rattle.walk.specs.Walk.{everywhere, postOrder}
 use Rattle.walk.specs.Close.{Within, Monotone}
 use Rattle.tables.specs.Project.{Project, missing}
 use Rattle.tables.specs.Readings.{modules, flagged, rowsOf, valuesOf}
-use Rattle.sensitivity.specs.Marks.{sensitive, eligible}
+use Rattle.sensitivity.specs.Marks.{sensitive}
+use Rattle.eligibility.specs.Eligible.{eligible}
 use Rattle.wrap_rules.specs.Rules.{fromFirst, suffixAsks, sameComponent, componentAsks, importsOf, leads, importAsks, chainTouches, symbolTouches, referenceTouches, readAsks}
 use Rattle.wrap_rules.specs.Plan.{Rule, suffixRule, componentRule, importRule, readRule, reached, asks, asked}
 use Rattle.wrap_rules.proofs.Lists.{any-more, and-more, and-right, or-more, cond-more}

@@ -7,15 +7,16 @@ use mathlib.Core.List.{List}
 use Prim.Native.Nat.{ℕ, _<_}
 use lib.ListN.{length}
 use Rattle.lists.specs.Words.{elem, has, marksOf}
-use Rattle.lists.proofs.Laws.{and-parts, and-join, elem-mem, has-in, length-marksOf, has-marksOf}
+use Rattle.lists.proofs.Laws.{and-parts, and-join, elem-mem, has-in, length-marksOf, has-marksOf, marks-test}
 use Rattle.walk.specs.Walk.{everywhere, postOrder}
 use Rattle.walk.proofs.Orders.{order-met}
 use Rattle.walk.specs.Close.{Within, Closed, Bits}
 use Rattle.walk.proofs.Closes.{close-len, close-bits, close-closed, close-more, close-least, close-unique, close-rises}
 use Rattle.tables.specs.Project.{Project}
 use Rattle.tables.specs.Readings.{modules, isImport, normalTarget, targetsOf}
-use Rattle.sensitivity.specs.Marks.{sensitive, eligible}
-use Rattle.sensitivity.proofs.Marks.{eligible-in, marks-test}
+use Rattle.sensitivity.specs.Marks.{sensitive}
+use Rattle.eligibility.specs.Eligible.{eligible}
+use Rattle.eligibility.proofs.Eligible.{eligible-in}
 use Rattle.wrap_rules.specs.Rules.{suffixAsks, componentAsks, importAsks, readAsks}
 use Rattle.wrap_rules.specs.Plan.{Rule, suffixRule, componentRule, importRule, readRule, roots, reached, asks, asked, start, planFrom}
 use Rattle.wrap_rules.proofs.Lists.{marksOf-bits}

@@ -9,7 +9,8 @@ use Rattle.walk.specs.Walk.{everywhere, postOrder}
 use Rattle.walk.specs.Close.{close}
 use Rattle.tables.specs.Project.{Project}
 use Rattle.tables.specs.Readings.{modules, isImport, normalTarget, targetsOf, analysed}
-use Rattle.sensitivity.specs.Marks.{sensitive, eligible}
+use Rattle.sensitivity.specs.Marks.{sensitive}
+use Rattle.eligibility.specs.Eligible.{eligible}
 use Rattle.wrap_rules.specs.Rules.{suffixAsks, componentAsks, importAsks, readAsks}
 
 -- the modules of the analysed entries, in row order

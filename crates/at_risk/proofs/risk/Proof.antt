@@ -14,7 +14,8 @@ use Rattle.expected_order.specs.OfProject.{expectedOf}
 use Rattle.actual_order.specs.inner.Cores.{analysedChunk}
 use Rattle.actual_order.proofs.Promises.{run-from}
 use Rattle.chunk_cycles.specs.Cycles.{reachesCycleOf}
-use Rattle.sensitivity.specs.Marks.{sensitive, eligible}
+use Rattle.sensitivity.specs.Marks.{sensitive}
+use Rattle.eligibility.specs.Eligible.{eligible}
 use Rattle.at_risk.specs.Risk.{riskOf}
 use Rattle.at_risk.specs.Ready.{Tables}
 use Rattle.at_risk.proofs.Promises.{tables-fit, risk-from, refused-project, refused-root, refused-room, root-in, chunk-in, counted-risk}

@@ -9,16 +9,18 @@ use lib.ListN.{length, take, drop, replicate}
 use lib.Seq.{length-take-le, take-at}
 use Rattle.lists.specs.Words.{marksOf}
 use Rattle.actual_order.specs.inner.Cores.{Fit, Members}
-use Rattle.sensitivity.specs.Marks.{isSensitive, isEligible, usesWrapped}
+use Rattle.sensitivity.specs.Marks.{isSensitive, usesWrapped}
+use Rattle.eligibility.specs.Eligible.{isEligible}
 use Rattle.lists.proofs.Fronts.{front-room, front-length}
 use Rattle.at_risk.proofs.Marked.{marked-risk}
-use Rattle.sensitivity.proofs.Marks.{is-sensitive-in, is-eligible-in}
+use Rattle.sensitivity.proofs.Marks.{is-sensitive-in}
+use Rattle.eligibility.proofs.Eligible.{is-eligible-in}
 use borrow.Author.Needs.{needs}
 use Rattle.at_risk.proofs.entries.entry_risk.Statement.{statement}
 use Rattle.at_risk.proofs.entries.entry_risk.Tie as tie
 use Rattle.at_risk.proofs.entries.entry_risk.Reads as reads
 use Rattle.at_risk.proofs.entries.entry_risk.Lts as lts
-use Rattle.sensitivity.proofs.core.mark_eligible.Reads as mark-eligible-reads
+use Rattle.eligibility.proofs.core.mark_eligible.Reads as mark-eligible-reads
 use Rattle.sensitivity.proofs.core.mark_sensitive.Reads as mark-sensitive-reads
 use Rattle.at_risk.proofs.entries.add_marked_risk.Reads as add-marked-risk-reads
 use Rattle.lists.proofs.core.count_marked.Reads as count-marked-reads
@@ -181,8 +183,8 @@ returns c =
     let a = start f .args in
     let e : length (a .normal .now) ≡ n f = start f .pre .0 .fit .normals in (
       marked-risk (is-sensitive (s f)) (is-eligible (s f)) (n f)
-          (λ m h. subst (λ (j : ℕ). m < j) e (is-sensitive-in (a .runtime) (a .normal .now) (a .included .now) m (a .sensitive .now) (usesWrapped (a .normal .now) (a .wrap .now) (a .record-kind .now) (a .record-target .now) (a .statement-module .now) (a .statement-included .now) (a .use-statement .now) (a .use-record .now)) h))
-          (λ m h. subst (λ (j : ℕ). m < j) e (is-eligible-in (a .runtime) (a .normal .now) (a .included .now) m (a .exports .now) (a .wrap .now) h))
+          (λ m h. subst (λ (j : ℕ). m < j) e (is-sensitive-in (a .runtime) (a .normal .now) (a .included .now) (a .sensitive .now) (usesWrapped (a .normal .now) (a .wrap .now) (a .record-kind .now) (a .record-target .now) (a .statement-module .now) (a .statement-included .now) (a .use-statement .now) (a .use-record .now)) m h))
+          (λ m h. subst (λ (j : ℕ). m < j) e (is-eligible-in (a .runtime) (a .normal .now) (a .included .now) (a .exports .now) (a .wrap .now) m h))
           _ _ _ _ _ _ (cleared f) _ (sensitives-is f) (eligibles-is f) (f .fill .ensures) (r .add-marked-risk .ensures),
       c .count-marked .ensures,
     )

@@ -22,7 +22,7 @@ use Rattle.order_analysis.proofs.core.analyze.Tie as tie
 use Rattle.order_analysis.proofs.core.analyze.Reads as reads
 use Rattle.order_analysis.proofs.core.analyze.Lts as lts
 use Rattle.load_order.proofs.core.arrange.Reads as arrange-reads
-use Rattle.sensitivity.proofs.core.mark_eligible.Reads as mark-eligible-reads
+use Rattle.eligibility.proofs.core.mark_eligible.Reads as mark-eligible-reads
 use Rattle.sensitivity.proofs.core.mark_sensitive.Reads as mark-sensitive-reads
 use Rattle.chunk_cycles.proofs.core.label_chunks.Reads as label-chunks-reads
 use Rattle.lists.proofs.core.count_marked.Reads as count-marked-reads

@@ -8,7 +8,7 @@ use lib.ListN.{length, length-set}
 use borrow.Author.Needs.{needs}
 use Rattle.lists.specs.Words.{bit}
 use Rattle.sensitivity.specs.Marks.{isSensitive, usesWrapped}
-use Rattle.sensitivity.proofs.Passes.{Passed, passed-length, passed-more, passed-end}
+use Rattle.lists.proofs.Passes.{Passed, passed-length, passed-more, passed-end}
 use Rattle.sensitivity.proofs.core.mark_with_threads.Statement.{statement}
 use Rattle.sensitivity.proofs.core.mark_with_threads.Tie as tie
 use Rattle.sensitivity.proofs.core.mark_with_threads.Reads as reads

@@ -13,7 +13,7 @@ use Rattle.tables.specs.Project.{Project}
 use Rattle.tables.specs.Readings.{modules}
 use Rattle.tables.specs.Accepted.{Below}
 use Rattle.tables.specs.Threads.{Threads}
-use Rattle.sensitivity.specs.Marks.{eligible}
+use Rattle.eligibility.specs.Eligible.{eligible}
 use Rattle.wrap_rules.specs.Plan.{roots}
 use Rattle.wrap_rules.specs.Spread.{ModuleGraph, Edges, importTargets}
 use Rattle.wrap_rules.specs.Roots.{Chosen}

@@ -9,7 +9,7 @@ use Rattle.lists.proofs.Laws.{length-marksOf}
 use Rattle.tables.specs.Project.{Project}
 use Rattle.tables.specs.Readings.{modules}
 use Rattle.tables.specs.Accepted.{Below}
-use Rattle.sensitivity.specs.Marks.{eligible}
+use Rattle.eligibility.specs.Eligible.{eligible}
 use Rattle.wrap_plan.specs.Planned.{planOf}
 use Rattle.wrap_plan.specs.Closing.{Rest, whole, withEntries, Basis, Plannable, PlanClosed, Marked, Seedable, SeedsPlanned}
 use Rattle.wrap_plan.proofs.Seeding.{seeds-basis, seeds-planned}

@@ -21,7 +21,7 @@ use Rattle.wrap_plan.proofs.core.plan_seeds.Statement.{statement}
 use Rattle.wrap_plan.proofs.core.plan_seeds.Tie as tie
 use Rattle.wrap_plan.proofs.core.plan_seeds.Reads as reads
 use Rattle.wrap_plan.proofs.core.plan_seeds.Lts as lts
-use Rattle.sensitivity.proofs.core.mark_eligible.Reads as mark-eligible-reads
+use Rattle.eligibility.proofs.core.mark_eligible.Reads as mark-eligible-reads
 use Rattle.sensitivity.proofs.core.mark_sensitive.Reads as mark-sensitive-reads
 use Rattle.chunk_cycles.proofs.core.label_chunks.Reads as label-chunks-reads
 use Rattle.lists.proofs.core.count_marked.Reads as count-marked-reads

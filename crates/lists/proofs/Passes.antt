@@ -1,4 +1,4 @@
--- A pass that writes a mark a module.
+-- A pass that writes a mark a place.
 -- Assumes nothing.
 use mathlib.Core.Path.{_≡_, refl, sym, ap, _∙_}
 use mathlib.Core.Bool.{Bool}

@@ -1,0 +1,3 @@
+-- `Eligible`: eligible modules have a row. `Facts`: facts as numbers, and their product.
+pub mod Eligible
+pub mod Facts

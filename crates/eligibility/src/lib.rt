@@ -1,0 +1,2 @@
+// Which modules are eligible.
+pub mod core;
