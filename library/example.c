@@ -3,12 +3,14 @@
 #include <stdio.h>
 
 int main(void) {
-  const uint32_t counts[14] = {4, 2, 2, 0, 0, 0, 0, 0, 0, 2, 4, 1, 1, 0};
   const uint32_t columns[] = {1, 1, 1, 1, 1, 1, 1, 1, 0, 1, 1, 1, 0, 0, 0, 0, 1, 1, 1, 1, 0, 0, 0, 0, 1, 0, 0, 1, /* modules */
                               1, 1, 0, 0, 2, 3, /* records */ 1, 1, 2, 3, /* dependencies */ 1, 0, /* order */
                               0, 0, 1, 1, 2, 1, 0, 3, /* members */ 0, 1, /* imports */ 1, 0 /* entries */};
+  const uint32_t bounds[JOLMUQTER_BOUNDS] = {0, 4, 8, 12, 16, 20, 24, /* modules */ 28, 30, 32, /* records */ 34, 36, /* dependencies */
+                                             38, 38, 38, 38, 38, 38, 38, 38, 38, 38, 38, 38, 38, /* six lists without a row */ 38, /* order */
+                                             40, 44, /* members */ 48, 49, /* imports */ 50, 51, /* entries */ 52, /* seeds */ 52};
   uint32_t plan[4];
-  uint64_t answer = jolmuqter_plan(0, 0, counts, 14, columns, sizeof columns / 4, plan, 4);
+  uint64_t answer = jolmuqter_plan(0, 0, bounds, JOLMUQTER_BOUNDS, columns, sizeof columns / 4, plan, 4);
   if (answer >= JOLMUQTER_REFUSED) return printf("refused %d\n", (int)(answer - JOLMUQTER_REFUSED)), 1;
   printf("%d modules to wrap:", (int)answer);
   for (int module = 0; module < 4; module++) if (plan[module]) printf(" %d", module);

@@ -7,8 +7,9 @@
  * Inputs of every call:
  *   runtime   the runtime module
  *   dynamic   1 if `code_splitting` is disabled, else 0
- *   counts    the row count of each of the 14 lists below, in this order
- *   columns   all 33 columns one after the other, list by list in this order; a column has as many values as its list has rows
+ *   columns   the 33 columns of the lists below one after the other, list by list in this order
+ *   bounds    34 places: where each column starts in `columns`, and where the last ends. The first is 0, none is below the one before, and the last is
+ *             the length of `columns`. The columns of a list have as many values as it has rows.
  *
  *   modules        normal (1, external 0), included, sensitive, reads (0 or 1 each), exports (0 None, 1 Esm, 2 CommonJs),
  *                  wrap (0 None, 1 Cjs, 2 Esm), chunk or the mark                                                        1 to 4,096 rows
@@ -30,7 +31,7 @@
  *
  * Answers: below 2^32 the count, and the outputs are written from place 0; places past what is written stay as they were. Else 2^32 plus the
  * number of a refusal, and no output is changed; the lowest number that applies:
- *   1  counts that don't match the columns, a list over its limit, or no module
+ *   1  bounds that don't fit, a list over its limit, columns of one list that differ in length, or no module
  *   2  a value outside its column
  *   3  records, statements, members or imports not sorted by their first column
  *   4  an external with a record or a statement; a use of another module's record; a depended row for form 0 or 1; form 0 or 1 without a symbol;
@@ -46,8 +47,9 @@
 
 #define JOLMUQTER_MISSING UINT32_C(4294967295)
 #define JOLMUQTER_REFUSED UINT64_C(4294967296)
+#define JOLMUQTER_BOUNDS 34
 #define JOLMUQTER_TABLE                                                                                                \
-  uint32_t runtime, uint32_t dynamic, const uint32_t *counts, size_t counts_len, const uint32_t *columns, size_t columns_len
+  uint32_t runtime, uint32_t dynamic, const uint32_t *bounds, size_t bounds_len, const uint32_t *columns, size_t columns_len
 
 #ifdef __cplusplus
 extern "C" {

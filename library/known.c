@@ -28,31 +28,39 @@ static void hold(int line, const uint32_t *slice, const uint32_t *known, size_t 
 
 /* A table that grows column by column. */
 typedef struct {
-  uint32_t counts[14], *columns;
+  uint32_t bounds[JOLMUQTER_BOUNDS], *columns;
   size_t length;
+  int next;
 } Table;
-#define TABLE(t) 0, 0, (t).counts, 14, (t).columns, (t).length
+#define TABLE(t) 0, 0, (t).bounds, JOLMUQTER_BOUNDS, (t).columns, (t).length
 
-static void column(Table *t, int list, const uint32_t *values, size_t n) {
+static void column(Table *t, const uint32_t *values, size_t n) {
   t->columns = realloc(t->columns, (t->length + n + 1) * sizeof *values);
   if (n) memcpy(t->columns + t->length, values, n * sizeof *values);
   t->length += n;
-  t->counts[list] = (uint32_t)n;
+  t->bounds[++t->next] = (uint32_t)t->length;
 }
-#define COLUMN(t, list, ...) column(t, list, LIST(__VA_ARGS__), LENGTH(LIST(__VA_ARGS__)))
+#define COLUMN(t, ...) column(t, LIST(__VA_ARGS__), LENGTH(LIST(__VA_ARGS__)))
+
+/* Columns without a row. */
+static void empty(Table *t, int columns) {
+  for (int i = 0; i < columns; i++) column(t, NULL, 0);
+}
 
 /* Document 01's listing, with other `normal` values and imports. */
 static Table listing(const uint32_t normal[4], const uint32_t *from, const uint32_t *to, size_t imports) {
-  Table t = {{0}, NULL, 0};
-  column(&t, 0, normal, 4);
-  COLUMN(&t, 0, 1, 1, 1, 1), COLUMN(&t, 0, 0, 1, 1, 1), COLUMN(&t, 0, 0, 0, 0, 0);
-  COLUMN(&t, 0, 1, 1, 1, 1), COLUMN(&t, 0, 0, 0, 0, 0), COLUMN(&t, 0, 1, 0, 0, 1);
-  COLUMN(&t, 1, 1, 1), COLUMN(&t, 1, 0, 0), COLUMN(&t, 1, 2, 3);
-  COLUMN(&t, 2, 1, 1), COLUMN(&t, 2, 2, 3);
-  COLUMN(&t, 9, 1, 0);
-  COLUMN(&t, 10, 0, 0, 1, 1), COLUMN(&t, 10, 2, 1, 0, 3);
-  column(&t, 11, from, imports), column(&t, 11, to, imports);
-  COLUMN(&t, 12, 1), COLUMN(&t, 12, 0);
+  Table t = {{0}, NULL, 0, 0};
+  column(&t, normal, 4);
+  COLUMN(&t, 1, 1, 1, 1), COLUMN(&t, 0, 1, 1, 1), COLUMN(&t, 0, 0, 0, 0);
+  COLUMN(&t, 1, 1, 1, 1), COLUMN(&t, 0, 0, 0, 0), COLUMN(&t, 1, 0, 0, 1);
+  COLUMN(&t, 1, 1), COLUMN(&t, 0, 0), COLUMN(&t, 2, 3);
+  COLUMN(&t, 1, 1), COLUMN(&t, 2, 3);
+  empty(&t, 13);
+  COLUMN(&t, 1, 0);
+  COLUMN(&t, 0, 0, 1, 1), COLUMN(&t, 2, 1, 0, 3);
+  column(&t, from, imports), column(&t, to, imports);
+  COLUMN(&t, 1), COLUMN(&t, 0);
+  empty(&t, 1);
   return t;
 }
 
@@ -67,17 +75,23 @@ static void answers(void) {
   uint32_t a[5] = {9, 9, 9, 9, 9}, b[5] = {9, 9, 9, 9, 9};
 
   EXPECT(jolmuqter_refusal(TABLE(t)), 0);
-  EXPECT(jolmuqter_refusal(0, 0, t.counts, 13, t.columns, t.length), REFUSED(1));
-  EXPECT(jolmuqter_refusal(0, 0, t.counts, 14, t.columns, t.length - 1), REFUSED(1));
-  EXPECT(jolmuqter_refusal(0, 0, t.counts, 14, t.columns, t.length + 1), REFUSED(1));
-  EXPECT(jolmuqter_refusal(4, 0, t.counts, 14, t.columns, t.length), REFUSED(2));
-  EXPECT(jolmuqter_refusal(0, 2, t.counts, 14, t.columns, t.length), REFUSED(2));
+  EXPECT(jolmuqter_refusal(0, 0, t.bounds, 33, t.columns, t.length), REFUSED(1));
+  EXPECT(jolmuqter_refusal(0, 0, t.bounds, 34, t.columns, t.length - 1), REFUSED(1));
+  EXPECT(jolmuqter_refusal(0, 0, t.bounds, 34, t.columns, t.length + 1), REFUSED(1));
+  EXPECT(jolmuqter_refusal(0, 0, t.bounds + 1, 33, t.columns, t.length), REFUSED(1));
+  Table uneven = listing(normal, LIST(0), LIST(1), 1);
+  uneven.bounds[29]++; /* two rows of importing chunks, none of imported ones */
+  EXPECT(jolmuqter_refusal(TABLE(uneven)), REFUSED(1));
+  uneven.bounds[29] = 0; /* below the bound before */
+  EXPECT(jolmuqter_refusal(TABLE(uneven)), REFUSED(1));
+  EXPECT(jolmuqter_refusal(4, 0, t.bounds, 34, t.columns, t.length), REFUSED(2));
+  EXPECT(jolmuqter_refusal(0, 2, t.bounds, 34, t.columns, t.length), REFUSED(2));
   EXPECT(jolmuqter_refusal(TABLE(fallen)), REFUSED(3));
   EXPECT(jolmuqter_refusal(TABLE(twice)), REFUSED(4));
 
   EXPECT(jolmuqter_sort_modules(TABLE(t), a, 3, b, 4), REFUSED(6));
   EXPECT(jolmuqter_sort_modules(TABLE(t), a, 4, b, 3), REFUSED(6));
-  EXPECT(jolmuqter_sort_modules(0, 0, t.counts, 14, t.columns, 0, a, 4, b, 4), REFUSED(1));
+  EXPECT(jolmuqter_sort_modules(0, 0, t.bounds, 34, t.columns, 0, a, 4, b, 4), REFUSED(1));
   HOLD(a, 9, 9, 9, 9, 9), HOLD(b, 9, 9, 9, 9, 9);
   EXPECT(jolmuqter_sort_modules(TABLE(t), a, 4, b, 4), 4);
   HOLD(a, 0, 3, 1, 2, 9), HOLD(b, 0, 2, 3, 1, 9);
@@ -140,15 +154,17 @@ enum { MODULES = 4096, CHUNKS = 1024, STACK = 16 << 20 };
 static Table chains(uint32_t wrap) {
   static uint32_t up[MODULES], next[MODULES], zero[MODULES], one[MODULES], wraps[MODULES], in[MODULES];
   for (uint32_t i = 0; i < MODULES; i++) up[i] = i, next[i] = i + 1, one[i] = 1, wraps[i] = i ? wrap : 0, in[i] = CHUNKS - 1;
-  Table t = {{0}, NULL, 0};
-  column(&t, 0, one, MODULES), column(&t, 0, one, MODULES), column(&t, 0, one, MODULES), column(&t, 0, zero, MODULES);
-  column(&t, 0, one, MODULES), column(&t, 0, wraps, MODULES), column(&t, 0, in, MODULES);
-  column(&t, 1, up, MODULES - 1), column(&t, 1, zero, MODULES - 1), column(&t, 1, next, MODULES - 1);
-  column(&t, 2, up, MODULES - 1), column(&t, 2, next, MODULES - 1);
-  column(&t, 9, zero, CHUNKS);
-  column(&t, 10, in, wrap ? 1 : MODULES), column(&t, 10, up, wrap ? 1 : MODULES);
-  column(&t, 11, up, CHUNKS - 1), column(&t, 11, next, CHUNKS - 1);
-  COLUMN(&t, 12, 0), COLUMN(&t, 12, 0);
+  Table t = {{0}, NULL, 0, 0};
+  column(&t, one, MODULES), column(&t, one, MODULES), column(&t, one, MODULES), column(&t, zero, MODULES);
+  column(&t, one, MODULES), column(&t, wraps, MODULES), column(&t, in, MODULES);
+  column(&t, up, MODULES - 1), column(&t, zero, MODULES - 1), column(&t, next, MODULES - 1);
+  column(&t, up, MODULES - 1), column(&t, next, MODULES - 1);
+  empty(&t, 13);
+  column(&t, zero, CHUNKS);
+  column(&t, in, wrap ? 1 : MODULES), column(&t, up, wrap ? 1 : MODULES);
+  column(&t, up, CHUNKS - 1), column(&t, next, CHUNKS - 1);
+  COLUMN(&t, 0), COLUMN(&t, 0);
+  empty(&t, 1);
   return t;
 }
 

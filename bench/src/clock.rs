@@ -70,6 +70,17 @@ pub fn in_turns(mut theirs: impl FnMut() -> Duration, mut ours: impl FnMut() -> 
   Pair { turns: first.len(), theirs: Time::of(first), ours: Time::of(second) }
 }
 
+/// One work after one untimed run, as often.
+pub fn alone(mut work: impl FnMut() -> Duration) -> Time {
+  work();
+  let start = Instant::now();
+  let mut times = Vec::new();
+  while times.len() < FEWEST || (times.len() < MOST && start.elapsed() < WHILE) {
+    times.push(work());
+  }
+  Time::of(times)
+}
+
 fn us(time: Duration) -> f64 {
   time.as_secs_f64() * 1e6
 }
@@ -87,6 +98,13 @@ impl fmt::Display for Pair {
     let [a, b] = [self.theirs.least, self.ours.least].map(us);
     let [c, d] = [self.theirs.median, self.ours.median].map(us);
     write!(f, "{a:.1} | {b:.1} | {:.2} | {c:.1} | {d:.1} | {}", self.ratio(), self.turns)
+  }
+}
+
+/// As cells of a table.
+impl fmt::Display for Time {
+  fn fmt(&self, f: &mut fmt::Formatter<'_>) -> fmt::Result {
+    write!(f, "{:.1} | {:.1}", us(self.least), us(self.median))
   }
 }
 

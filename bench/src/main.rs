@@ -1,4 +1,4 @@
-//! `bench [--single] [--growth] [WORD..]`: times the original's functions and the library's on every shape whose name has a WORD. See ../README.md.
+//! `bench [--whole] [--growth] [--single] [--tests] [WORD..]`: times the original's functions and the library's on every shape whose name has a WORD. See ../README.md.
 mod clock;
 mod shapes;
 mod works;
@@ -44,6 +44,15 @@ fn single(shapes: &[Shape]) {
   println!();
 }
 
+fn tests(shapes: &[Shape]) {
+  println!("| shape | rows | ours, us | ours, median |\n|---|---|---|---|");
+  for shape in shapes {
+    let project = shape.project();
+    println!("| {} | {} | {} |", shape.name, rows(&project), Ready::of(&project).tests());
+  }
+  println!();
+}
+
 fn run(words: Vec<String>) {
   let (flags, words): (Vec<String>, Vec<String>) =
     words.into_iter().partition(|word| word.starts_with("--"));
@@ -66,6 +75,10 @@ fn run(words: Vec<String>) {
   if flag("--single") {
     println!("Single operations\n");
     single(&shapes);
+  }
+  if flag("--tests") {
+    println!("The tests 1 to 4 alone\n");
+    tests(&shapes);
   }
 }
 

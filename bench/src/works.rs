@@ -1,17 +1,17 @@
 //! The works: what the original and the library do on the same project.
 use std::time::Duration;
 
-use compare::{library::Flat, model::Call};
+use compare::{lent::Lent, model::Call};
 use oracle::{Original, carriers};
 use project::{Project, column::*};
 
-use crate::clock::{Pair, in_turns, timed};
+use crate::clock::{Pair, Time, alone, in_turns, timed};
 
-/// A project, ready for both sides: neither the carriers nor the slice of columns are made while the clock runs.
+/// A project, ready for both sides: neither the carriers nor the slices are made while the clock runs.
 pub struct Ready<'p> {
   p: &'p Project,
   original: Original,
-  flat: Flat,
+  lent: Lent,
 }
 
 fn outputs(p: &Project) -> [Vec<u32>; 2] {
@@ -26,23 +26,28 @@ fn members(marks: &[u32]) -> Vec<u32> {
 impl<'p> Ready<'p> {
   pub fn of(p: &'p Project) -> Self {
     assert!(!p.tied());
-    Self { p, original: Original::of(p), flat: Flat::of(p) }
+    Self { p, original: Original::of(p), lent: Lent::of(p) }
   }
 
   /// The library's call, with its tests 1 to 4 and every output written.
   fn ours(&self, call: &Call) -> Duration {
     let mut lists = outputs(self.p);
     let count = compare::judge::outputs(call);
-    timed(|| compare::library::call(&self.flat, call, &mut lists[..count]).expect("accepted"))
+    timed(|| compare::library::call(&self.lent, call, &mut lists[..count]).expect("accepted"))
   }
 
   /// The whole analysis. The two plans are compared first.
   pub fn whole(&self) -> Pair {
     let mut plan = outputs(self.p);
-    let count = compare::library::call(&self.flat, &Call::Whole, &mut plan[..1]).expect("accepted");
+    let count = compare::library::call(&self.lent, &Call::Whole, &mut plan[..1]).expect("accepted");
     let right = self.original.plan();
     assert_eq!((right.len(), right), (count, members(&plan[0])));
     in_turns(|| timed(|| self.original.bare_plan()), || self.ours(&Call::Whole))
+  }
+
+  /// The tests 1 to 4 alone, which the original doesn't have.
+  pub fn tests(&self) -> Time {
+    alone(|| self.ours(&Call::Refusal))
   }
 
   /// Each operation by itself, with the first entry and its chunk.

@@ -1,16 +1,16 @@
 //! Compares one project: the original with the model, and the library with the model on the same questions.
 use oracle::Original;
-use project::{LISTS, List, MARK, Project, column::*};
+use project::{MARK, Project, column::*};
 
 use crate::{
-  library::Flat,
+  lent::Lent,
   model::{Call, Given, Model, Set, members, set_of},
   random::Random,
   refusal,
 };
 
 /// What is judged: the answer to a call, as a count or the number of a refusal, and what it leaves in the outputs.
-pub type Subject = fn(&Flat, &Call, &mut [Vec<u32>]) -> Result<usize, u32>;
+pub type Subject = fn(&Lent, &Call, &mut [Vec<u32>]) -> Result<usize, u32>;
 
 /// How much was compared.
 #[derive(Default, Clone, Debug)]
@@ -50,7 +50,7 @@ const FILLER: u32 = 0xABCD_0000;
 #[derive(Default)]
 pub struct Judge {
   pub subject: Option<Subject>,
-  /// One turn in eight the outputs are also lent just long enough, and too short, and the counts don't match.
+  /// One turn in eight the outputs are also lent just long enough, and too short, and the bounds don't fit.
   pub turn: usize,
   pub tally: Tally,
 }
@@ -139,11 +139,7 @@ impl Judge {
   /// Each operation of the subject.
   fn subject_differs(&mut self, p: &Project, model: Option<&Model>) -> Difference {
     let subject = self.subject?;
-    let flat = Flat::of(p);
-    if model.is_none() && unequal(p) && flat.matches() {
-      // Columns that differ in length, but fill one slice as others would: not the same project.
-      return None;
-    }
+    let lent = Lent::of(p);
     let thorough = self.turn % 8 == 0;
     for call in calls(p, model) {
       let given = model.and_then(|model| {
@@ -153,35 +149,27 @@ impl Judge {
         let number = refusal::of_call(p, &call, &room);
         let right = if number == 0 { given.as_ref().ok_or(0) } else { Err(number) };
         self.tally.calls[number as usize] += 1;
-        let difference = call_differs(subject, &flat, &call, &room, right);
+        let difference = call_differs(subject, &lent, &call, &room, right);
         if difference.is_some() {
           return difference;
         }
       }
     }
-    if thorough { self.mismatch_differs(p, subject, &flat.mismatched(self.turn / 8)) } else { None }
+    if thorough { self.unfit_differs(p, subject, &lent.unfit(self.turn / 8, self.turn / 80)) } else { None }
   }
 
-  /// Each operation with counts that don't match the columns.
-  fn mismatch_differs(&mut self, p: &Project, subject: Subject, flat: &Flat) -> Difference {
+  /// Each operation with bounds that don't fit.
+  fn unfit_differs(&mut self, p: &Project, subject: Subject, lent: &Lent) -> Difference {
     for call in one_call_each() {
       let room = vec![refusal::places(p, &call) + 3; outputs(&call)];
       self.tally.calls[1] += 1;
-      if let Some(words) = call_differs(subject, flat, &call, &room, Err(1)) {
-        let values = flat.columns.len();
-        return Some(format!("counts {:?} with {values} values: {words}", flat.counts));
+      if let Some(words) = call_differs(subject, lent, &call, &room, Err(1)) {
+        let values = lent.columns.len();
+        return Some(format!("bounds {:?} with {values} values: {words}", lent.bounds));
       }
     }
     None
   }
-}
-
-/// Whether a list has columns of different lengths.
-fn unequal(p: &Project) -> bool {
-  let differs = |list: &List| {
-    (list.first..list.first + list.width).any(|column| p[column].len() != p[list.first].len())
-  };
-  LISTS.iter().any(differs)
 }
 
 /// How many outputs a call has.
@@ -319,7 +307,7 @@ fn calls(p: &Project, model: Option<&Model>) -> Vec<Call> {
 /// What is right is given, or refused by a number.
 fn call_differs(
   subject: Subject,
-  flat: &Flat,
+  lent: &Lent,
   call: &Call,
   room: &[usize],
   right: Result<&Given, u32>,
@@ -332,7 +320,7 @@ fn call_differs(
       output[..list.len()].copy_from_slice(list);
     }
   }
-  let answer = subject(flat, call, &mut outputs);
+  let answer = subject(lent, call, &mut outputs);
   let what = || format!("{call:?}, outputs of {room:?}");
   if answer != right.map(|given| given.count) {
     return differ(&what(), &right.map(|given| given.count), &answer, "the library");

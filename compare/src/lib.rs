@@ -1,8 +1,10 @@
 //! The judges: document 01 in plain Rust, random and small projects, and the comparison. See ../README.md.
 pub mod damage;
+pub mod edges;
 pub mod exhaustive;
 pub mod generate;
 pub mod judge;
+pub mod lent;
 pub mod library;
 pub mod limits;
 pub mod model;

@@ -1,7 +1,7 @@
 //! Document 01's refusals 1 to 6, read from its words alone.
 use project::{COLUMNS, LISTS, MARK, Project, column::*};
 
-use crate::model::Call;
+use crate::{lent::Lent, model::Call};
 
 /// What may stand in a column.
 #[derive(Clone, Copy)]
@@ -120,6 +120,11 @@ pub fn of_project(p: &Project) -> u32 {
   } else {
     0
   }
+}
+
+/// The number of a project that is lent: 1 (added) where its bounds don't fit.
+pub fn of_lent(lent: &Lent) -> u32 {
+  lent.project().map_or(1, |p| of_project(&p))
 }
 
 /// "Analysed entries are included and have a chunk."

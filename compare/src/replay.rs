@@ -1,14 +1,18 @@
 //! The replay list: small cases with the original's answers (where there are ties the model's), as numbers that the program crate `replay` reads.
 //!
-//! First how many cases. A case is a line with `#` and its name; then `runtime dynamic`, 14 row counts, how many values the columns have, these,
-//! and how many calls. A call is its operation (its place in the list of `Call`'s kinds), its argument, how many seeds and these, the lengths
-//! of its two outputs, 0 and the count or 1 and the refusal's number, and for each output how many places are written and these.
-//! `-` is the missing mark; in a list, `5*0` stands for five zeros.
+//! First how many cases. A case is a line with `#` and its name; then how many bounds and these; how many values the columns have and these; `runtime
+//! dynamic`, what every output holds before a call, and how many calls. A call is its operation (its place in the list of `Call`'s kinds), its argument, 0
+//! and the count or 1 and the refusal's number, and how many places each of two outputs has; how many seeds and these; and for each output how many
+//! places are written and these.
+//! `-` is the missing mark. In a list, `5*0` stands for five zeros, `3*8+2` for 8 10 12, `3*8~2` for 8 6 4, `6*8+1/2` for 8 8 9 9 10 10; and `5.` for the
+//! five values that stand there in the case before.
 use oracle::Original;
 use project::{COLUMNS, LISTS, MARK, Project, column::*};
 
 use crate::{
+  edges,
   judge::{Judge, one_call_each, outputs},
+  lent::Lent,
   model::{Call, Given, Model, members, set_of},
   refusal::{self, Values, limit, values},
   shrink::shrunk,
@@ -51,22 +55,36 @@ pub fn told(p: &Project, wrong: Wrong) -> bool {
     })
 }
 
-struct Case {
-  name: String,
-  project: Project,
-  calls: Vec<(Call, Vec<usize>)>,
+/// What outputs hold before a call, where a case says nothing else. No call writes it.
+const FILLER: u32 = 9_999;
+
+/// A call, and how many places each of its outputs has.
+pub type Asked = (Call, Vec<usize>);
+
+/// Calls on one project.
+pub struct Case {
+  pub name: String,
+  pub lent: Lent,
+  pub filler: u32,
+  pub calls: Vec<Asked>,
   /// The wrong reading that the case is named after.
-  wrong: Option<Wrong>,
+  pub wrong: Option<Wrong>,
+}
+
+impl Case {
+  pub fn of(name: impl Into<String>, p: &Project, calls: Vec<Asked>) -> Self {
+    Self { name: name.into(), lent: Lent::of(p), filler: FILLER, calls, wrong: None }
+  }
 }
 
 /// The call with outputs of two places more than it needs.
-fn roomy(p: &Project, call: Call) -> (Call, Vec<usize>) {
+fn roomy(p: &Project, call: Call) -> Asked {
   let rooms = vec![refusal::places(p, &call) + 2; outputs(&call)];
   (call, rooms)
 }
 
 /// Every operation on every argument, and one call that is refused by 5 for each that can be.
-fn every_call(p: &Project) -> Vec<(Call, Vec<usize>)> {
+fn every_call(p: &Project) -> Vec<Asked> {
   let n = p.modules() as u32;
   let mut calls = vec![Call::Sort, Call::Labels, Call::Whole, Call::PlanFrom(vec![])];
   for module in 0..n {
@@ -88,32 +106,13 @@ fn telling(random: &dyn Fn(usize) -> Project) -> Vec<Case> {
     let project = shrunk(&found, &shows);
     let kind = if at < 6 { "wrong turn" } else { "wrong reading" };
     let name = format!("{kind}: {}", wrong.words());
-    Case { name, calls: every_call(&project), project, wrong: Some(wrong) }
+    Case { wrong: Some(wrong), ..Case::of(name, &project, every_call(&project)) }
   };
   Wrong::ALL.iter().enumerate().map(tell).collect()
 }
 
 /// Document 01's listing, as it stands and with each change that 01 marks.
 fn listing() -> Vec<Case> {
-  let base = || {
-    let mut p = Project::default();
-    for (sensitive, chunk) in [(0, 1), (1, 0), (1, 0), (1, 1)] {
-      p.push(NORMAL, [1, 1, sensitive, 0, 1, 0, chunk]);
-    }
-    for target in [2, 3] {
-      p.push(RECORD_MODULE, [1, 0, target]);
-      p.push(DEPENDENCY_MODULE, [1, target]);
-    }
-    for order in [1, 0] {
-      p.push(ORDER, [order]);
-    }
-    for row in [[0, 2], [0, 1], [1, 0], [1, 3]] {
-      p.push(MEMBER_CHUNK, row);
-    }
-    p.push(IMPORT_CHUNK, [0, 1]);
-    p.push(ENTRY, [1, 0]);
-    p
-  };
   let changes: [(&str, fn(&mut Project)); 4] = [
     ("as it stands", |_| {}),
     ("edge 1 to 0 added", |p| p.push(IMPORT_CHUNK, [1, 0])),
@@ -124,9 +123,9 @@ fn listing() -> Vec<Case> {
     ("module 3 external", |p| p[NORMAL][3] = 0),
   ];
   let case = |(name, change): (&str, fn(&mut Project))| {
-    let mut project = base();
+    let mut project = edges::listing();
     change(&mut project);
-    Case { name: format!("listing: {name}"), calls: every_call(&project), project, wrong: None }
+    Case::of(format!("listing: {name}"), &project, every_call(&project))
   };
   changes.into_iter().map(case).collect()
 }
@@ -143,7 +142,7 @@ fn larger(random: &dyn Fn(usize) -> Project) -> Vec<Case> {
     rules >= 2 && judge.tally.later_rounds > 0 && judge.tally.with_hosts > 0 && judge.tally.with_risk > 0
   };
   let case = |(at, project): (usize, Project)| {
-    Case { name: format!("several rules, {}", at + 1), calls: every_call(&project), project, wrong: None }
+    Case::of(format!("several rules, {}", at + 1), &project, every_call(&project))
   };
   (0..).map(random).filter(rich).take(8).enumerate().map(case).collect()
 }
@@ -157,7 +156,7 @@ fn ties(random: &dyn Fn(usize) -> Project) -> Vec<Case> {
   };
   let case = |(at, project): (usize, Project)| {
     let project = shrunk(&project, &decides);
-    Case { name: format!("ties, {}", at + 1), calls: every_call(&project), project, wrong: None }
+    Case::of(format!("ties, {}", at + 1), &project, every_call(&project))
   };
   (0..).map(random).filter(decides).take(4).enumerate().map(case).collect()
 }
@@ -193,7 +192,7 @@ fn whole() -> Project {
 }
 
 /// A call of each operation.
-fn each_call(p: &Project) -> Vec<(Call, Vec<usize>)> {
+fn each_call(p: &Project) -> Vec<Asked> {
   one_call_each().into_iter().map(|call| roomy(p, call)).collect()
 }
 
@@ -201,7 +200,7 @@ fn each_call(p: &Project) -> Vec<(Call, Vec<usize>)> {
 fn refused(name: String, change: impl FnOnce(&mut Project)) -> Case {
   let mut project = whole();
   change(&mut project);
-  Case { name: format!("refused {name}"), calls: each_call(&project), project, wrong: None }
+  Case::of(format!("refused {name}"), &project, each_call(&project))
 }
 
 /// Each ground of 1 to 4; for 2 each column with the first value past its end, and with the mark where that isn't allowed.
@@ -257,7 +256,7 @@ fn limits() -> Vec<Case> {
         project[column].resize(length, last);
       }
       let name = format!("limits: {length} rows of `{}`", list.names);
-      cases.push(Case { name, calls: each_call(&project), project, wrong: None });
+      cases.push(Case::of(name, &project, each_call(&project)));
     }
   }
   cases
@@ -293,7 +292,17 @@ fn arguments() -> Case {
       calls.push((call.clone(), rooms));
     }
   }
-  Case { name: "refused 5 and 6, and accepted beside them".into(), project, calls, wrong: None }
+  Case::of("refused 5 and 6, and accepted beside them", &project, calls)
+}
+
+/// Bounds that don't fit, of each kind; each with every operation.
+fn unfit() -> Vec<Case> {
+  let project = whole();
+  let case = |(kind, name): (usize, &&str)| Case {
+    lent: Lent::of(&project).unfit(kind, 3 * kind),
+    ..Case::of(format!("refused 1, {name}"), &project, each_call(&project))
+  };
+  Lent::UNFIT.iter().enumerate().map(case).collect()
 }
 
 fn put(out: &mut String, values: impl IntoIterator<Item = u32>) {
@@ -303,15 +312,46 @@ fn put(out: &mut String, values: impl IntoIterator<Item = u32>) {
   }
 }
 
-/// A list; four or more equal values in a row are said once.
-fn put_list(out: &mut String, list: &[u32]) {
-  for run in list.chunk_by(|a, b| a == b) {
-    if run.len() < 4 {
-      put(out, run.iter().copied());
-    } else {
-      out.push_str(&format!("{}*", run.len()));
-      put(out, [run[0]]);
-    }
+/// How many values from the front pass, one after the other.
+fn while_so(list: &[u32], passes: impl Fn(usize) -> bool) -> usize {
+  (0..list.len()).find(|&at| !passes(at)).unwrap_or(list.len())
+}
+
+/// The front of a list as a run of one kind, and how many values that is. `before` is what stood at these places.
+fn runs(list: &[u32], before: &[u32]) -> Vec<(usize, String)> {
+  let first = list[0];
+  let mut of = String::new();
+  project::text::field(&mut of, first);
+  let kept = while_so(list, |at| before.get(at) == Some(&list[at]));
+  let equal = while_so(list, |at| list[at] == first);
+  let mut runs = vec![(1, of.clone()), (kept, format!("{kept}.")), (equal, format!("{equal}*{of}"))];
+  // Each value `equal` times, the next by one step from it.
+  if let Some(&next) = list.get(equal) {
+    let step = next.wrapping_sub(first) as i32;
+    let value = |at: usize| first.wrapping_add((step as u32).wrapping_mul((at / equal) as u32));
+    let climbing = while_so(list, |at| list[at] == value(at));
+    let sign = if step < 0 { '~' } else { '+' };
+    let each = if equal == 1 { String::new() } else { format!("/{equal}") };
+    runs.push((climbing, format!("{climbing}*{of}{sign}{}{each}", step.unsigned_abs())));
+  }
+  runs
+}
+
+/// A list, in the runs that save most, and at least four bytes. `before` is what stood in its places.
+fn put_list(out: &mut String, list: &[u32], before: &[u32]) {
+  let mut at = 0;
+  while at < list.len() {
+    let saved = |&(length, ref words): &(usize, String)| {
+      let mut plain = String::new();
+      put(&mut plain, list[at..at + length].iter().copied());
+      (plain.len() - 1).saturating_sub(words.len())
+    };
+    let rest = before.get(at..).unwrap_or_default();
+    let best = runs(&list[at..], rest).into_iter().filter(|run| run.0 > 0).max_by_key(saved).unwrap();
+    let (length, words) = if saved(&best) < 4 { runs(&list[at..], &[]).swap_remove(0) } else { best };
+    out.push_str(&words);
+    out.push(' ');
+    at += length;
   }
 }
 
@@ -320,7 +360,16 @@ fn end_line(out: &mut String) {
   out.push('\n');
 }
 
-fn put_call(out: &mut String, p: &Project, model: Option<&Model>, call: &Call, rooms: &[usize]) {
+/// The number of a call, and what it gives where it is accepted.
+fn answer(case: &Case, p: Option<&Project>, model: Option<&Model>, (call, rooms): &Asked) -> (u32, Option<Given>) {
+  match p.map_or(1, |p| refusal::of_call(p, call, rooms)) {
+    0 => (0, Some(model.unwrap_or_else(|| panic!("{}: accepted", case.name)).give(call))),
+    number => (number, None),
+  }
+}
+
+fn put_call(out: &mut String, asked: &Asked, number: u32, given: Option<Given>) {
+  let (call, rooms) = asked;
   let (operation, argument) = match call {
     Call::Sort => (0, 0),
     Call::Expected(root) => (1, *root),
@@ -332,21 +381,16 @@ fn put_call(out: &mut String, p: &Project, model: Option<&Model>, call: &Call, r
     Call::Whole => (7, 0),
     Call::Refusal => (8, 0),
   };
-  let seeds: &[u32] = if let Call::PlanFrom(seeds) = call { seeds } else { &[] };
-  put(out, [operation, argument, seeds.len() as u32]);
-  put_list(out, seeds);
+  let refused = u32::from(number != 0);
+  put(out, [operation, argument, refused, given.as_ref().map_or(number, |given| given.count as u32)]);
   put(out, (0..2).map(|at| rooms.get(at).copied().unwrap_or(0) as u32));
-  let number = refusal::of_call(p, call, rooms);
-  if number != 0 {
-    put(out, [1, number, 0, 0]);
-  } else {
-    let given = model.expect("accepted").give(call);
-    put(out, [0, given.count as u32]);
-    for at in 0..2 {
-      let list = given.outputs.get(at).cloned().unwrap_or_default();
-      put(out, [list.len() as u32]);
-      put_list(out, &list);
-    }
+  let seeds: &[u32] = if let Call::PlanFrom(seeds) = call { seeds } else { &[] };
+  put(out, [seeds.len() as u32]);
+  put_list(out, seeds, &[]);
+  for at in 0..2 {
+    let written = given.as_ref().and_then(|given| given.outputs.get(at)).map_or(&[][..], |list| list);
+    put(out, [written.len() as u32]);
+    put_list(out, written, &[]);
   }
   end_line(out);
 }
@@ -389,13 +433,9 @@ fn said(p: &Project, call: &Call) -> bool {
 }
 
 /// The first accepted call of a case whose answer the original doesn't give.
-fn not_the_originals(case: &Case) -> Option<&Call> {
-  let p = &case.project;
-  if refusal::of_project(p) != 0 {
-    return None;
-  }
-  let (model, original) = (Model::of(p), Original::of(p));
-  let differs = |(call, rooms): &&(Call, Vec<usize>)| {
+fn not_the_originals<'c>(case: &'c Case, p: &Project, model: &Model) -> Option<&'c Call> {
+  let original = Original::of(p);
+  let differs = |(call, rooms): &&Asked| {
     refusal::of_call(p, call, rooms) == 0
       && said(p, call)
       && of_the_original(p, &original, call).is_some_and(|given| given != model.give(call))
@@ -404,10 +444,9 @@ fn not_the_originals(case: &Case) -> Option<&Call> {
 }
 
 /// How many of a case's answers the wrong reading that it is named after would change.
-fn changed(case: &Case, wrong: Wrong) -> usize {
-  let (right, turned) = (Model::of(&case.project), Model::turned(&case.project, Some(wrong)));
-  let accepted =
-    case.calls.iter().filter(|(call, rooms)| refusal::of_call(&case.project, call, rooms) == 0);
+fn changed(case: &Case, p: &Project, wrong: Wrong) -> usize {
+  let (right, turned) = (Model::of(p), Model::turned(p, Some(wrong)));
+  let accepted = case.calls.iter().filter(|(call, rooms)| refusal::of_call(p, call, rooms) == 0);
   accepted.filter(|(call, _)| right.give(call) != turned.give(call)).count()
 }
 
@@ -418,28 +457,41 @@ pub fn data(random: &dyn Fn(usize) -> Project) -> (String, usize, usize) {
   cases.extend(larger(random));
   cases.extend(ties(random));
   cases.extend(refusals());
+  cases.extend(unfit());
   cases.push(arguments());
   cases.extend(limits());
+  cases.extend(edges::all());
   let mut out = format!("{}\n", cases.len());
   let mut answers = 0;
+  let (mut bounds, mut columns) = (Vec::new(), Vec::new());
   for case in &cases {
-    let Case { name, project: p, calls, wrong } = case;
-    // Every answer that the original says is its own: where the model's were to differ, nothing is written.
-    assert_eq!(not_the_originals(case), None, "{name}");
-    assert!(wrong.is_none_or(|wrong| changed(case, wrong) > 0), "{name}");
-    let model = (refusal::of_project(p) == 0).then(|| Model::of(p));
+    let Case { name, lent, filler, calls, wrong } = case;
+    let p = lent.project();
+    let accepted = p.as_ref().filter(|p| refusal::of_project(p) == 0);
+    let model = accepted.map(Model::of);
+    if let (Some(p), Some(model)) = (accepted, &model) {
+      // Every answer that the original says is its own: where the model's were to differ, nothing is written.
+      assert_eq!(not_the_originals(case, p, model), None, "{name}");
+      assert!(wrong.is_none_or(|wrong| changed(case, p, wrong) > 0), "{name}");
+    }
     out.push_str(&format!("# {name}\n"));
-    put(&mut out, [p.runtime, p.dynamic]);
-    put(&mut out, LISTS.iter().map(|list| p[list.first].len() as u32));
-    let columns = p.columns.concat();
-    put(&mut out, [columns.len() as u32]);
-    put_list(&mut out, &columns);
-    put(&mut out, [calls.len() as u32]);
+    for (list, before) in [(&lent.bounds, &mut bounds), (&lent.columns, &mut columns)] {
+      put(&mut out, [list.len() as u32]);
+      put_list(&mut out, list, before);
+      keep(before, list);
+    }
+    put(&mut out, [lent.runtime, lent.dynamic, *filler, calls.len() as u32]);
     end_line(&mut out);
-    for (call, rooms) in calls {
-      put_call(&mut out, p, model.as_ref(), call, rooms);
+    for asked in calls {
+      let (number, given) = answer(case, p.as_ref(), model.as_ref(), asked);
+      put_call(&mut out, asked, number, given);
     }
     answers += calls.len();
   }
   (out, cases.len(), answers)
+}
+
+/// Writes a list from place 0 over what stood there.
+fn keep(before: &mut Vec<u32>, list: &[u32]) {
+  before.splice(..list.len().min(before.len()), list.iter().copied());
 }

@@ -6,20 +6,18 @@ use mathlib.Core.List.{List}
 use Prim.Native.Nat.{ℕ}
 use lib.ListN.{length}
 use lib.Dec.{leb}
-use Rattle.tables.specs.Project.{Project}
 use Rattle.tables.specs.Readings.{modules, isAnalysed}
-use Rattle.tables.specs.Refusal.{refusal}
-use Rattle.tables.specs.Answers.{numberOf, countOf, verdict, counted, after}
+use Rattle.tables.specs.Answers.{verdict, after}
 use Rattle.tables.specs.declared.Answer.{Answer}
+use Rattle.table.specs.Table.{Lent, answer}
 use Rattle.actual_order.specs.Actual.{actualOf, hostsOf}
 
 -- the number of a call: 5 for a root that is no analysed entry, 6 for an output shorter than the module count
-abbrev pub actualVerdict : Project → ℕ → ℕ → ℕ → ℕ
-actualVerdict p root orderRoom hostRoom = verdict (refusal p) (isAnalysed p root) (leb (modules p) orderRoom && leb (modules p) hostRoom)
+abbrev pub actualVerdict : Lent → ℕ → ℕ → ℕ → ℕ
+actualVerdict t root orderRoom hostRoom = verdict (t .number) (isAnalysed (t .project) root) (leb (modules (t .project)) orderRoom && leb (modules (t .project)) hostRoom)
 
 -- a call's answer, and the slices that it leaves
-pub record ActualOrder (p : Project) (root : ℕ) (order hosts : List ℕ) (r : Answer) (order′ hosts′ : List ℕ) : Type 0 where
-  pub number : numberOf r ≡ actualVerdict p root (length order) (length hosts)
-  pub count : countOf r ≡ counted (actualVerdict p root (length order) (length hosts)) (length (actualOf p root))
-  pub listed : order′ ≡ after (actualVerdict p root (length order) (length hosts)) order (actualOf p root)
-  pub noted : hosts′ ≡ after (actualVerdict p root (length order) (length hosts)) hosts (hostsOf p root)
+pub record ActualOrder (t : Lent) (root : ℕ) (order hosts : List ℕ) (r : Answer) (order′ hosts′ : List ℕ) : Type 0 where
+  pub answered : r ≡ answer (actualVerdict t root (length order) (length hosts)) (length (actualOf (t .project) root))
+  pub listed : order′ ≡ after (actualVerdict t root (length order) (length hosts)) order (actualOf (t .project) root)
+  pub noted : hosts′ ≡ after (actualVerdict t root (length order) (length hosts)) hosts (hostsOf (t .project) root)

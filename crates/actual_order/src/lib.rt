@@ -1,124 +1,106 @@
 // Actual order of an entry, and its hosts.
-ghost use Rattle.tables.specs.Project.{project};
+ghost use Rattle.table.specs.Table.{lent, lentWith};
 ghost use Rattle.actual_order.specs.Promise.{ActualOrder};
-use core::actual_order_from;
-use core::analysed_chunk;
+use analysed_entries::core::find_entry;
+use core::arrange_and_list;
 use refusal::refusal_number;
+use table::DEPENDENCY;
+use table::MEMBER;
+use table::NORMAL;
+use table::RECORD_KIND;
+use table::RECORD_MODULE;
+use table::RECORD_TARGET;
+use table::column;
+use table::rows;
 use tables::Answer;
 use tables::ModuleIdx;
 
 pub mod core;
 
-// The actual order of an analysed entry, written to `actual` from place 0, and its hosts, a place a module. The count is that of the listed modules.
-pub fn actual_order<'a>(
+// The actual order of an analysed entry, written to `order` from place 0, and its hosts, a place a module, of a table whose import records are lent
+// beside it. The count is that of the listed modules.
+pub fn actual_order_with_records<'a>(
     runtime: u32,
     dynamic: u32,
-    normal: &'a [u32],
-    included: &'a [u32],
-    sensitive: &'a [u32],
-    reads: &'a [u32],
-    exports: &'a [u32],
-    wrap: &'a [u32],
-    chunk: &'a [u32],
-    record_module: &'a [u32],
-    record_kind: &'a [u32],
-    record_target: &'a [u32],
-    dependency_module: &'a [u32],
-    dependency: &'a [u32],
-    statement_module: &'a [u32],
-    statement_included: &'a [u32],
-    use_statement: &'a [u32],
-    use_record: &'a [u32],
-    owner: &'a [u32],
-    canonical: &'a [u32],
-    chain_symbol: &'a [u32],
-    chain_link: &'a [u32],
-    reference_statement: &'a [u32],
-    reference_form: &'a [u32],
-    reference_symbol: &'a [u32],
-    depended_reference: &'a [u32],
-    depended: &'a [u32],
-    order: &'a [u32],
-    member_chunk: &'a [u32],
-    member: &'a [u32],
-    import_chunk: &'a [u32],
-    imports: &'a [u32],
-    entry: &'a [u32],
-    entry_chunk: &'a [u32],
-    seed: &'a [u32],
+    bounds: &'a [u32],
+    columns: &'a [u32],
+    importers: &'a [u32],
+    kinds: &'a [u32],
+    targets: &'a [u32],
     root: u32,
-    actual: &mut [u32],
+    order: &mut [u32],
     hosts: &mut [u32],
 ) -> Answer
-    ensures { λ r. ⌜ ActualOrder (project runtime dynamic (now (normal .entry)) (now (included .entry)) (now (sensitive .entry)) (now (reads .entry)) (now (exports .entry)) (now (wrap .entry)) (now (chunk .entry)) (now («record_module» .entry)) (now («record_kind» .entry)) (now («record_target» .entry)) (now («dependency_module» .entry)) (now (dependency .entry)) (now («statement_module» .entry)) (now («statement_included» .entry)) (now («use_statement» .entry)) (now («use_record» .entry)) (now (owner .entry)) (now (canonical .entry)) (now («chain_symbol» .entry)) (now («chain_link» .entry)) (now («reference_statement» .entry)) (now («reference_form» .entry)) (now («reference_symbol» .entry)) (now («depended_reference» .entry)) (now (depended .entry)) (now (order .entry)) (now («member_chunk» .entry)) (now (member .entry)) (now («import_chunk» .entry)) (now (imports .entry)) (now (entry .entry)) (now («entry_chunk» .entry)) (now (seed .entry))) root (now (actual .entry)) (now (hosts .entry)) r (now (actual .exit)) (now (hosts .exit)) ⌝ }
+    ensures { λ r. ⌜ ActualOrder (lentWith runtime dynamic (now (bounds .entry)) (now (columns .entry)) (now (importers .entry)) (now (kinds .entry)) (now (targets .entry))) root (now (order .entry)) (now (hosts .entry)) r (now (order .exit)) (now (hosts .exit)) ⌝ }
 {
-    let refused = refusal_number(
-        runtime,
-        dynamic,
-        normal,
-        included,
-        sensitive,
-        reads,
-        exports,
-        wrap,
-        chunk,
-        record_module,
-        record_kind,
-        record_target,
-        dependency_module,
-        dependency,
-        statement_module,
-        statement_included,
-        use_statement,
-        use_record,
-        owner,
-        canonical,
-        chain_symbol,
-        chain_link,
-        reference_statement,
-        reference_form,
-        reference_symbol,
-        depended_reference,
-        depended,
-        order,
-        member_chunk,
-        member,
-        import_chunk,
-        imports,
-        entry,
-        entry_chunk,
-        seed,
-    );
+    let refused = refusal_number(runtime, dynamic, bounds, columns, importers, kinds, targets);
     if refused != 0 {
         return Answer::Refused(refused);
     }
-    let from = analysed_chunk(included, entry, entry_chunk, root);
-    if from == ModuleIdx::MISSING {
+    let dependencies = column(bounds, columns, DEPENDENCY);
+    let members = column(bounds, columns, MEMBER);
+    let chunk = find_entry(
+        runtime,
+        dynamic,
+        bounds,
+        columns,
+        importers,
+        kinds,
+        targets,
+        dependencies,
+        members,
+        root,
+    );
+    if chunk == ModuleIdx::MISSING {
         return Answer::Refused(5);
     }
-    let modules = normal.len();
-    if actual.len() < modules {
+    let modules = rows(bounds, columns, NORMAL);
+    if order.len() < modules {
         return Answer::Refused(6);
     }
     if hosts.len() < modules {
         return Answer::Refused(6);
     }
-    let count = actual_order_from(
-        normal,
-        included,
-        wrap,
-        record_module,
-        record_kind,
-        record_target,
+    let count = arrange_and_list(
+        runtime,
+        dynamic,
+        bounds,
+        columns,
+        importers,
+        kinds,
+        targets,
+        dependencies,
+        members,
         order,
-        member_chunk,
-        member,
-        import_chunk,
-        imports,
-        actual,
         &mut hosts[..modules],
         root,
-        from,
+        chunk,
     );
     Answer::Counted(count)
+}
+
+// The actual order of an analysed entry, written to `order` from place 0, and its hosts, a place a module. The count is that of the listed modules.
+pub fn actual_order<'a>(
+    runtime: u32,
+    dynamic: u32,
+    bounds: &'a [u32],
+    columns: &'a [u32],
+    root: u32,
+    order: &mut [u32],
+    hosts: &mut [u32],
+) -> Answer
+    ensures { λ r. ⌜ ActualOrder (lent runtime dynamic (now (bounds .entry)) (now (columns .entry))) root (now (order .entry)) (now (hosts .entry)) r (now (order .exit)) (now (hosts .exit)) ⌝ }
+{
+    actual_order_with_records(
+        runtime,
+        dynamic,
+        bounds,
+        columns,
+        column(bounds, columns, RECORD_MODULE),
+        column(bounds, columns, RECORD_KIND),
+        column(bounds, columns, RECORD_TARGET),
+        root,
+        order,
+        hosts,
+    )
 }

@@ -1,13 +1,4 @@
--- The theory of the risk, and what the functions' proofs share.
-pub mod Order
-pub mod Risks
-pub mod Early
-pub mod Blame
-pub mod Joins
-pub mod Puts
-pub mod Running
-pub mod Places
-pub mod OrderRisk
+-- `Listed`: the two orders of an entry. `Joined`: its risk, added to a set. `Promise`: the promise in each case.
 pub mod Listed
-pub mod Marked
-pub mod Promises
+pub mod Joined
+pub mod Promise

@@ -8,20 +8,17 @@ use lib.Dec.{leb}
 use Rattle.lists.specs.Words.{keep, ones}
 use Rattle.tables.specs.Project.{Project}
 use Rattle.tables.specs.Readings.{modules, isAnalysed, entryChunkOf}
-use Rattle.tables.specs.Refusal.{refusal}
-use Rattle.tables.specs.Answers.{numberOf, countOf, verdict, counted, after}
+use Rattle.tables.specs.Answers.{verdict, after}
 use Rattle.tables.specs.declared.Answer.{Answer}
+use Rattle.table.specs.Table.{Lent, answer}
 use Rattle.expected_order.specs.OfProject.{expectedOf}
 use Rattle.actual_order.specs.Actual.{actualOf, hostsOf}
 use Rattle.chunk_cycles.specs.Cycles.{reachesCycleOf}
 use Rattle.sensitivity.specs.Marks.{sensitive}
 use Rattle.eligibility.specs.Eligible.{eligible}
-use Rattle.at_risk.specs.Risk.{riskOf}
+use Rattle.risk_of_orders.specs.Risk.{riskOf}
 
--- "The entry's two sensitive orders are its expected and its actual order with all but the sensitive modules left out."
-unfoldable pub expectedSensitiveOf : Project → ℕ → List ℕ
-expectedSensitiveOf p root = keep (sensitive p) (expectedOf p root)
-
+-- an entry's actual sensitive order: "its .. actual order with all but the sensitive modules left out"
 unfoldable pub actualSensitiveOf : Project → ℕ → List ℕ
 actualSensitiveOf p root = keep (sensitive p) (actualOf p root)
 
@@ -31,11 +28,10 @@ riskOfEntry p root =
     riskOf (sensitive p) (eligible p) (expectedOf p root) (actualOf p root) (hostsOf p root) (reachesCycleOf p (entryChunkOf p root)) (modules p)
 
 -- the number of a call: 5 for "a root .. that isn't an analysed entry", 6 for a short output
-abbrev pub riskVerdict : Project → ℕ → ℕ → ℕ
-riskVerdict p root room = verdict (refusal p) (isAnalysed p root) (leb (modules p) room)
+abbrev pub riskVerdict : Lent → ℕ → ℕ → ℕ
+riskVerdict t root room = verdict (t .number) (isAnalysed (t .project) root) (leb (modules (t .project)) room)
 
 -- a call's answer, and the slice that it leaves
-pub record EntryRisk (p : Project) (root : ℕ) (marks : List ℕ) (r : Answer) (marks′ : List ℕ) : Type 0 where
-  pub number : numberOf r ≡ riskVerdict p root (length marks)
-  pub count : countOf r ≡ counted (riskVerdict p root (length marks)) (ones (riskOfEntry p root))
-  pub written : marks′ ≡ after (riskVerdict p root (length marks)) marks (riskOfEntry p root)
+pub record EntryRisk (t : Lent) (root : ℕ) (marks : List ℕ) (r : Answer) (marks′ : List ℕ) : Type 0 where
+  pub answered : r ≡ answer (riskVerdict t root (length marks)) (ones (riskOfEntry (t .project) root))
+  pub written : marks′ ≡ after (riskVerdict t root (length marks)) marks (riskOfEntry (t .project) root)

@@ -1,7 +1,3 @@
--- The risk of an entry.
-pub mod Risk
-pub mod Early
-pub mod Blame
+-- The risk of an entry of a project, and what the operation promises.
 pub mod Entry
-pub mod Steps
-pub mod Ready
+pub mod inner

@@ -2,11 +2,10 @@
 -- Assumes nothing.
 use mathlib.Core.Path.{_≡_, refl}
 use mathlib.Core.List.{[], _∷_}
-use Prim.Native.Nat.{ℕ}
 use Rattle.walk.specs.Walk.{visit, walk, postOrder}
 use Rattle.tables.specs.Project.{missing}
 use Rattle.tables.specs.Readings.{rowsOf, valuesOf}
-use Rattle.chunk_cycles.specs.Cycles.{reached, connected, component, cyclic, label, labels}
+use Rattle.strong_connection.specs.Cycles.{reached, connected, component, cyclic, label, labels}
 
 pub listing-labels : labels 2 (valuesOf (0 ∷ []) (1 ∷ [])) ≡ missing ∷ missing ∷ []
 unfolding labels label cyclic component connected reached postOrder walk visit valuesOf rowsOf

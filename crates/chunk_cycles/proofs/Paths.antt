@@ -3,7 +3,7 @@
 use mathlib.Core.Path.{_≡_, sym, ap, subst, _∙_}
 use mathlib.Core.Logic.{inl, inr, ⊎-elim, _↔_}
 use mathlib.Core.Bool.{true, not, _&&_}
-use mathlib.Core.List.{List, List·Memᴰ}
+use mathlib.Core.List.{List·Memᴰ}
 use Prim.Native.Nat.{ℕ, _≤_, _<_}
 use native.Mathlib.Omega.{arith}
 use native.Mathlib.Decide.{decLt}
@@ -14,16 +14,14 @@ use Rattle.lists.specs.Words.{upTo, elem}
 use Rattle.lists.proofs.Laws.{both, not-true, and-parts, and-join, length-countFrom, getD-map-upTo}
 use Rattle.walk.specs.Reach.{Reach, here, step, Reach⁺}
 use Rattle.tables.specs.Project.{Project, missing}
-use Rattle.tables.specs.Readings.{chunks, valuesOf}
-use Rattle.chunk_cycles.specs.Cycles.{reached, connected, cyclic, label, labels, importedBy, labelsOf, labelAt, reachesCycleOf}
+use Rattle.tables.specs.Readings.{chunks}
+use Rattle.strong_connection.specs.Cycles.{reached, connected, cyclic, label, labels}
+use Rattle.chunk_cycles.specs.Cycles.{importedBy, labelsOf, labelAt, reachesCycleOf}
 use Rattle.chunk_cycles.specs.Paths.{Edge, Path*, stay, go, Path⁺, Connected, Cyclic, Lowest, MoreImports}
-use Rattle.chunk_cycles.specs.Graph.{Graph, ImportsFit}
+use Rattle.chunk_cycles.specs.inner.OverTable.{ImportsFit}
 use Rattle.tables.proofs.OwnerRows.{values-row, row-values}
-use Rattle.chunk_cycles.proofs.Strong.{reached-reach, reach-reached, connected-reach, reach-connected, cyclic-cases, other-cyclic, edge-cyclic, cyclic-reach, reach-cyclic, lowest, lowest-least, lowest-connected, label-cyclic, label-none, same-label, label-same, cycle-reach, reach-cycle}
-
--- edges of columns lead to places below n
-pub graph-inside : {from to : List ℕ} {n : ℕ} → Graph from to n → (m y : ℕ) → m < n → List·Memᴰ y (valuesOf from to m) → y < n
-graph-inside {from} {to} {n} g m y l h = let r = values-row from to m y h in subst (λ (x : ℕ). x < n) (r .3) (g .tos (r .0) (r .1))
+use Rattle.strong_connection.proofs.Rows.{graph-inside}
+use Rattle.strong_connection.proofs.Strong.{reached-reach, reach-reached, connected-reach, reach-connected, cyclic-cases, other-cyclic, edge-cyclic, cyclic-reach, reach-cyclic, lowest, lowest-least, lowest-connected, label-cyclic, label-none, same-label, label-same, cycle-reach, reach-cycle}
 
 module _ (p : Project) where
   -- an import row is a step

@@ -1,7 +1,5 @@
--- Cyclic chunks, their labels, and chunk reach. `Graph`, `Threads` and `Steps` are what functions on tested tables ask and ensure.
+-- Cyclic chunks of a project, their labels, chunk reach, and what the operations promise.
 pub mod Cycles
 pub mod Paths
-pub mod Graph
-pub mod Threads
-pub mod Steps
-pub mod Operations
+pub mod Promise
+pub mod inner

@@ -1,187 +1,150 @@
 // Cyclic chunks: labels, and whether a chunk reaches a cyclic one.
-ghost use Rattle.tables.specs.Project.{project};
-ghost use Rattle.chunk_cycles.specs.Operations.{LabelsPromise, ReachPromise};
+ghost use Rattle.table.specs.Table.{lent, lentWith};
+ghost use Rattle.chunk_cycles.specs.Promise.{LabelsPromise, ReachPromise};
+use core::label_table;
+use core::reaches_table;
 use refusal::refusal_number;
+use table::CHUNK_LIMIT;
+use table::DEPENDENCY;
+use table::MEMBER;
+use table::ORDER;
+use table::RECORD_KIND;
+use table::RECORD_MODULE;
+use table::RECORD_TARGET;
+use table::column;
+use table::rows;
 use tables::Answer;
 
 pub mod core;
+
+// The labels of the chunks, written to `labels` from place 0, of a table whose import records are lent beside it; counts the cyclic chunks.
+pub fn labels_with_records<'a>(
+    runtime: u32,
+    dynamic: u32,
+    bounds: &'a [u32],
+    columns: &'a [u32],
+    importers: &'a [u32],
+    kinds: &'a [u32],
+    targets: &'a [u32],
+    labels: &mut [u32],
+) -> Answer
+    ensures { λ r. ⌜ LabelsPromise (lentWith runtime dynamic (now (bounds .entry)) (now (columns .entry)) (now (importers .entry)) (now (kinds .entry)) (now (targets .entry))) (now (labels .entry)) r (now (labels .exit)) ⌝ }
+{
+    let refused = refusal_number(runtime, dynamic, bounds, columns, importers, kinds, targets);
+    if refused != 0 {
+        return Answer::Refused(refused);
+    }
+    let chunks = rows(bounds, columns, ORDER);
+    if labels.len() < chunks {
+        return Answer::Refused(6);
+    }
+    let count = label_table(
+        runtime,
+        dynamic,
+        bounds,
+        columns,
+        importers,
+        kinds,
+        targets,
+        column(bounds, columns, DEPENDENCY),
+        column(bounds, columns, MEMBER),
+        &mut labels[..chunks],
+    );
+    Answer::Counted(count)
+}
 
 // The labels of the chunks, written to `labels` from place 0; counts the cyclic chunks.
 pub fn labels<'a>(
     runtime: u32,
     dynamic: u32,
-    normal: &'a [u32],
-    included: &'a [u32],
-    sensitive: &'a [u32],
-    reads: &'a [u32],
-    exports: &'a [u32],
-    wrap: &'a [u32],
-    chunk: &'a [u32],
-    record_module: &'a [u32],
-    record_kind: &'a [u32],
-    record_target: &'a [u32],
-    dependency_module: &'a [u32],
-    dependency: &'a [u32],
-    statement_module: &'a [u32],
-    statement_included: &'a [u32],
-    use_statement: &'a [u32],
-    use_record: &'a [u32],
-    owner: &'a [u32],
-    canonical: &'a [u32],
-    chain_symbol: &'a [u32],
-    chain_link: &'a [u32],
-    reference_statement: &'a [u32],
-    reference_form: &'a [u32],
-    reference_symbol: &'a [u32],
-    depended_reference: &'a [u32],
-    depended: &'a [u32],
-    order: &'a [u32],
-    member_chunk: &'a [u32],
-    member: &'a [u32],
-    import_chunk: &'a [u32],
-    imports: &'a [u32],
-    entry: &'a [u32],
-    entry_chunk: &'a [u32],
-    seed: &'a [u32],
+    bounds: &'a [u32],
+    columns: &'a [u32],
     labels: &mut [u32],
 ) -> Answer
-    ensures { λ r. ⌜ LabelsPromise (project runtime dynamic (now (normal .entry)) (now (included .entry)) (now (sensitive .entry)) (now (reads .entry)) (now (exports .entry)) (now (wrap .entry)) (now (chunk .entry)) (now («record_module» .entry)) (now («record_kind» .entry)) (now («record_target» .entry)) (now («dependency_module» .entry)) (now (dependency .entry)) (now («statement_module» .entry)) (now («statement_included» .entry)) (now («use_statement» .entry)) (now («use_record» .entry)) (now (owner .entry)) (now (canonical .entry)) (now («chain_symbol» .entry)) (now («chain_link» .entry)) (now («reference_statement» .entry)) (now («reference_form» .entry)) (now («reference_symbol» .entry)) (now («depended_reference» .entry)) (now (depended .entry)) (now (order .entry)) (now («member_chunk» .entry)) (now (member .entry)) (now («import_chunk» .entry)) (now (imports .entry)) (now (entry .entry)) (now («entry_chunk» .entry)) (now (seed .entry))) (now (labels .entry)) (now (labels .exit)) r ⌝ }
+    ensures { λ r. ⌜ LabelsPromise (lent runtime dynamic (now (bounds .entry)) (now (columns .entry))) (now (labels .entry)) r (now (labels .exit)) ⌝ }
 {
-    let number = refusal_number(
+    labels_with_records(
         runtime,
         dynamic,
-        normal,
-        included,
-        sensitive,
-        reads,
-        exports,
-        wrap,
-        chunk,
-        record_module,
-        record_kind,
-        record_target,
-        dependency_module,
-        dependency,
-        statement_module,
-        statement_included,
-        use_statement,
-        use_record,
-        owner,
-        canonical,
-        chain_symbol,
-        chain_link,
-        reference_statement,
-        reference_form,
-        reference_symbol,
-        depended_reference,
-        depended,
-        order,
-        member_chunk,
-        member,
-        import_chunk,
-        imports,
-        entry,
-        entry_chunk,
-        seed,
+        bounds,
+        columns,
+        column(bounds, columns, RECORD_MODULE),
+        column(bounds, columns, RECORD_KIND),
+        column(bounds, columns, RECORD_TARGET),
+        labels,
+    )
+}
+
+// Whether a chunk reaches a cyclic one, itself counted: 1 or 0. The table's import records are lent beside it.
+pub fn chunk_reach_with_records<'a>(
+    runtime: u32,
+    dynamic: u32,
+    bounds: &'a [u32],
+    columns: &'a [u32],
+    importers: &'a [u32],
+    kinds: &'a [u32],
+    targets: &'a [u32],
+    chunk: u32,
+) -> Answer
+    ensures { λ r. ⌜ ReachPromise (lentWith runtime dynamic (now (bounds .entry)) (now (columns .entry)) (now (importers .entry)) (now (kinds .entry)) (now (targets .entry))) chunk r ⌝ }
+{
+    let refused = refusal_number(runtime, dynamic, bounds, columns, importers, kinds, targets);
+    if refused != 0 {
+        return Answer::Refused(refused);
+    }
+    let chunks = rows(bounds, columns, ORDER);
+    if chunks <= (chunk as usize) {
+        return Answer::Refused(5);
+    }
+    let dependencies = column(bounds, columns, DEPENDENCY);
+    let members = column(bounds, columns, MEMBER);
+    let mut labels = [0u32; CHUNK_LIMIT];
+    label_table(
+        runtime,
+        dynamic,
+        bounds,
+        columns,
+        importers,
+        kinds,
+        targets,
+        dependencies,
+        members,
+        &mut labels[..chunks],
     );
-    if number != 0 {
-        return Answer::Refused(number);
-    }
-    let n = order.len();
-    if labels.len() < n {
-        return Answer::Refused(6);
-    }
-    let count = core::label_chunks(import_chunk, imports, &mut labels[..n]);
-    Answer::Counted(count)
+    let reaches = reaches_table(
+        runtime,
+        dynamic,
+        bounds,
+        columns,
+        importers,
+        kinds,
+        targets,
+        dependencies,
+        members,
+        &labels[..chunks],
+        chunk,
+    );
+    Answer::Counted(reaches as usize)
 }
 
 // Whether a chunk reaches a cyclic one, itself counted: 1 or 0.
 pub fn chunk_reach<'a>(
     runtime: u32,
     dynamic: u32,
-    normal: &'a [u32],
-    included: &'a [u32],
-    sensitive: &'a [u32],
-    reads: &'a [u32],
-    exports: &'a [u32],
-    wrap: &'a [u32],
-    chunk: &'a [u32],
-    record_module: &'a [u32],
-    record_kind: &'a [u32],
-    record_target: &'a [u32],
-    dependency_module: &'a [u32],
-    dependency: &'a [u32],
-    statement_module: &'a [u32],
-    statement_included: &'a [u32],
-    use_statement: &'a [u32],
-    use_record: &'a [u32],
-    owner: &'a [u32],
-    canonical: &'a [u32],
-    chain_symbol: &'a [u32],
-    chain_link: &'a [u32],
-    reference_statement: &'a [u32],
-    reference_form: &'a [u32],
-    reference_symbol: &'a [u32],
-    depended_reference: &'a [u32],
-    depended: &'a [u32],
-    order: &'a [u32],
-    member_chunk: &'a [u32],
-    member: &'a [u32],
-    import_chunk: &'a [u32],
-    imports: &'a [u32],
-    entry: &'a [u32],
-    entry_chunk: &'a [u32],
-    seed: &'a [u32],
-    c: u32,
+    bounds: &'a [u32],
+    columns: &'a [u32],
+    chunk: u32,
 ) -> Answer
-    ensures { λ r. ⌜ ReachPromise (project runtime dynamic (now (normal .entry)) (now (included .entry)) (now (sensitive .entry)) (now (reads .entry)) (now (exports .entry)) (now (wrap .entry)) (now (chunk .entry)) (now («record_module» .entry)) (now («record_kind» .entry)) (now («record_target» .entry)) (now («dependency_module» .entry)) (now (dependency .entry)) (now («statement_module» .entry)) (now («statement_included» .entry)) (now («use_statement» .entry)) (now («use_record» .entry)) (now (owner .entry)) (now (canonical .entry)) (now («chain_symbol» .entry)) (now («chain_link» .entry)) (now («reference_statement» .entry)) (now («reference_form» .entry)) (now («reference_symbol» .entry)) (now («depended_reference» .entry)) (now (depended .entry)) (now (order .entry)) (now («member_chunk» .entry)) (now (member .entry)) (now («import_chunk» .entry)) (now (imports .entry)) (now (entry .entry)) (now («entry_chunk» .entry)) (now (seed .entry))) c r ⌝ }
+    ensures { λ r. ⌜ ReachPromise (lent runtime dynamic (now (bounds .entry)) (now (columns .entry))) chunk r ⌝ }
 {
-    let number = refusal_number(
+    chunk_reach_with_records(
         runtime,
         dynamic,
-        normal,
-        included,
-        sensitive,
-        reads,
-        exports,
-        wrap,
+        bounds,
+        columns,
+        column(bounds, columns, RECORD_MODULE),
+        column(bounds, columns, RECORD_KIND),
+        column(bounds, columns, RECORD_TARGET),
         chunk,
-        record_module,
-        record_kind,
-        record_target,
-        dependency_module,
-        dependency,
-        statement_module,
-        statement_included,
-        use_statement,
-        use_record,
-        owner,
-        canonical,
-        chain_symbol,
-        chain_link,
-        reference_statement,
-        reference_form,
-        reference_symbol,
-        depended_reference,
-        depended,
-        order,
-        member_chunk,
-        member,
-        import_chunk,
-        imports,
-        entry,
-        entry_chunk,
-        seed,
-    );
-    if number != 0 {
-        return Answer::Refused(number);
-    }
-    let n = order.len();
-    if n <= (c as usize) {
-        return Answer::Refused(5);
-    }
-    if core::chunk_reaches(import_chunk, imports, n, c) {
-        return Answer::Counted(1);
-    }
-    Answer::Counted(0)
+    )
 }

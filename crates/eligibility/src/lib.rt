@@ -1,2 +1,3 @@
 // Which modules are eligible.
 pub mod core;
+pub mod of_table;

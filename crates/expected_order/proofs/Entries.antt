@@ -1,17 +1,18 @@
 -- From a visit of the root to the expected order of an entry.
 -- Assumes nothing.
-use mathlib.Core.Path.{_≡_, refl, sym, ap, subst, _∙_}
-use mathlib.Core.Bool.{Bool, true, false, cond}
+use mathlib.Core.Path.{_≡_, sym, ap, _∙_}
+use mathlib.Core.Bool.{true, false}
 use mathlib.Core.List.{List, [], _∷_, _++_}
 use Prim.Native.Nat.{ℕ, _≤_}
 use lib.ListN.{length, drop, replicate}
 use Rattle.lists.specs.Words.{keep}
-use Rattle.walk.specs.Walk.{St, Placed, place, everywhere, walk, Visits}
+use Rattle.walk.specs.Walk.{St, Placed, place, everywhere, Visits}
 use Rattle.walk.proofs.Going.{visited-walk}
 use Rattle.walk.proofs.Placing.{placed-order}
 use Rattle.tables.specs.Readings.{isNormal, flagged}
 use Rattle.expected_order.specs.Expected.{importsOf, reached, expected}
-use Rattle.expected_order.specs.Visit.{held, Listed}
+use Rattle.expected_visit.specs.Visit.{held}
+use Rattle.expected_order.specs.Visit.{Listed}
 
 module _ (normal included recordModule recordKind recordTarget : List ℕ) (root : ℕ) where
   abbrev list : List ℕ

@@ -1,15 +1,15 @@
 -- What crates above may use of the expected order: no module stands twice, and the members are the included ones among the reached.
 -- Assumes nothing.
-use mathlib.Core.Path.{_≡_, refl, sym, ap, subst, _∙_}
+use mathlib.Core.Path.{_≡_, refl, sym, ap, subst}
 use mathlib.Core.Logic.{⊎-elim}
-use mathlib.Core.Bool.{Bool, true, false, cond, false≢true}
-use mathlib.Core.List.{List, [], _∷_, _++_, flatMap, List·Memᴰ, List·Memᴰ·head, List·Memᴰ·tail, List·Memᴰ·not-nil, List·Memᴰ·eq-of-singleton, List·Memᴰ·append-cases}
+use mathlib.Core.Bool.{true, false}
+use mathlib.Core.List.{List, [], _∷_, flatMap, List·Memᴰ, List·Memᴰ·head, List·Memᴰ·tail, List·Memᴰ·not-nil, List·Memᴰ·eq-of-singleton, List·Memᴰ·append-cases}
 use Prim.Native.Nat.{ℕ, _≤_, _<_}
 use native.Mathlib.Omega.{arith}
 use lib.ListN.{length, getD}
 use Rattle.lists.specs.Words.{keep, Distinct}
 use Rattle.lists.proofs.Laws.{both, mem-keep, keep-mem, distinct-keep, length-keep}
-use Rattle.walk.specs.Walk.{postOrder, everywhere}
+use Rattle.walk.specs.Walk.{everywhere}
 use Rattle.walk.specs.Reach.{Reach, ReachAny}
 use Rattle.walk.proofs.Orders.{order-met, order-distinct, order-length, all-reach, reach-all}
 use Rattle.tables.specs.Readings.{isNormal, flagged, isImport, normalTarget, resolved, rowTargets, rowsOf, targetsOf}

@@ -1,7 +1,7 @@
 -- What the operation promises, in each of its cases.
 -- Assumes nothing.
-use mathlib.Core.Path.{_≡_, refl, sym, ap, subst, _∙_}
-use mathlib.Core.Bool.{Bool, true, false}
+use mathlib.Core.Path.{_≡_, refl, sym, _∙_}
+use mathlib.Core.Bool.{Bool}
 use mathlib.Core.List.{List}
 use Prim.Native.Nat.{ℕ, _≤_, _<_}
 use native.Mathlib.Omega.{arith}
@@ -10,32 +10,34 @@ use lib.Dec.{ltb, leb}
 use borrow.Author.Tests.{lt-ltb, le-ltb, le-leb, lt-leb}
 use Rattle.tables.specs.Project.{Project}
 use Rattle.tables.specs.Readings.{modules}
-use Rattle.tables.specs.Refusal.{refusal}
 use Rattle.tables.specs.Accepted.{Accepted}
 use Rattle.tables.specs.declared.Answer.the-variants.{Refused, Counted}
-use Rattle.tables.proofs.Accepted.{accepted}
-use Rattle.tables.proofs.Answering.{verdict-project, verdict-unfit, verdict-short, verdict-none, counted-refused, after-refused, counted-accepted, after-accepted}
-use Rattle.expected_order.specs.Expected.{expected}
-use Rattle.expected_order.specs.OfProject.{expectedOf, expectedVerdict, ExpectedOrder}
-use Rattle.expected_order.specs.Visit.{Fit, Listed}
+use Rattle.tables.proofs.Answering.{verdict-project, verdict-unfit, verdict-short, verdict-none, after-refused, after-accepted}
+use Rattle.table.proofs.Laws.{answer-refused, answer-accepted}
+use Rattle.table.specs.Table.{Lent}
+use Rattle.expected_order.specs.OfProject.{expectedOf}
+use Rattle.expected_order.specs.Promise.{expectedVerdict, ExpectedOrder}
+use Rattle.expected_visit.specs.Visit.{Fit}
+use Rattle.expected_order.specs.Visit.{Listed}
 
 -- the columns of an accepted project fit each other
-pub accepted-fit : (p : Project) → refusal p ≡ 0 → Fit (p .normal) (p .included) (p .recordModule) (p .recordKind) (p .recordTarget) (modules p)
-accepted-fit p e =
-    let a = accepted p e in
-    record {
-      normals = refl;
-      includeds = a .sizes .included;
-      kinds = a .sizes .recordKind;
-      targets = a .sizes .recordTarget;
-      rising = a .rises .recordModule;
-      few = a .sizes .normal;
-      rows = a .sizes .recordModule;
-    }
+pub accepted-fit : (p : Project) → Accepted p → Fit (p .normal) (p .included) (p .recordModule) (p .recordKind) (p .recordTarget) (modules p)
+accepted-fit p a = record {
+  normals = refl;
+  includeds = a .sizes .included;
+  kinds = a .sizes .recordKind;
+  targets = a .sizes .recordTarget;
+  rising = a .rises .recordModule;
+  few = a .sizes .normal;
+  rows = a .sizes .recordModule;
+}
 
-module _ (p : Project) (root : ℕ) (order : List ℕ) where
+module _ (t : Lent) (root : ℕ) (order : List ℕ) where
+  abbrev p : Project
+  p = t .project
+
   abbrev number : ℕ
-  number = expectedVerdict p root (length order)
+  number = expectedVerdict t root (length order)
 
   abbrev list : List ℕ
   list = expectedOf p root
@@ -47,25 +49,24 @@ module _ (p : Project) (root : ℕ) (order : List ℕ) where
   room = leb (modules p) (length order)
 
   -- a refusal changes nothing
-  refused : (n : ℕ) → number ≡ n → (n ≡ 0 → ⊥) → ExpectedOrder p root order (Refused n) order
+  refused : (n : ℕ) → number ≡ n → (n ≡ 0 → ⊥) → ExpectedOrder t root order (Refused n) order
   refused n e h =
       let k : number ≡ 0 → ⊥ = λ z. h (sym e ∙ z) in
-      record { number = sym e; count = sym (counted-refused number (length list) k); written = sym (after-refused number order list k) }
+      record { answered = answer-refused number (length list) n e h; written = sym (after-refused number order list k) }
 
-  pub project-refused : (n : ℕ) → n ≡ refusal p → (n ≡ 0 → ⊥) → ExpectedOrder p root order (Refused n) order
-  project-refused n e h = refused n (verdict-project (refusal p) fits room (λ z. h (e ∙ z)) ∙ sym e) h
+  pub project-refused : (n : ℕ) → n ≡ t .number → (n ≡ 0 → ⊥) → ExpectedOrder t root order (Refused n) order
+  project-refused n e h = refused n (verdict-project (t .number) fits room (λ z. h (e ∙ z)) ∙ sym e) h
 
-  module _ (accepts : refusal p ≡ 0) where
-    pub root-refused : modules p ≤ root → ExpectedOrder p root order (Refused 5) order
-    root-refused l = refused 5 (verdict-unfit (refusal p) fits room accepts (le-ltb root (modules p) l)) (λ z. omega arith)
+  module _ (accepts : t .number ≡ 0) where
+    pub root-refused : modules p ≤ root → ExpectedOrder t root order (Refused 5) order
+    root-refused l = refused 5 (verdict-unfit (t .number) fits room accepts (le-ltb root (modules p) l)) (λ z. omega arith)
 
     module _ (within : root < modules p) where
-      pub room-refused : length order < modules p → ExpectedOrder p root order (Refused 6) order
-      room-refused l = refused 6 (verdict-short (refusal p) fits room accepts (lt-ltb root (modules p) within) (lt-leb (modules p) (length order) l)) (λ z. omega arith)
+      pub room-refused : length order < modules p → ExpectedOrder t root order (Refused 6) order
+      room-refused l = refused 6 (verdict-short (t .number) fits room accepts (lt-ltb root (modules p) within) (lt-leb (modules p) (length order) l)) (λ z. omega arith)
 
       pub order-listed : modules p ≤ length order → {marks marks′ order′ : List ℕ} {r : ℕ}
-          → Listed (expected (p .normal) (p .included) (p .recordModule) (p .recordKind) (p .recordTarget) root) marks order marks′ order′ r → ExpectedOrder p root order (Counted r) order′
-      unfolding expectedOf
-      order-listed l o =
-          let z : number ≡ 0 = verdict-none (refusal p) fits room accepts (lt-ltb root (modules p) within) (le-leb (modules p) (length order) l) in
-          record { number = sym z; count = o .count ∙ sym (counted-accepted number (length list) z); written = o .written ∙ sym (after-accepted number order list z) }
+          → Listed (expectedOf p root) marks order marks′ order′ r → ExpectedOrder t root order (Counted r) order′
+      order-listed l {r = r} o =
+          let z : number ≡ 0 = verdict-none (t .number) fits room accepts (lt-ltb root (modules p) within) (le-leb (modules p) (length order) l) in
+          record { answered = answer-accepted number (length list) r z (o .count); written = o .written ∙ sym (after-accepted number order list z) }

@@ -2,28 +2,21 @@
 -- Assumes nothing.
 use mathlib.Core.Path.{_≡_}
 use mathlib.Core.List.{List, _++_}
-use Prim.Native.Nat.{ℕ, _≤_}
+use Prim.Native.Nat.{ℕ, _≤_, _<_}
 use lib.ListN.{length, drop, replicate}
-use Rattle.walk.specs.Walk.{St, Placed}
-use Rattle.tables.specs.Lookups.{Rising}
-use Rattle.tables.specs.Refusal.{moduleLimit, rowLimit}
-
--- the columns fit each other and the limits: n modules, and records in module order
-pub record Fit (normal included recordModule recordKind recordTarget : List ℕ) (n : ℕ) : Type 0 where
-  pub normals : length normal ≡ n
-  pub includeds : length included ≡ n
-  pub kinds : length recordKind ≡ length recordModule
-  pub targets : length recordTarget ≡ length recordModule
-  pub rising : Rising recordModule
-  pub few : n ≤ moduleLimit
-  pub rows : length recordModule ≤ rowLimit
-
--- the state of the walk as the slices hold it
-abbrev pub held : List ℕ → List ℕ → ℕ → St Placed
-held marks order count = record { marks = marks; made = record { order = order; count = count } }
+use Rattle.tables.specs.Project.{Project}
+use Rattle.tables.specs.Readings.{modules}
+use Rattle.tables.specs.Accepted.{Accepted}
 
 -- a list is written to a slice from place 0 and the rest stays, the marks are zeroed, and r is the list's length
 pub record Listed (list marks order marks′ order′ : List ℕ) (r : ℕ) : Type 0 where
   pub count : r ≡ length list
   pub written : order′ ≡ list ++ drop (length list) order
   pub cleared : marks′ ≡ replicate (length marks) 0
+
+-- an accepted project, a row of it, and a place a module in two slices
+pub record Rooted (p : Project) (root marks order : ℕ) : Type 0 where
+  pub accepted : Accepted p
+  pub size : marks ≡ modules p
+  pub within : root < marks
+  pub room : marks ≤ order

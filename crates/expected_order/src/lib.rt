@@ -1,111 +1,84 @@
 // Expected order of an entry.
-ghost use Rattle.tables.specs.Project.{project};
-ghost use Rattle.expected_order.specs.OfProject.{ExpectedOrder};
-use core::expected_order_for_root;
+ghost use Rattle.table.specs.Table.{lent, lentWith};
+ghost use Rattle.expected_order.specs.Promise.{ExpectedOrder};
+use core::list_expected;
 use refusal::refusal_number;
+use table::DEPENDENCY;
+use table::MEMBER;
+use table::MODULE_LIMIT;
+use table::NORMAL;
+use table::RECORD_KIND;
+use table::RECORD_MODULE;
+use table::RECORD_TARGET;
+use table::column;
+use table::rows;
 use tables::Answer;
 
 pub mod core;
 
-// The expected order of a module row, written from place 0.
-pub fn expected_order<'a>(
+// The expected order of a module row, written from place 0, of a table whose import records are lent beside it.
+pub fn expected_order_with_records<'a>(
     runtime: u32,
     dynamic: u32,
-    normal: &'a [u32],
-    included: &'a [u32],
-    sensitive: &'a [u32],
-    reads: &'a [u32],
-    exports: &'a [u32],
-    wrap: &'a [u32],
-    chunk: &'a [u32],
-    record_module: &'a [u32],
-    record_kind: &'a [u32],
-    record_target: &'a [u32],
-    dependency_module: &'a [u32],
-    dependency: &'a [u32],
-    statement_module: &'a [u32],
-    statement_included: &'a [u32],
-    use_statement: &'a [u32],
-    use_record: &'a [u32],
-    owner: &'a [u32],
-    canonical: &'a [u32],
-    chain_symbol: &'a [u32],
-    chain_link: &'a [u32],
-    reference_statement: &'a [u32],
-    reference_form: &'a [u32],
-    reference_symbol: &'a [u32],
-    depended_reference: &'a [u32],
-    depended: &'a [u32],
-    order: &'a [u32],
-    member_chunk: &'a [u32],
-    member: &'a [u32],
-    import_chunk: &'a [u32],
-    imports: &'a [u32],
-    entry: &'a [u32],
-    entry_chunk: &'a [u32],
-    seed: &'a [u32],
+    bounds: &'a [u32],
+    columns: &'a [u32],
+    importers: &'a [u32],
+    kinds: &'a [u32],
+    targets: &'a [u32],
     root: u32,
     expected: &mut [u32],
 ) -> Answer
-    ensures { λ r. ⌜ ExpectedOrder (project runtime dynamic (now (normal .entry)) (now (included .entry)) (now (sensitive .entry)) (now (reads .entry)) (now (exports .entry)) (now (wrap .entry)) (now (chunk .entry)) (now («record_module» .entry)) (now («record_kind» .entry)) (now («record_target» .entry)) (now («dependency_module» .entry)) (now (dependency .entry)) (now («statement_module» .entry)) (now («statement_included» .entry)) (now («use_statement» .entry)) (now («use_record» .entry)) (now (owner .entry)) (now (canonical .entry)) (now («chain_symbol» .entry)) (now («chain_link» .entry)) (now («reference_statement» .entry)) (now («reference_form» .entry)) (now («reference_symbol» .entry)) (now («depended_reference» .entry)) (now (depended .entry)) (now (order .entry)) (now («member_chunk» .entry)) (now (member .entry)) (now («import_chunk» .entry)) (now (imports .entry)) (now (entry .entry)) (now («entry_chunk» .entry)) (now (seed .entry))) root (now (expected .entry)) r (now (expected .exit)) ⌝ }
+    ensures { λ r. ⌜ ExpectedOrder (lentWith runtime dynamic (now (bounds .entry)) (now (columns .entry)) (now (importers .entry)) (now (kinds .entry)) (now (targets .entry))) root (now (expected .entry)) r (now (expected .exit)) ⌝ }
 {
-    let refused = refusal_number(
-        runtime,
-        dynamic,
-        normal,
-        included,
-        sensitive,
-        reads,
-        exports,
-        wrap,
-        chunk,
-        record_module,
-        record_kind,
-        record_target,
-        dependency_module,
-        dependency,
-        statement_module,
-        statement_included,
-        use_statement,
-        use_record,
-        owner,
-        canonical,
-        chain_symbol,
-        chain_link,
-        reference_statement,
-        reference_form,
-        reference_symbol,
-        depended_reference,
-        depended,
-        order,
-        member_chunk,
-        member,
-        import_chunk,
-        imports,
-        entry,
-        entry_chunk,
-        seed,
-    );
+    let refused = refusal_number(runtime, dynamic, bounds, columns, importers, kinds, targets);
     if refused != 0 {
         return Answer::Refused(refused);
     }
-    let modules = normal.len();
+    let modules = rows(bounds, columns, NORMAL);
     if modules <= (root as usize) {
         return Answer::Refused(5);
     }
     if expected.len() < modules {
         return Answer::Refused(6);
     }
-    let mut marks = [0u32; 4096];
-    let count = expected_order_for_root(
-        normal,
-        included,
-        record_module,
-        record_kind,
-        record_target,
+    let mut marks = [0u32; MODULE_LIMIT];
+    let count = list_expected(
+        runtime,
+        dynamic,
+        bounds,
+        columns,
+        importers,
+        kinds,
+        targets,
+        column(bounds, columns, DEPENDENCY),
+        column(bounds, columns, MEMBER),
         &mut marks[..modules],
         expected,
         root,
     );
     Answer::Counted(count)
+}
+
+// The expected order of a module row, written from place 0.
+pub fn expected_order<'a>(
+    runtime: u32,
+    dynamic: u32,
+    bounds: &'a [u32],
+    columns: &'a [u32],
+    root: u32,
+    expected: &mut [u32],
+) -> Answer
+    ensures { λ r. ⌜ ExpectedOrder (lent runtime dynamic (now (bounds .entry)) (now (columns .entry))) root (now (expected .entry)) r (now (expected .exit)) ⌝ }
+{
+    expected_order_with_records(
+        runtime,
+        dynamic,
+        bounds,
+        columns,
+        column(bounds, columns, RECORD_MODULE),
+        column(bounds, columns, RECORD_KIND),
+        column(bounds, columns, RECORD_TARGET),
+        root,
+        expected,
+    )
 }

@@ -1,15 +1,15 @@
 -- Rendering is injective on tables: a text has one table at most.
 -- Assumes nothing.
-use Prim.Native.Nat.{ℕ, zero, suc, _+_, _≤_, _<_}
+use Prim.Native.Nat.{ℕ, suc}
 use Prim.Native.String.{String}
 use native.Mathlib.Omega.{arith}
 use mathlib.Core.Path.{_≡_, refl, sym, ap, ap₂, _∙_}
-use mathlib.Core.Bool.{Bool, true, false}
-use mathlib.Core.List.{List, [], _∷_, _++_, append-assoc, append-nil, map}
+use mathlib.Core.Bool.{true}
+use mathlib.Core.List.{List, [], _∷_, _++_, append-assoc, append-nil}
 use lib.ListN.{length, getD}
 use Rattle.lists.specs.Words.{every}
 use Rattle.tables.specs.Project.{Project, project}
-use Rattle.form.specs.Form.{section, sections, names, lists, render, even, table, Renders}
+use Rattle.form.specs.Form.{section, sections, names, lists, render, even, hasText, Renders}
 use Rattle.form.proofs.Lists.{every-head}
 use Rattle.form.proofs.Rows.{section-once}
 
@@ -83,8 +83,8 @@ pub lists-once : (p q : Project) → lists p ≡ lists q → p ≡ q
 lists-once p q e = sym (lists-of p) ∙ ap projectOf e ∙ lists-of q
 
 -- and a table by its text, whatever follows
-pub render-once : (p q : Project) (x y : List ℕ) → table p ≡ true → table q ≡ true → render p ++ x ≡ render q ++ y → (p ≡ q) × (x ≡ y)
-unfolding render table
+pub render-once : (p q : Project) (x y : List ℕ) → hasText p ≡ true → hasText q ≡ true → render p ++ x ≡ render q ++ y → (p ≡ q) × (x ≡ y)
+unfolding render hasText
 render-once p q x y tp tq e =
     let o = sections-once names (lists p) (lists q) x y refl (lists-alike p q) tp tq e in
     (lists-once p q (o .0), o .1)

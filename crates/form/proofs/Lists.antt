@@ -5,7 +5,7 @@ use native.Mathlib.Omega.{arith}
 use native.Mathlib.Numerals.{add-one}
 use mathlib.Core.Path.{_≡_, refl, sym, ap, ap₂, _∙_}
 use mathlib.Core.Bool.{Bool, true, false, cond, _&&_}
-use mathlib.Core.List.{List, [], _∷_, _++_, map, map-map}
+use mathlib.Core.List.{List, [], _∷_, map, map-map}
 use lib.ListN.{length, getD, List·getD-map, length-map}
 use Rattle.lists.specs.Words.{countFrom, upTo, every}
 use Rattle.form.specs.Form.{transpose}

@@ -1,20 +1,20 @@
 -- A field, a row, the rows of a list and a list are read in one way only.
 -- Assumes nothing.
-use Prim.Native.Nat.{ℕ, zero, suc, _+_, _≤_, _<_}
+use Prim.Native.Nat.{ℕ, zero, suc, _≤_, _<_}
 use Prim.Native.String.{String}
 use native.Mathlib.Omega.{arith}
 use mathlib.Core.Path.{_≡_, refl, sym, ap, ap₂, _∙_}
-use mathlib.Core.Bool.{Bool, true, false, _&&_}
+use mathlib.Core.Bool.{true, _&&_}
 use mathlib.Core.List.{List, [], _∷_, _++_, append-assoc, append-cancel-left, map, flatMap}
-use lib.ListN.{length, getD, length-map, List·getD-map}
+use lib.ListN.{length, getD, length-map}
 use lib.Dec.{eqb, leb}
 use borrow.Author.Tests.{eqb-true, leb-true}
 use Rattle.lists.specs.Words.{every, upTo}
 use Rattle.tables.specs.Project.{missing}
 use Rattle.form.specs.Form.{bytes, field, row, transpose, rowCount, rowsOf, section, even}
-use Rattle.form.specs.Parse.{Parsed, ok, bad, front, Fit, none, more}
+use Rattle.form.specs.Parse.{ok, bad, front, Fit, none, more}
 use Rattle.form.proofs.Fields.{front-field}
-use Rattle.form.proofs.Lists.{and-true, every-head, every-at, transpose-length, transpose-twice}
+use Rattle.form.proofs.Lists.{and-true, every-head, every-at, transpose-twice}
 
 -- one field and the byte behind it
 pub field-once : (v u e f : ℕ) (x y : List ℕ) → v ≤ missing → u ≤ missing → e < 48 → f < 48 → field v ++ e ∷ x ≡ field u ++ f ∷ y

@@ -2,9 +2,9 @@
 -- A text is a list of bytes; 10 is the line end LF and 32 a space.
 -- Assumes nothing.
 use mathlib.Core.Path.{_≡_}
-use mathlib.Core.Bool.{Bool, true, false, cond, _&&_}
+use mathlib.Core.Bool.{Bool, true, cond, _&&_}
 use mathlib.Core.List.{List, [], _∷_, _++_, map, flatMap}
-use Prim.Native.Nat.{ℕ, zero, suc, _+_, _/_, _%_, _≤_}
+use Prim.Native.Nat.{ℕ, zero, suc, _+_, _/_, _%_}
 use Prim.Native.Char.{code}
 use Prim.Native.String.{String}
 use lib.ListN.{length, getD}
@@ -108,12 +108,12 @@ unfoldable pub even : List (List ℕ) → Bool
 even columns = every (λ (c : List ℕ). eqb (length c) (rowCount columns) && every (λ (x : ℕ). leb x missing) c) columns
 
 -- a project that has a text
-unfoldable pub table : Project → Bool
-table p = every even (lists p)
+unfoldable pub hasText : Project → Bool
+hasText p = every even (lists p)
 
 -- "the form below": s is the text of the table p
 abbrev pub Renders : List ℕ → Project → Type 0
-Renders s p = (table p ≡ true) × (render p ≡ s)
+Renders s p = (hasText p ≡ true) × (render p ≡ s)
 
 -- fields with a space before each
 unfoldable pub spaced : List ℕ → List ℕ

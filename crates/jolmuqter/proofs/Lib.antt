@@ -1,3 +1,3 @@
--- `Codes`: what the functions' proofs share. `ToldApart`: how their answers are told apart.
-mod Codes
+-- `OwnRecords`: the test alone, with the table's own records. `ToldApart`: how the exported functions' answers are told apart.
+mod OwnRecords
 pub mod ToldApart

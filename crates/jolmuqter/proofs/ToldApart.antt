@@ -1,6 +1,6 @@
 -- The statements of specs/ToldApart, inhabited.
 -- Assumes nothing.
-use mathlib.Core.Path.{_≡_, refl}
+use mathlib.Core.Path.{_≡_, refl, ap, _∙_}
 use mathlib.Core.Logic.{_⊎_, inl, inr, ⊎-elim}
 use mathlib.Core.Bool.{Bool, true, false, cond, _&&_}
 use mathlib.Core.List.{List, _∷_}
@@ -9,34 +9,33 @@ use native.Mathlib.Omega.{arith}
 use lib.ListN.{length}
 use lib.Dec.{ltb, leb}
 use Rattle.lists.specs.Words.{upTo, ones, bit}
-use Rattle.lists.proofs.Laws.{length-countFrom, length-keep, length-marksOf, ones-zeros}
+use Rattle.lists.proofs.Laws.{length-countFrom, length-keep, ones-zeros}
 use Rattle.walk.specs.Walk.{everywhere}
 use Rattle.walk.proofs.Orders.{order-length}
 use Rattle.tables.specs.Project.{Project}
 use Rattle.tables.specs.Readings.{modules, chunks, isNormal, isAnalysed}
 use Rattle.tables.specs.Refusal.{moduleLimit, sizesFit, valuesFit, rowsRise, rowsAgree, refusal}
-use Rattle.tables.specs.Answers.{numberOf, countOf, verdict, counted}
-use Rattle.tables.specs.Accepted.{Sizes}
+use Rattle.tables.specs.Answers.{numberOf, verdict}
+use Rattle.tables.specs.Accepted.{Accepted}
 use Rattle.tables.specs.declared.Answer.{Answer}
-use Rattle.tables.specs.declared.Answer.the-variants.{Refused, Counted}
-use Rattle.tables.proofs.Accepted.{accepted}
+use Rattle.table.specs.Table.{boundsFit, table, lent, answer}
+use Rattle.table.proofs.Laws.{lent-accepted}
 use Rattle.sort_modules.specs.Sort.{staticsOf, visited, sorted}
 use Rattle.sort_modules.specs.OfProject.{sortedOf}
 use Rattle.expected_order.specs.OfProject.{expectedOf}
 use Rattle.expected_order.proofs.Laws.{expected-length}
 use Rattle.actual_order.specs.Actual.{actualOf}
 use Rattle.actual_order.proofs.OfProject.{actual-length}
-use Rattle.chunk_cycles.specs.Cycles.{cyclic, importedBy, cyclicOf, reachesCycleOf}
-use Rattle.at_risk.specs.Risk.{riskOf}
+use Rattle.strong_connection.specs.Cycles.{cyclic}
+use Rattle.chunk_cycles.specs.Cycles.{importedBy, cyclicOf, reachesCycleOf}
 use Rattle.at_risk.specs.Entry.{riskOfEntry}
-use Rattle.wrap_plan.specs.Planned.{planOf, seedsFit}
+use Rattle.at_risk.proofs.Joined.{length-risk}
+use Rattle.seeds.specs.Seeds.{seedsFit}
+use Rattle.wrap_plan.specs.Planned.{planOf}
 use Rattle.wrap_plan.proofs.Promise.{length-plan}
 use Rattle.order_analysis.specs.Whole.{wholePlan}
 use Rattle.order_analysis.proofs.Promise.{length-whole}
-use Rattle.flat.specs.Columns.{fitting, flat}
-use Rattle.flat.specs.Calls.{Promise, CalledOn}
-use Rattle.flat.specs.declared.Call.{Call}
-use Rattle.flat.specs.declared.Call.the-variants.{Sort, Expected, Actual, Labels, Reach, Risk, Plan, Whole, Refusal}
+use Rattle.jolmuqter.specs.Calls.{Call, Sort, Expected, Actual, Labels, Reach, Risk, Plan, Whole, Refusal, Promise}
 use Rattle.jolmuqter.specs.Exported.{coded}
 use Rattle.jolmuqter.specs.ToldApart.{AcceptedWith, RefusedWith, AnswersAreToldApart, BelowExactlyIfAccepted}
 
@@ -57,19 +56,11 @@ module _ (p : Project) where
   unfolding cyclicOf
   cyclic-few = omega (arith, length-keep (cyclic (chunks p) (importedBy p)) (upTo (chunks p)), length-countFrom zero (chunks p))
 
-  risk-length : (root : ℕ) → length (riskOfEntry p root) ≡ modules p
-  unfolding riskOfEntry riskOf
-  risk-length root = length-marksOf _ (modules p)
-
 bit-few : (b : Bool) → bit b ≤ 1
 bit-few true = omega arith
 bit-few false = omega arith
 
--- an answer's number is 6 at most, and its count 4,096
-
-record Within (a : Answer) : Type 0 where
-  number : numberOf a ≤ 6
-  count : countOf a ≤ moduleLimit
+-- a project's number is 4 at most
 
 refusal-most : (p : Project) → refusal p ≤ 4
 unfolding refusal
@@ -82,51 +73,60 @@ refusal-most p = most (sizesFit p) (valuesFit p) (rowsRise p) (rowsAgree p)
     most true false c d = omega arith
     most false b c d = omega arith
 
-verdict-within : (a : Answer) (n : ℕ) (fits room : Bool) (count : ℕ) → n ≤ 4 → (n ≡ 0 → count ≤ moduleLimit)
-    → numberOf a ≡ verdict n fits room → countOf a ≡ counted (verdict n fits room) count → Within a
-verdict-within a zero true true count most few e c = let f = few refl in record { number = omega arith; count = omega arith }
-verdict-within a zero true false count most few e c = record { number = omega arith; count = omega arith }
-verdict-within a zero false room count most few e c = record { number = omega arith; count = omega arith }
-verdict-within a (suc n) fits room count most few e c = record { number = omega arith; count = omega arith }
+-- the tests alone ask for no argument and no room
+tests-alone : (n : ℕ) → answer n 0 ≡ answer (verdict n true true) 0
+tests-alone zero = refl
+tests-alone (suc n) = refl
 
-module _ (p : Project) (seeds first second : List ℕ) (a : Answer) (first′ second′ : List ℕ) where
-  answer-within : (fits room : Bool) (count : ℕ) → (Sizes p → count ≤ moduleLimit)
-      → numberOf a ≡ verdict (refusal p) fits room → countOf a ≡ counted (verdict (refusal p) fits room) count → Within a
-  answer-within fits room count few = verdict-within a (refusal p) fits room count (refusal-most p) (λ e. few (accepted p e .sizes))
+-- an answer by its number, of which 1 to 6 can be, and its count
 
-  promise-within : (call : Call) → Promise call p seeds first second a first′ second′ → Within a
-  unfolding Promise
-  promise-within Sort h = answer-within true (leb (modules p) (length first) && leb (modules p) (length second)) (length (sortedOf p)) (λ s. omega (arith, sorted-few p)) (h .number) (h .count)
-  promise-within (Expected root) h = answer-within (ltb root (modules p)) (leb (modules p) (length first)) (length (expectedOf p root)) (λ s. omega (arith, expected-few p root)) (h .0 .number) (h .0 .count)
-  promise-within (Actual root) h = answer-within (isAnalysed p root) (leb (modules p) (length first) && leb (modules p) (length second)) (length (actualOf p root)) (λ s. omega (arith, actual-length p root)) (h .number) (h .count)
-  promise-within Labels h = answer-within true (leb (chunks p) (length first)) (length (cyclicOf p)) (λ s. omega (arith, cyclic-few p)) (h .0 .number) (h .0 .count)
-  promise-within (Reach c) h = answer-within (ltb c (chunks p)) true (bit (reachesCycleOf p c)) (λ s. omega (arith, bit-few (reachesCycleOf p c))) (h .0 .number) (h .0 .count)
-  promise-within (Risk root) h = answer-within (isAnalysed p root) (leb (modules p) (length first)) (ones (riskOfEntry p root)) (λ s. omega (arith, ones-zeros (riskOfEntry p root), risk-length p root)) (h .0 .number) (h .0 .count)
-  promise-within Plan h = answer-within (seedsFit p seeds) (leb (modules p) (length first)) (ones (planOf p seeds)) (λ s. omega (arith, ones-zeros (planOf p seeds), length-plan p seeds)) (h .0 .number) (h .0 .count)
-  promise-within Whole h = answer-within true (leb (modules p) (length first)) (ones (wholePlan p)) (λ s. omega (arith, ones-zeros (wholePlan p), length-whole p)) (h .0 .number) (h .0 .count)
-  promise-within Refusal h = record { number = omega (arith, h .0, refusal-most p); count = omega (arith, h .1) }
+module _ (a : Answer) (r : ℕ) (code : r ≡ coded a) where
+  told : (n : ℕ) (fits room : Bool) (count : ℕ) → n ≤ 4 → (n ≡ 0 → count ≤ moduleLimit) → a ≡ answer (verdict n fits room) count → AcceptedWith a r ⊎ RefusedWith a r
+  told zero true true count most few e =
+      let q : r ≡ count = code ∙ ap coded e in
+      let f = few refl in
+      inl (record { accepted = rw q e; within = omega arith })
+  told zero true false count most few e = inr (record { number = 6; refused = e; code = code ∙ ap coded e; least = omega arith; greatest = omega arith })
+  told zero false room count most few e = inr (record { number = 5; refused = e; code = code ∙ ap coded e; least = omega arith; greatest = omega arith })
+  told (suc n) fits room count most few e = inr (record { number = suc n; refused = e; code = code ∙ ap coded e; least = omega arith; greatest = omega arith })
 
-  called-within : (fits : Bool) (call : Call) → CalledOn fits call p seeds first second a first′ second′ → Within a
-  unfolding CalledOn
-  called-within true call h = promise-within call h
-  called-within false call h = rw (h .0) (record { number = omega arith; count = omega arith })
+module _ (runtime dynamic : ℕ) (bounds columns : List ℕ) where
+  abbrev p : Project
+  p = table runtime dynamic bounds columns
 
-told-apart : (a : Answer) (r : ℕ) → r ≡ coded a → Within a → AcceptedWith a r ⊎ RefusedWith a r
-unfolding coded
-told-apart (Refused zero) r e w = inl (record { accepted = refl; count = e; within = omega arith })
-told-apart (Refused (suc n)) r e w = inr (record { code = e; least = omega arith; greatest = omega arith })
-told-apart (Counted c) r e w = inl (record { accepted = refl; count = e; within = omega arith })
+  number-most : lent runtime dynamic bounds columns .number ≤ 4
+  number-most = most (boundsFit bounds columns)
+    where
+      most : (b : Bool) → cond b (refusal p) 1 ≤ 4
+      most true = refusal-most p
+      most false = omega arith
+
+  module _ (first second : List ℕ) (a : Answer) (r : ℕ) (first′ second′ : List ℕ) (code : r ≡ coded a) where
+    by-number : (fits room : Bool) (count : ℕ) → (Accepted p → count ≤ moduleLimit)
+        → a ≡ answer (verdict (lent runtime dynamic bounds columns .number) fits room) count → AcceptedWith a r ⊎ RefusedWith a r
+    by-number fits room count few =
+        told a r code (lent runtime dynamic bounds columns .number) fits room count number-most (λ z. few (lent-accepted bounds columns p z))
+
+    by-promise : (call : Call) → Promise call (lent runtime dynamic bounds columns) first second a first′ second′ → AcceptedWith a r ⊎ RefusedWith a r
+    by-promise Sort h = by-number true (leb (modules p) (length first) && leb (modules p) (length second)) (length (sortedOf p)) (λ ok. omega (arith, sorted-few p, ok .sizes .normal)) (h .answered)
+    by-promise (Expected root) h = by-number (ltb root (modules p)) (leb (modules p) (length first)) (length (expectedOf p root)) (λ ok. omega (arith, expected-few p root, ok .sizes .normal)) (h .answered)
+    by-promise (Actual root) h = by-number (isAnalysed p root) (leb (modules p) (length first) && leb (modules p) (length second)) (length (actualOf p root)) (λ ok. omega (arith, actual-length p root, ok .sizes .normal)) (h .answered)
+    by-promise Labels h = by-number true (leb (chunks p) (length first)) (length (cyclicOf p)) (λ ok. omega (arith, cyclic-few p, ok .sizes .order)) (h .answered)
+    by-promise (Reach c) h = by-number (ltb c (chunks p)) true (bit (reachesCycleOf p c)) (λ ok. omega (arith, bit-few (reachesCycleOf p c))) (h .answered)
+    by-promise (Risk root) h = by-number (isAnalysed p root) (leb (modules p) (length first)) (ones (riskOfEntry p root)) (λ ok. omega (arith, ones-zeros (riskOfEntry p root), length-risk p root, ok .sizes .normal)) (h .answered)
+    by-promise (Plan seeds) h = by-number (seedsFit (modules p) seeds) (leb (modules p) (length first)) (ones (planOf p seeds)) (λ ok. omega (arith, ones-zeros (planOf p seeds), length-plan p seeds, ok .sizes .normal)) (h .answered)
+    by-promise Whole h = by-number true (leb (modules p) (length first)) (ones (wholePlan p)) (λ ok. omega (arith, ones-zeros (wholePlan p), length-whole p, ok .sizes .normal)) (h .answered)
+    by-promise Refusal h = by-number true true 0 (λ ok. omega arith) (h ∙ tests-alone (lent runtime dynamic bounds columns .number))
 
 pub answers-are-told-apart : AnswersAreToldApart
 unfolding AnswersAreToldApart
-answers-are-told-apart call runtime dynamic counts columns seeds first second r first′ second′ e =
-    told-apart (e .answer) r (e .code)
-    (called-within (flat runtime dynamic counts columns) seeds first second (e .answer) first′ second′ (fitting counts columns) call (e .called))
+answers-are-told-apart call runtime dynamic bounds columns first second r first′ second′ e =
+    by-promise runtime dynamic bounds columns first second (e .answer) r first′ second′ (e .code) call (e .promised)
 
 pub below-exactly-if-accepted : BelowExactlyIfAccepted
 unfolding AnswersAreToldApart BelowExactlyIfAccepted
-below-exactly-if-accepted call runtime dynamic counts columns seeds first second r first′ second′ e =
+below-exactly-if-accepted call runtime dynamic bounds columns first second r first′ second′ e =
     ⊎-elim
-    (λ a. (λ l. a .accepted, λ z. omega arith))
-    (λ f. (λ l. absurd (omega arith), λ z. absurd (omega arith)))
-    (answers-are-told-apart call runtime dynamic counts columns seeds first second r first′ second′ e)
+    (λ a. (λ l. ap numberOf (a .accepted), λ z. omega arith))
+    (λ f. (λ l. absurd (omega (arith, f .code)), λ z. absurd (omega (arith, f .least, ap numberOf (f .refused)))))
+    (answers-are-told-apart call runtime dynamic bounds columns first second r first′ second′ e)

@@ -1,3 +1,4 @@
 -- What the exported functions promise, and how their answers are told apart.
+pub mod Calls
 pub mod Exported
 pub mod ToldApart

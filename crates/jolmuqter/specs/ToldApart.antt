@@ -6,32 +6,35 @@ use mathlib.Core.Logic.{_⊎_}
 use mathlib.Core.List.{List}
 use Prim.Native.Nat.{ℕ, _+_, _^_, _≤_, _<_}
 use Rattle.tables.specs.Refusal.{moduleLimit}
-use Rattle.tables.specs.Answers.{numberOf, countOf}
+use Rattle.tables.specs.Answers.{numberOf}
 use Rattle.tables.specs.declared.Answer.{Answer}
-use Rattle.flat.specs.declared.Call.{Call}
+use Rattle.tables.specs.declared.Answer.the-variants.{Refused, Counted}
+use Rattle.table.specs.Table.{lent}
+use Rattle.jolmuqter.specs.Calls.{Call}
 use Rattle.jolmuqter.specs.Exported.{Exported}
 
 -- the call is accepted, and r is its count: 4,096 at most
 pub record AcceptedWith (answer : Answer) (r : ℕ) : Type 0 where
-  pub accepted : numberOf answer ≡ 0
-  pub count : r ≡ countOf answer
+  pub accepted : answer ≡ Counted r
   pub within : r ≤ moduleLimit
 
 -- the call is refused, and r is 2 ^ 32 plus its number: 1 to 6
 pub record RefusedWith (answer : Answer) (r : ℕ) : Type 0 where
-  pub code : r ≡ 2 ^ 32 + numberOf answer
-  pub least : 1 ≤ numberOf answer
-  pub greatest : numberOf answer ≤ 6
+  pub number : ℕ
+  pub refused : answer ≡ Refused number
+  pub code : r ≡ 2 ^ 32 + number
+  pub least : 1 ≤ number
+  pub greatest : number ≤ 6
 
 -- every answer is one of the two
 unfoldable pub AnswersAreToldApart : Type 0
 AnswersAreToldApart =
-    (call : Call) (runtime dynamic : ℕ) (counts columns seeds first second : List ℕ) (r : ℕ) (first′ second′ : List ℕ)
-    (e : Exported call runtime dynamic counts columns seeds first second r first′ second′) → AcceptedWith (e .answer) r ⊎ RefusedWith (e .answer) r
+    (call : Call) (runtime dynamic : ℕ) (bounds columns first second : List ℕ) (r : ℕ) (first′ second′ : List ℕ)
+    (e : Exported call (lent runtime dynamic bounds columns) first second r first′ second′) → AcceptedWith (e .answer) r ⊎ RefusedWith (e .answer) r
 
 -- an answer is below 2 ^ 32 exactly if the call is accepted
 unfoldable pub BelowExactlyIfAccepted : Type 0
 BelowExactlyIfAccepted =
-    (call : Call) (runtime dynamic : ℕ) (counts columns seeds first second : List ℕ) (r : ℕ) (first′ second′ : List ℕ)
-    (e : Exported call runtime dynamic counts columns seeds first second r first′ second′)
+    (call : Call) (runtime dynamic : ℕ) (bounds columns first second : List ℕ) (r : ℕ) (first′ second′ : List ℕ)
+    (e : Exported call (lent runtime dynamic bounds columns) first second r first′ second′)
     → (r < 2 ^ 32 → numberOf (e .answer) ≡ 0) × (numberOf (e .answer) ≡ 0 → r < 2 ^ 32)

@@ -1,11 +1,14 @@
-// The operations for C and Rust: all columns of a table one after the other in one slice, and the row count of each list. The answer is the
-// count, or 2^32 plus the number of a refusal. Counts that don't match the columns are refused with 1.
+// The operations for C and Rust, on a project that is lent as a table. The answer is the count, or 2^32 plus the number of a refusal.
 ghost use mathlib.Core.Path.{_≡_};
 ghost use mathlib.Core.List.{[]};
-ghost use Rattle.flat.specs.declared.Call.the-variants.{Sort, Expected, Actual, Labels, Reach, Risk, Plan, Whole, Refusal};
+ghost use Rattle.table.specs.Table.{lent, answer};
+ghost use Rattle.jolmuqter.specs.Calls.{Sort, Expected, Actual, Labels, Reach, Risk, Plan, Whole, Refusal};
 ghost use Rattle.jolmuqter.specs.Exported.{coded, Exported};
-use flat::Call;
-use flat::call_on;
+use refusal::refusal_number;
+use table::RECORD_KIND;
+use table::RECORD_MODULE;
+use table::RECORD_TARGET;
+use table::column;
 use tables::Answer;
 
 // An answer as a number.
@@ -13,12 +16,7 @@ fn code(answer: Answer) -> u64
     ensures { λ r. ⌜ r ≡ coded answer ⌝ }
 {
     match answer {
-        Answer::Refused(n) => {
-            if n == 0 {
-                return 0;
-            }
-            4294967296 + n as u64
-        }
+        Answer::Refused(n) => 4294967296 + n as u64,
         Answer::Counted(c) => c as u64,
     }
 }
@@ -28,24 +26,14 @@ fn code(answer: Answer) -> u64
 pub extern "C" fn jolmuqter_sort_modules<'a>(
     runtime: u32,
     dynamic: u32,
-    counts: &'a [u32],
+    bounds: &'a [u32],
     columns: &'a [u32],
     numbers: &mut [u32],
     sorted: &mut [u32],
 ) -> u64
-    ensures { λ r. ⌜ Exported Sort runtime dynamic (now (counts .entry)) (now (columns .entry)) [] (now (numbers .entry)) (now (sorted .entry)) r (now (numbers .exit)) (now (sorted .exit)) ⌝ }
+    ensures { λ r. ⌜ Exported Sort (lent runtime dynamic (now (bounds .entry)) (now (columns .entry))) (now (numbers .entry)) (now (sorted .entry)) r (now (numbers .exit)) (now (sorted .exit)) ⌝ }
 {
-    let none = [0u32; 0];
-    code(call_on(
-        runtime,
-        dynamic,
-        counts,
-        columns,
-        &none,
-        numbers,
-        sorted,
-        Call::Sort,
-    ))
+    code(sort_modules::sort_modules(runtime, dynamic, bounds, columns, numbers, sorted))
 }
 
 // The expected order of any module row.
@@ -53,25 +41,14 @@ pub extern "C" fn jolmuqter_sort_modules<'a>(
 pub extern "C" fn jolmuqter_expected_order<'a>(
     runtime: u32,
     dynamic: u32,
-    counts: &'a [u32],
+    bounds: &'a [u32],
     columns: &'a [u32],
     root: u32,
     order: &mut [u32],
 ) -> u64
-    ensures { λ r. ⌜ Exported (Expected root) runtime dynamic (now (counts .entry)) (now (columns .entry)) [] (now (order .entry)) [] r (now (order .exit)) [] ⌝ }
+    ensures { λ r. ⌜ Exported (Expected root) (lent runtime dynamic (now (bounds .entry)) (now (columns .entry))) (now (order .entry)) [] r (now (order .exit)) [] ⌝ }
 {
-    let none = [0u32; 0];
-    let mut spare = [0u32; 0];
-    code(call_on(
-        runtime,
-        dynamic,
-        counts,
-        columns,
-        &none,
-        order,
-        &mut spare,
-        Call::Expected(root),
-    ))
+    code(expected_order::expected_order(runtime, dynamic, bounds, columns, root, order))
 }
 
 // The actual order of an analysed entry, and the hosts.
@@ -79,25 +56,15 @@ pub extern "C" fn jolmuqter_expected_order<'a>(
 pub extern "C" fn jolmuqter_actual_order<'a>(
     runtime: u32,
     dynamic: u32,
-    counts: &'a [u32],
+    bounds: &'a [u32],
     columns: &'a [u32],
     root: u32,
     order: &mut [u32],
     hosts: &mut [u32],
 ) -> u64
-    ensures { λ r. ⌜ Exported (Actual root) runtime dynamic (now (counts .entry)) (now (columns .entry)) [] (now (order .entry)) (now (hosts .entry)) r (now (order .exit)) (now (hosts .exit)) ⌝ }
+    ensures { λ r. ⌜ Exported (Actual root) (lent runtime dynamic (now (bounds .entry)) (now (columns .entry))) (now (order .entry)) (now (hosts .entry)) r (now (order .exit)) (now (hosts .exit)) ⌝ }
 {
-    let none = [0u32; 0];
-    code(call_on(
-        runtime,
-        dynamic,
-        counts,
-        columns,
-        &none,
-        order,
-        hosts,
-        Call::Actual(root),
-    ))
+    code(actual_order::actual_order(runtime, dynamic, bounds, columns, root, order, hosts))
 }
 
 // The label of each chunk.
@@ -105,24 +72,13 @@ pub extern "C" fn jolmuqter_actual_order<'a>(
 pub extern "C" fn jolmuqter_labels<'a>(
     runtime: u32,
     dynamic: u32,
-    counts: &'a [u32],
+    bounds: &'a [u32],
     columns: &'a [u32],
     labels: &mut [u32],
 ) -> u64
-    ensures { λ r. ⌜ Exported Labels runtime dynamic (now (counts .entry)) (now (columns .entry)) [] (now (labels .entry)) [] r (now (labels .exit)) [] ⌝ }
+    ensures { λ r. ⌜ Exported Labels (lent runtime dynamic (now (bounds .entry)) (now (columns .entry))) (now (labels .entry)) [] r (now (labels .exit)) [] ⌝ }
 {
-    let none = [0u32; 0];
-    let mut spare = [0u32; 0];
-    code(call_on(
-        runtime,
-        dynamic,
-        counts,
-        columns,
-        &none,
-        labels,
-        &mut spare,
-        Call::Labels,
-    ))
+    code(chunk_cycles::labels(runtime, dynamic, bounds, columns, labels))
 }
 
 // Whether a chunk reaches a cyclic one.
@@ -130,25 +86,13 @@ pub extern "C" fn jolmuqter_labels<'a>(
 pub extern "C" fn jolmuqter_chunk_reach<'a>(
     runtime: u32,
     dynamic: u32,
-    counts: &'a [u32],
+    bounds: &'a [u32],
     columns: &'a [u32],
     chunk: u32,
 ) -> u64
-    ensures { λ r. ⌜ Exported (Reach chunk) runtime dynamic (now (counts .entry)) (now (columns .entry)) [] [] [] r [] [] ⌝ }
+    ensures { λ r. ⌜ Exported (Reach chunk) (lent runtime dynamic (now (bounds .entry)) (now (columns .entry))) [] [] r [] [] ⌝ }
 {
-    let none = [0u32; 0];
-    let mut unused = [0u32; 0];
-    let mut spare = [0u32; 0];
-    code(call_on(
-        runtime,
-        dynamic,
-        counts,
-        columns,
-        &none,
-        &mut unused,
-        &mut spare,
-        Call::Reach(chunk),
-    ))
+    code(chunk_cycles::chunk_reach(runtime, dynamic, bounds, columns, chunk))
 }
 
 // The modules at risk of an analysed entry.
@@ -156,25 +100,14 @@ pub extern "C" fn jolmuqter_chunk_reach<'a>(
 pub extern "C" fn jolmuqter_risk<'a>(
     runtime: u32,
     dynamic: u32,
-    counts: &'a [u32],
+    bounds: &'a [u32],
     columns: &'a [u32],
     root: u32,
     risk: &mut [u32],
 ) -> u64
-    ensures { λ r. ⌜ Exported (Risk root) runtime dynamic (now (counts .entry)) (now (columns .entry)) [] (now (risk .entry)) [] r (now (risk .exit)) [] ⌝ }
+    ensures { λ r. ⌜ Exported (Risk root) (lent runtime dynamic (now (bounds .entry)) (now (columns .entry))) (now (risk .entry)) [] r (now (risk .exit)) [] ⌝ }
 {
-    let none = [0u32; 0];
-    let mut spare = [0u32; 0];
-    code(call_on(
-        runtime,
-        dynamic,
-        counts,
-        columns,
-        &none,
-        risk,
-        &mut spare,
-        Call::Risk(root),
-    ))
+    code(at_risk::risk(runtime, dynamic, bounds, columns, root, risk))
 }
 
 // The plan from lent seeds.
@@ -182,24 +115,14 @@ pub extern "C" fn jolmuqter_risk<'a>(
 pub extern "C" fn jolmuqter_plan_from_seeds<'a>(
     runtime: u32,
     dynamic: u32,
-    counts: &'a [u32],
+    bounds: &'a [u32],
     columns: &'a [u32],
     seeds: &[u32],
     plan: &mut [u32],
 ) -> u64
-    ensures { λ r. ⌜ Exported Plan runtime dynamic (now (counts .entry)) (now (columns .entry)) (now (seeds .entry)) (now (plan .entry)) [] r (now (plan .exit)) [] ⌝ }
+    ensures { λ r. ⌜ Exported (Plan (now (seeds .entry))) (lent runtime dynamic (now (bounds .entry)) (now (columns .entry))) (now (plan .entry)) [] r (now (plan .exit)) [] ⌝ }
 {
-    let mut spare = [0u32; 0];
-    code(call_on(
-        runtime,
-        dynamic,
-        counts,
-        columns,
-        seeds,
-        plan,
-        &mut spare,
-        Call::Plan,
-    ))
+    code(wrap_plan::plan_from_seeds(runtime, dynamic, bounds, columns, seeds, plan))
 }
 
 // The plan of the whole analysis.
@@ -207,24 +130,23 @@ pub extern "C" fn jolmuqter_plan_from_seeds<'a>(
 pub extern "C" fn jolmuqter_plan<'a>(
     runtime: u32,
     dynamic: u32,
-    counts: &'a [u32],
+    bounds: &'a [u32],
     columns: &'a [u32],
     plan: &mut [u32],
 ) -> u64
-    ensures { λ r. ⌜ Exported Whole runtime dynamic (now (counts .entry)) (now (columns .entry)) [] (now (plan .entry)) [] r (now (plan .exit)) [] ⌝ }
+    ensures { λ r. ⌜ Exported Whole (lent runtime dynamic (now (bounds .entry)) (now (columns .entry))) (now (plan .entry)) [] r (now (plan .exit)) [] ⌝ }
 {
-    let none = [0u32; 0];
-    let mut spare = [0u32; 0];
-    code(call_on(
-        runtime,
-        dynamic,
-        counts,
-        columns,
-        &none,
-        plan,
-        &mut spare,
-        Call::Whole,
-    ))
+    code(order_analysis::analyze_execution_order(runtime, dynamic, bounds, columns, plan))
+}
+
+// The answer to the tests alone.
+fn tested(number: u32) -> Answer
+    ensures { λ r. ⌜ r ≡ answer number 0 ⌝ }
+{
+    if number == 0 {
+        return Answer::Counted(0);
+    }
+    Answer::Refused(number)
 }
 
 // The test of the tables alone: 0 if every operation would go on.
@@ -232,22 +154,18 @@ pub extern "C" fn jolmuqter_plan<'a>(
 pub extern "C" fn jolmuqter_refusal<'a>(
     runtime: u32,
     dynamic: u32,
-    counts: &'a [u32],
+    bounds: &'a [u32],
     columns: &'a [u32],
 ) -> u64
-    ensures { λ r. ⌜ Exported Refusal runtime dynamic (now (counts .entry)) (now (columns .entry)) [] [] [] r [] [] ⌝ }
+    ensures { λ r. ⌜ Exported Refusal (lent runtime dynamic (now (bounds .entry)) (now (columns .entry))) [] [] r [] [] ⌝ }
 {
-    let none = [0u32; 0];
-    let mut unused = [0u32; 0];
-    let mut spare = [0u32; 0];
-    code(call_on(
+    code(tested(refusal_number(
         runtime,
         dynamic,
-        counts,
+        bounds,
         columns,
-        &none,
-        &mut unused,
-        &mut spare,
-        Call::Refusal,
-    ))
+        column(bounds, columns, RECORD_MODULE),
+        column(bounds, columns, RECORD_KIND),
+        column(bounds, columns, RECORD_TARGET),
+    )))
 }

@@ -1,20 +1,19 @@
 -- The columns of list after list.
 -- Assumes nothing.
-use Prim.Native.Nat.{ℕ, zero, suc, _+_, _-_, _*_, _/_, _≤_, _<_}
+use Prim.Native.Nat.{ℕ, suc, _+_, _-_, _*_, _/_, _≤_, _<_}
 use native.Mathlib.Omega.{arith}
-use native.Mathlib.Nat.{suc-mul, mul-suc, mul-zero, add-zero, div-mul-le-self}
+use native.Mathlib.Nat.{mul-suc, mul-zero, add-zero, div-mul-le-self}
 use native.Mathlib.Numerals.{add-one}
 use mathlib.Core.Path.{_≡_, refl, sym, ap, ap₂, _∙_}
-use mathlib.Core.Bool.{Bool, true, _&&_}
 use mathlib.Core.List.{List, [], _∷_, _++_, append-assoc, flatten}
-use lib.ListN.{length, getD, drop, set, length-append, length-map}
-use lib.Seq.{sets, drop-cons, drop-length}
-use lib.Dec.{ltb}
-use borrow.Author.Tests.{ltb-true}
-use Rattle.lists.specs.Words.{upTo, every}
-use Rattle.form.proofs.Lists.{and-true, every-at, count-length}
+use lib.ListN.{length, getD, drop, length-append, length-map}
+use lib.Seq.{sets, drop-cons}
+use Rattle.lists.specs.Words.{upTo}
+use Rattle.form.proofs.Lists.{count-length}
 use Rattle.form.proofs.Runs.{sets-append, sets-size}
-use Rattle.listing.specs.Cells.{widths, stripe, stripes, cut, Climbs, at-end, step}
+use Rattle.text_rows.specs.inner.Cells.{widths}
+use Rattle.text_rows.proofs.Names.{narrow}
+use Rattle.listing.specs.inner.Columns.{stripe, stripes, cut, Climbs, at-end, step}
 use Rattle.listing.specs.Reading.{tails}
 use Rattle.listing.proofs.Stripes.{stripe-length}
 
@@ -50,12 +49,6 @@ unfoldable pub total : List ℕ → ℕ
 total [] = 0
 total (w ∷ ws) = w + total ws
 
--- every list has a column, and seven at most
-pub narrow : (l : ℕ) → l < 15 → (0 < getD widths l 0) × (getD widths l 0 < 8)
-narrow l h =
-    let t = and-true _ _ (every-at (λ (w : ℕ). ltb 0 w && ltb w 8) widths 0 l refl h) in
-    (ltb-true 0 (getD widths l 0) (t .0), ltb-true (getD widths l 0) 8 (t .1))
-
 climbs-limit : {p limit : ℕ} {es : List ℕ} → Climbs p es limit → p ≤ limit
 climbs-limit (at-end h) = h
 climbs-limit (step h c) = omega (arith, climbs-limit c)
@@ -63,30 +56,33 @@ climbs-limit (step h c) = omega (arith, climbs-limit c)
 climbs-head : {p e limit : ℕ} {es : List ℕ} → Climbs p (e ∷ es) limit → (p ≤ e) × Climbs e es limit
 climbs-head (step h c) = (h, c)
 
--- l lists have been cut, behind the first bound: what is left to do gives the whole
+-- the columns of all lists but the first
+abbrev all : List ℕ → List ℕ → List (List ℕ)
+all rows ends = cut (drop 1 widths) (drop 1 ends) 2 rows
+
+-- l lists have been passed, behind the first bound: what is left to do gives the whole
 pub record Cutting (rows ends values₀ bounds₀ values bounds : List ℕ) (l first to j : ℕ) : Type 0 where
   pub below : l ≤ 15
   pub climbs : Climbs first (drop l ends) 32768
   pub back : to ≤ first
-  pub wide : j + total (drop l widths) ≡ 35
-  pub put : sets values to (flatten (cut (drop l widths) (drop l ends) first rows)) ≡ sets values₀ 0 (flatten (cut widths ends 0 rows))
-  pub noted : sets bounds (j + 1) (tails to (cut (drop l widths) (drop l ends) first rows)) ≡ sets bounds₀ 1 (tails 0 (cut widths ends 0 rows))
+  pub wide : j + total (drop l widths) ≡ 33
+  pub put : sets values to (flatten (cut (drop l widths) (drop l ends) first rows)) ≡ sets values₀ 0 (flatten (all rows ends))
+  pub noted : sets bounds (j + 1) (tails to (cut (drop l widths) (drop l ends) first rows)) ≡ sets bounds₀ 1 (tails 0 (all rows ends))
 
 module _ (rows ends values₀ bounds₀ : List ℕ) where
-  pub cutting : Climbs 0 ends 32768 → Cutting rows ends values₀ bounds₀ values₀ bounds₀ 0 0 0 0
+  pub cutting : Climbs 2 (drop 1 ends) 32768 → Cutting rows ends values₀ bounds₀ values₀ bounds₀ 1 2 0 0
   unfolding total
   cutting h = record { below = omega arith; climbs = h; back = omega arith; wide = refl; put = refl; noted = refl }
 
   module _ (values bounds : List ℕ) (l first to j : ℕ) (g : Cutting rows ends values₀ bounds₀ values bounds l first to j) where
     pub cut-sizes : (length values ≡ length values₀) × (length bounds ≡ length bounds₀)
     cut-sizes =
-        let all : List (List ℕ) = cut widths ends 0 rows in
         let left : List (List ℕ) = cut (drop l widths) (drop l ends) first rows in (
-          sets-size values values₀ to 0 (flatten left) (flatten all) (g .put),
-          sets-size bounds bounds₀ (j + 1) 1 (tails to left) (tails 0 all) (g .noted),
+          sets-size values values₀ to 0 (flatten left) (flatten (all rows ends)) (g .put),
+          sets-size bounds bounds₀ (j + 1) 1 (tails to left) (tails 0 (all rows ends)) (g .noted),
         )
 
-    pub cut-end : 15 ≤ l → (values ≡ sets values₀ 0 (flatten (cut widths ends 0 rows))) × (bounds ≡ sets bounds₀ 1 (tails 0 (cut widths ends 0 rows)))
+    pub cut-end : 15 ≤ l → (values ≡ sets values₀ 0 (flatten (all rows ends))) × (bounds ≡ sets bounds₀ 1 (tails 0 (all rows ends)))
     unfolding cut flatten tails
     cut-end h =
         let e : l ≡ 15 = omega (arith, g .below) in (
@@ -104,7 +100,7 @@ module _ (rows ends values₀ bounds₀ : List ℕ) where
       pub cut-up : first ≤ e
       cut-up = climbs-head climb .0
 
-      pub cut-wide : (0 < w) × (w < 8) × (j + w < 36)
+      pub cut-wide : (0 < w) × (w < 8) × (j + w < 34)
       unfolding total
       cut-wide =
           let n = narrow l t in

@@ -1,10 +1,4 @@
 -- The laws behind the reader.
-pub mod Positions
-pub mod Cell
-pub mod Turn
-pub mod Line
-pub mod Listed
-pub mod Names
 pub mod Stripes
 pub mod Cuts
 pub mod RowCells

@@ -1,28 +1,28 @@
 -- What was read is the text of one table, or of none.
 -- Assumes nothing.
-use Prim.Native.Nat.{ℕ, zero, suc, _+_, _-_, _*_, _≤_, _<_}
+use Prim.Native.Nat.{ℕ, suc, _+_, _-_, _*_, _≤_, _<_}
 use native.Mathlib.Omega.{arith}
 use native.Mathlib.Nat.{zero-mul, suc-mul, mul-comm}
-use mathlib.Core.Path.{_≡_, refl, sym, ap, ap₂, _∙_}
-use mathlib.Core.Bool.{Bool, true, false}
+use mathlib.Core.Path.{_≡_, refl, sym, ap, ap₂, _∙_, subst}
+use mathlib.Core.Bool.{true}
 use mathlib.Core.List.{List, [], _∷_, _++_, append-nil, map, flatten}
 use lib.ListN.{length, getD, drop, length-append, length-drop, length-map}
 use lib.Seq.{sets, drop-length, drop-cons}
 use Rattle.lists.specs.Words.{upTo, every}
 use Rattle.tables.specs.Project.{Project}
-use Rattle.tables.specs.Answers.{after}
 use Rattle.tables.specs.declared.Answer.the-variants.{Refused, Counted}
-use Rattle.form.specs.Form.{transpose, rowCount, rowsOf, sections, names, lists, render, even, table, Renders}
+use Rattle.form.specs.Form.{transpose, rowCount, rowsOf, sections, names, lists, render, even, hasText, Renders}
 use Rattle.form.proofs.Lists.{every-head, places, transpose-length}
 use Rattle.form.proofs.Rows.{Rows, column-length, even-rows}
 use Rattle.form.proofs.Injective.{Alike, sections-once, projectOf}
 use Rattle.form.proofs.Injective as form
 use Rattle.form.proofs.Runs.{sets-front}
-use Rattle.listing.specs.Cells.{widths, heads, texts, Wholes, stops, cut, Climbs}
-use Rattle.listing.specs.Steps.{AllRead, AllIs, Room, Steps}
-use Rattle.listing.specs.Reading.{IsText, columns, valuesOf, boundsOf, tails, Reads}
-use Rattle.listing.specs.declared.rows.Cursor.{Cursor}
-use Rattle.listing.specs.declared.rows.Cursor.the-variants.{On, Off}
+use Rattle.text_rows.specs.inner.Cells.{widths, heads, texts, Wholes, stops}
+use Rattle.text_rows.specs.inner.Steps.{AllRead, AllIs, Room, Steps}
+use Rattle.listing.specs.inner.Columns.{cut, Climbs}
+use Rattle.listing.specs.Reading.{columnsOf, valuesOf, boundsOf, tails, Reads}
+use Rattle.text_rows.specs.declared.core.Cursor.{Cursor}
+use Rattle.text_rows.specs.declared.core.Cursor.the-variants.{On, Off}
 use Rattle.listing.proofs.Cuts.{tails-length, flatten-append}
 use Rattle.listing.proofs.Tables.{rowValues, Shaped, no-list, a-list, Positive, all, over, all-wholes, from-wholes, cut-columns, stops-climb, stops-length, rows-size}
 
@@ -123,6 +123,38 @@ same-size (w ∷ ws) (c ∷ cs) (a-list h l s) e =
     ∙ sym (length-append (flatten c) (flatten (flatten cs)))
     ∙ ap length (sym (flatten-append c (flatten cs)))
 
+-- a list of two columns and one row
+settled : (c : List (List ℕ)) → length c ≡ 2 → rowCount c ≡ 1 → rowValues c ≡ getD (getD c 0 []) 0 0 ∷ getD (getD c 1 []) 0 0 ∷ []
+unfolding transpose flatten
+settled [] l n = absurd (omega arith)
+settled (a ∷ []) l n = absurd (omega arith)
+settled (a ∷ b ∷ []) l n = ap (λ (k : ℕ). flatten (transpose k (a ∷ b ∷ []))) n
+settled (a ∷ b ∷ c ∷ cs) l n = absurd (omega arith)
+
+-- lists of the columns cs, with these values row by row, whose first has one row: that row, and the columns of the others
+record Behind (values : List (List ℕ)) (cs : List (List (List ℕ))) (post : List ℕ) : Type 0 where
+  runtime : getD (flatten values ++ post) 0 0 ≡ getD (getD (getD cs 0 []) 0 []) 0 0
+  dynamic : getD (flatten values ++ post) 1 0 ≡ getD (getD (getD cs 0 []) 1 []) 0 0
+  size : length (flatten values) ≡ 2 + length (flatten (flatten (drop 1 cs)))
+  climbs : (limit : ℕ) → length (flatten values) ≤ limit → Climbs 2 (drop 1 (stops 0 values)) limit
+  columns : cut (drop 1 widths) (drop 1 (stops 0 values)) 2 (flatten values ++ post) ≡ flatten (drop 1 cs)
+
+behind : (cs : List (List (List ℕ))) → Shaped widths cs → every even cs ≡ true → rowCount (getD cs 0 []) ≡ 1 → (post : List ℕ)
+    → Behind (map rowValues cs) cs post
+unfolding flatten stops
+behind (c ∷ cs) (a-list h l s) e one post =
+    let f = every-head even c cs e in
+    let x : ℕ = getD (getD c 0 []) 0 0 in
+    let y : ℕ = getD (getD c 1 []) 0 0 in
+    subst (λ (v : List ℕ). Behind (v ∷ map rowValues cs) (c ∷ cs) post) (sym (settled c l one))
+    (record {
+      runtime = refl;
+      dynamic = refl;
+      size = omega (arith, same-size (drop 1 widths) cs s (f .1));
+      climbs = λ limit n. stops-climb 2 (map rowValues cs) limit (omega arith);
+      columns = cut-columns (drop 1 widths) cs 2 (x ∷ y ∷ []) post s (f .1) refl;
+    })
+
 -- a list over which as long a one is stored
 over-whole : (l xs : List ℕ) → length xs ≡ length l → sets l 0 xs ≡ xs
 over-whole l xs e = sets-front l xs (omega arith) ∙ ap (λ (n : ℕ). xs ++ drop n l) e ∙ ap (λ (r : List ℕ). xs ++ r) (drop-length l) ∙ append-nil xs
@@ -133,7 +165,7 @@ module _ (s : List ℕ) (p : Project) (r : Renders s p) where
   vss = map rowValues (lists p)
 
   row-text : Wholes heads vss × (texts heads vss ≡ s)
-  unfolding table render vss
+  unfolding hasText render vss
   row-text =
       let w = all-wholes names widths (lists p) refl (lists-shaped p) (r .0) in
       (w .0, w .1 ∙ r .1)
@@ -160,7 +192,7 @@ module _ (s d e : List ℕ) (at k : ℕ) (d′ e′ : List ℕ) (a : AllRead s h
 
   -- no other table
   same : (p : Project) → Renders s p → (found .0 ≡ lists p) × (drop at s ≡ [])
-  unfolding table render
+  unfolding hasText render
   same p r =
       sections-once names (found .0) (lists p) (drop at s) [] (sym found-count) (shaped-alike widths (found .0) (lists p) (found .1) (lists-shaped p)) (found .2) (r .0)
       (sym found-text ∙ sym (r .1) ∙ sym (append-nil (sections names (lists p))))
@@ -201,7 +233,7 @@ module _ (s d e : List ℕ) (at k : ℕ) (d′ e′ : List ℕ) (a : AllRead s h
       result-lists = lists-of (found .0) (found .1) (found .2) (omega (arith, first-size))
 
       pub result-text : Renders s result
-      unfolding table render
+      unfolding hasText render
       result-text = (
         ap (every even) result-lists ∙ found .2,
         ap (sections names) result-lists
@@ -214,39 +246,50 @@ module _ (s d e : List ℕ) (at k : ℕ) (d′ e′ : List ℕ) (a : AllRead s h
         values-size : length (flatten (a .vss)) ≤ 32768
         values-size = omega (arith, a .count)
 
-        pub ends-climb : Climbs 0 e′ 32768
-        ends-climb = rw ends-stops (stops-climb 0 (a .vss) 32768 (omega (arith, values-size)))
+        abbrev rest : List ℕ
+        rest = drop (length (flatten (a .vss))) d
+
+        values-put : d′ ≡ flatten (a .vss) ++ rest
+        values-put = a .put ∙ sets-front d (flatten (a .vss)) (omega (arith, values-size))
+
+        parts : Behind (a .vss) (found .0) rest
+        parts =
+            subst (λ (v : List (List ℕ)). Behind v (found .0) rest) (sym (found .3))
+            (behind (found .0) (found .1) (found .2) (omega (arith, first-size)) rest)
+
+        pub ends-climb : Climbs 2 (drop 1 e′) 32768
+        ends-climb = rw ends-stops (parts .climbs 32768 values-size)
 
         -- the columns that are cut are the project's
-        cut-result : cut widths e′ 0 d′ ≡ columns result
+        cut-result : cut (drop 1 widths) (drop 1 e′) 2 d′ ≡ columnsOf result
         cut-result =
-            ap₂ (λ (x y : List ℕ). cut widths x 0 y)
-            (ends-stops ∙ ap (stops 0) (found .3))
-            (a .put ∙ sets-front d (flatten (a .vss)) (omega (arith, values-size)) ∙ ap (λ (x : List (List ℕ)). flatten x ++ drop (length (flatten (a .vss))) d) (found .3))
-            ∙ cut-columns widths (found .0) 0 [] (drop (length (flatten (a .vss))) d) (found .1) (found .2) refl
-            ∙ ap flatten (sym result-lists)
+            ap₂ (λ (x y : List ℕ). cut (drop 1 widths) (drop 1 x) 2 y) ends-stops values-put
+            ∙ parts .columns
+            ∙ ap (λ (cs : List (List (List ℕ))). flatten (drop 1 cs)) (sym result-lists)
 
-        result-size : k ≡ length (valuesOf result)
+        pub result-size : k ≡ 2 + length (valuesOf result)
         result-size =
             let n : k ≡ length (flatten (a .vss)) = omega (arith, a .count) in
-            n
-            ∙ ap (λ (v : List (List ℕ)). length (flatten v)) (found .3)
-            ∙ same-size widths (found .0) (found .1) (found .2)
-            ∙ ap (λ (cs : List (List (List ℕ))). length (flatten (flatten cs))) (sym result-lists)
+            n ∙ parts .size ∙ ap (λ (cs : List (List (List ℕ))). 2 + length (flatten (flatten (drop 1 cs)))) (sym result-lists)
 
-        pub accepted : (values values′ bounds bounds′ : List ℕ) → length s ≤ 65536 → length values ≡ 32768 → length bounds ≡ 36
-            → values′ ≡ sets values 0 (flatten (cut widths e′ 0 d′))
-            → bounds′ ≡ sets bounds 0 (0 ∷ tails 0 (cut widths e′ 0 d′))
-            → Reads s values values′ bounds bounds′ (Counted k)
+        pub accepted : (settings settings′ bounds bounds′ columns columns′ : List ℕ) → length s ≤ 65536
+            → length settings ≡ 2 → length bounds ≡ 34 → length columns ≡ 32768
+            → settings′ ≡ sets settings 0 (getD d′ 0 0 ∷ getD d′ 1 0 ∷ [])
+            → bounds′ ≡ sets bounds 0 (0 ∷ tails 0 (cut (drop 1 widths) (drop 1 e′) 2 d′))
+            → columns′ ≡ sets columns 0 (flatten (cut (drop 1 widths) (drop 1 e′) 2 d′))
+            → Reads s settings settings′ bounds bounds′ columns columns′ (Counted (k - 2))
         unfolding flatten
-        accepted values values′ bounds bounds′ h lv lb ev eb = (
+        accepted settings settings′ bounds bounds′ columns columns′ h ls lb lc es eb ec = (
           result,
           (h, result-text),
-          result-size,
-          ev ∙ ap (λ (cs : List (List ℕ)). sets values 0 (flatten cs)) cut-result ∙ sets-front values (valuesOf result) (omega (arith, result-size)),
+          omega (arith, result-size),
+          es
+              ∙ over-whole settings (getD d′ 0 0 ∷ getD d′ 1 0 ∷ []) (sym ls)
+              ∙ ap₂ (λ (x y : ℕ). x ∷ y ∷ []) (ap (λ (x : List ℕ). getD x 0 0) values-put ∙ parts .runtime) (ap (λ (x : List ℕ). getD x 1 0) values-put ∙ parts .dynamic),
           eb
               ∙ ap (λ (cs : List (List ℕ)). sets bounds 0 (0 ∷ tails 0 cs)) cut-result
-              ∙ over-whole bounds (boundsOf result) (ap suc (tails-length 0 (columns result)) ∙ sym lb),
+              ∙ over-whole bounds (boundsOf result) (ap suc (tails-length 0 (columnsOf result)) ∙ sym lb),
+          ec ∙ ap (λ (cs : List (List ℕ)). sets columns 0 (flatten cs)) cut-result ∙ sets-front columns (valuesOf result) (omega (arith, result-size)),
         )
 
 -- the reader's answers
@@ -254,29 +297,33 @@ module _ {s d d′ e e′ : List ℕ} {r : Cursor} (a : Steps s heads d d′ e e
   turned : (q : Cursor) → r ≡ q → Steps s heads d d′ e e′ 0 (On 0 0) q
   turned q h = rw h at a
 
-  pub refuse-off : r ≡ Off → (v b : List ℕ) → Reads s v v b b (Refused 7)
-  refuse-off h v b = (refl, (λ p t. read-off s p (t .1) d d′ e e′ (turned Off h .all)), refl, refl)
+  pub refuse-off : r ≡ Off → (x y z : List ℕ) → Reads s x x y y z z (Refused 7)
+  refuse-off h x y z = (refl, (λ p t. read-off s p (t .1) d d′ e e′ (turned Off h .all)), refl, refl, refl)
 
   module _ (at k : ℕ) (h : r ≡ On at k) where
     lists-read : AllRead s heads 0 0 d e 0 at k d′ e′
     lists-read = turned (On at k) h .all
 
-    pub refuse-late : (at ≡ length s → ⊥) → (v b : List ℕ) → Reads s v v b b (Refused 7)
-    refuse-late n v b = (refl, (λ p t. read-late s d e at k d′ e′ lists-read n p (t .1)), refl, refl)
+    pub refuse-late : (at ≡ length s → ⊥) → (x y z : List ℕ) → Reads s x x y y z z (Refused 7)
+    refuse-late n x y z = (refl, (λ p t. read-late s d e at k d′ e′ lists-read n p (t .1)), refl, refl, refl)
 
     module _ (le : length e ≡ 15) where
-      pub refuse-unsettled : (getD e′ 0 0 ≡ 2 → ⊥) → (v b : List ℕ) → Reads s v v b b (Refused 7)
-      refuse-unsettled n v b = (refl, (λ p t. read-unsettled s d e at k d′ e′ lists-read le n p (t .1)), refl, refl)
+      pub refuse-unsettled : (getD e′ 0 0 ≡ 2 → ⊥) → (x y z : List ℕ) → Reads s x x y y z z (Refused 7)
+      refuse-unsettled n x y z = (refl, (λ p t. read-unsettled s d e at k d′ e′ lists-read le n p (t .1)), refl, refl, refl)
 
       module _ (end : at ≡ length s) (two : getD e′ 0 0 ≡ 2) (ld : length d ≡ 32768) (ls : length s ≤ 65536) where
         count-fits : k ≤ 32768
         count-fits = let o : Room s (On at k) = turned (On at k) h .room in omega (arith, o .1)
 
-        pub accept-climbs : Climbs 0 e′ 32768 × (length e′ ≡ 15)
+        pub accept-climbs : Climbs 2 (drop 1 e′) 32768 × (length e′ ≡ 15)
         accept-climbs = (ends-climb s d e at k d′ e′ lists-read le end two ld count-fits, ends-size s d e at k d′ e′ lists-read le)
 
-        pub accept : (values values′ bounds bounds′ : List ℕ) → length values ≡ 32768 → length bounds ≡ 36
-            → values′ ≡ sets values 0 (flatten (cut widths e′ 0 d′))
-            → bounds′ ≡ sets bounds 0 (0 ∷ tails 0 (cut widths e′ 0 d′))
-            → Reads s values values′ bounds bounds′ (Counted k)
-        accept values values′ bounds bounds′ lv lb ev eb = accepted s d e at k d′ e′ lists-read le end two ld count-fits values values′ bounds bounds′ ls lv lb ev eb
+        pub accept-count : 2 ≤ k
+        accept-count = omega (arith, result-size s d e at k d′ e′ lists-read le end two ld count-fits)
+
+        pub accept : (settings settings′ bounds bounds′ columns columns′ : List ℕ) → length settings ≡ 2 → length bounds ≡ 34 → length columns ≡ 32768
+            → settings′ ≡ sets settings 0 (getD d′ 0 0 ∷ getD d′ 1 0 ∷ [])
+            → bounds′ ≡ sets bounds 0 (0 ∷ tails 0 (cut (drop 1 widths) (drop 1 e′) 2 d′))
+            → columns′ ≡ sets columns 0 (flatten (cut (drop 1 widths) (drop 1 e′) 2 d′))
+            → Reads s settings settings′ bounds bounds′ columns columns′ (Counted (k - 2))
+        accept settings settings′ bounds bounds′ columns columns′ = accepted s d e at k d′ e′ lists-read le end two ld count-fits settings settings′ bounds bounds′ columns columns′ ls

@@ -1,15 +1,14 @@
 -- A list's values one following the other, and its rows, are the same text. Assumes nothing.
-use Prim.Native.Nat.{ℕ, zero, suc, _+_, _-_, _*_, _≤_, _<_}
+use Prim.Native.Nat.{ℕ, zero, suc, _≤_}
 use native.Mathlib.Omega.{arith}
 use mathlib.Core.Path.{_≡_, refl, sym, ap, ap₂, _∙_}
-use mathlib.Core.Logic.{⊎-elim}
 use mathlib.Core.List.{List, [], _∷_, _++_, append-assoc, flatten, flatMap}
 use lib.ListN.{length}
-use borrow.Author.Tests.{eq-eqb, ne-eqb}
+use borrow.Author.Tests.{ne-eqb}
 use Rattle.form.specs.Form.{field, row}
 use Rattle.form.specs.Parse.{Fit, none, more}
 use Rattle.form.proofs.Rows.{Rows, no-row, a-row}
-use Rattle.listing.specs.Cells.{ender, following, cells, ends, Whole}
+use Rattle.text_rows.specs.inner.Cells.{ender, following, cells, ends, Whole}
 
 ender-last : ender 0 ≡ 10
 unfolding ender

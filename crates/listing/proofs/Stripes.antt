@@ -1,17 +1,17 @@
 -- Columns copied one after the other.
 -- Assumes nothing.
-use Prim.Native.Nat.{ℕ, zero, suc, _+_, _-_, _*_, _/_, _≤_, _<_}
+use Prim.Native.Nat.{ℕ, zero, suc, _+_, _-_, _*_, _≤_, _<_}
 use native.Mathlib.Omega.{arith}
 use native.Mathlib.Nat.{suc-mul, zero-mul, add-zero, mul-le-mul-right, mul-comm}
 use native.Mathlib.Numerals.{add-one}
 use mathlib.Core.Path.{_≡_, refl, sym, ap, ap₂, _∙_}
 use mathlib.Core.List.{List, [], _∷_, _++_, flatten}
-use lib.ListN.{length, getD, set, length-append}
+use lib.ListN.{length, getD, set}
 use lib.Seq.{sets}
 use Rattle.lists.specs.Words.{countFrom, upTo}
 use Rattle.form.proofs.Lists.{Left, left-more, left-none}
 use Rattle.form.proofs.Runs.{sets-append, store-more, sets-size}
-use Rattle.listing.specs.Cells.{stripe, stripes}
+use Rattle.listing.specs.inner.Columns.{stripe, stripes}
 use Rattle.listing.specs.Reading.{tails}
 
 pub stripe-length : (w p n : ℕ) (vs : List ℕ) → length (stripe w p n vs) ≡ n

@@ -3,22 +3,23 @@
 use Prim.Native.Nat.{ℕ, zero, suc, _+_, _-_, _*_, _/_, _≤_, _<_}
 use Prim.Native.String.{String}
 use native.Mathlib.Omega.{arith}
-use native.Mathlib.Nat.{add-zero, suc-mul, zero-mul, mul-div-cancel}
+use native.Mathlib.Nat.{suc-mul, zero-mul, mul-div-cancel}
 use mathlib.Core.Path.{_≡_, refl, sym, ap, ap₂, _∙_}
-use mathlib.Core.Bool.{Bool, true, false, _&&_}
-use mathlib.Core.List.{List, [], _∷_, _++_, append-assoc, map, flatMap, flatten}
-use lib.ListN.{length, getD, drop, length-append, length-map, List·getD-append}
+use mathlib.Core.Bool.{true, _&&_}
+use mathlib.Core.List.{List, [], _∷_, _++_, append-assoc, map, flatten}
+use lib.ListN.{length, getD, length-append, length-map, List·getD-append}
 use lib.Seq.{getD-append-add}
 use lib.Dec.{eqb, leb}
 use borrow.Author.Tests.{eq-eqb, le-leb}
-use Rattle.lists.specs.Words.{countFrom, upTo, every}
+use Rattle.lists.specs.Words.{upTo, every}
 use Rattle.tables.specs.Project.{missing}
-use Rattle.form.specs.Form.{bytes, row, transpose, rowCount, rowsOf, section, sections, even}
+use Rattle.form.specs.Form.{bytes, transpose, rowCount, rowsOf, section, sections, even}
 use Rattle.form.specs.Parse.{Fit}
 use Rattle.form.proofs.Lists.{every-cons, every-head, upTo-same, transpose-length, transpose-twice}
 use Rattle.form.proofs.Rows.{Rows, no-row, a-row, even-rows, even-columns}
-use Rattle.listing.specs.Cells.{cells, Whole, body, Head, head, headsOf, listed, texts, Wholes, stops, stripe, stripes, cut, Climbs, at-end, step}
-use Rattle.listing.specs.Cells as specs
+use Rattle.text_rows.specs.inner.Cells.{Whole, body, head, headsOf, listed, texts, Wholes, stops}
+use Rattle.text_rows.specs.inner.Cells as specs
+use Rattle.listing.specs.inner.Columns.{stripe, stripes, cut, Climbs, at-end, step}
 use Rattle.listing.proofs.RowCells.{rows-cells, rows-whole, whole-rows}
 
 -- the values of columns, row by row

@@ -1,4 +1,3 @@
--- What the reader promises (Reading), and what its inner functions say (Cells, Steps).
+-- What the reader promises.
 pub mod Reading
-pub mod Cells
-pub mod Steps
+pub mod inner

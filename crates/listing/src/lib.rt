@@ -1,19 +1,24 @@
 // The reader of a project's text.
-ghost use mathlib.Core.Path.{_≡_};
-ghost use Rattle.listing.specs.Reading.{Reads, columnAt};
+ghost use Rattle.listing.specs.Reading.{Reads};
 
 mod columns;
-mod fields;
-mod rows;
 
+use columns::settle;
 use columns::spread;
-use rows::Cursor;
-use rows::read_lists;
+use table::COLUMNS;
 use tables::Answer;
+use text_rows::core::Cursor;
+use text_rows::core::read_lists;
 
-// Reads a project's text: the values of its columns, one after the other, and where each begins and the last ends.
-pub fn read(text: &[u8], values: &mut [u32; 32768], bounds: &mut [usize; 36]) -> Answer
-    ensures { λ r. ⌜ Reads (now (text .entry)) (now (values .entry)) (now (values .exit)) (now (bounds .entry)) (now (bounds .exit)) r ⌝ }
+// Reads a project's text into a table: its settings, where each column begins and the last ends, and the columns one after the other. The
+// answer is how many values these have.
+pub fn read(
+    text: &[u8],
+    settings: &mut [u32; 2],
+    bounds: &mut [u32; COLUMNS + 1],
+    columns: &mut [u32; 32768],
+) -> Answer
+    ensures { λ r. ⌜ Reads (now (text .entry)) (now (settings .entry)) (now (settings .exit)) (now (bounds .entry)) (now (bounds .exit)) (now (columns .entry)) (now (columns .exit)) r ⌝ }
 {
     if 65536 < text.len() {
         return Answer::Refused(7);
@@ -30,30 +35,7 @@ pub fn read(text: &[u8], values: &mut [u32; 32768], bounds: &mut [usize; 36]) ->
     if ends[0] != 2 {
         return Answer::Refused(7);
     }
-    spread(&row_values, &ends, values, bounds);
-    Answer::Counted(k)
-}
-
-// The j-th column of values, by bounds as `read` leaves them: 0 and 1 are the settings, 2 to 34 the 33 columns.
-pub fn column<'a, 'b>(values: &'a [u32], bounds: &'b [usize], j: usize) -> &'a [u32]
-    ensures { λ r. ⌜ now r ≡ columnAt (now (values .entry)) (now (bounds .entry)) j ⌝ }
-{
-    if bounds.len() <= j {
-        return &values[..0];
-    }
-    if bounds.len() - j <= 1 {
-        return &values[..0];
-    }
-    let from = bounds[j];
-    let to = bounds[j + 1];
-    if to <= from {
-        return &values[..0];
-    }
-    if values.len() <= from {
-        return &values[..0];
-    }
-    if values.len() <= to {
-        return &values[from..];
-    }
-    &values[from..to]
+    settle(&row_values, settings);
+    spread(&row_values, &ends, bounds, columns);
+    Answer::Counted(k - 2)
 }

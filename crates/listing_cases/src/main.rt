@@ -4,9 +4,13 @@ use libc::STDIN_FILENO;
 use libc::STDOUT_FILENO;
 use lines::put_line;
 use lines::rising;
-use listing::column;
 use listing::read;
 use refusal::refusal_number;
+use table::COLUMNS;
+use table::RECORD_KIND;
+use table::RECORD_MODULE;
+use table::RECORD_TARGET;
+use table::column;
 use tables::Answer;
 
 // Where each list begins in the listing, and where the last ends.
@@ -103,78 +107,57 @@ fn print(word: &[u8], entry: &[u32], numbers: &[u32]) {
     write_first(&out, n);
 }
 
-// A setting: the one row of its column.
-fn setting(values: &[u32], bounds: &[usize], j: usize) -> u32 {
-    let rows = column(values, bounds, j);
-    if rows.len() == 0 {
-        return 0;
+// The first n values.
+fn first_of(values: &[u32], n: usize) -> &[u32] {
+    if values.len() < n {
+        return values;
     }
-    rows[0]
+    &values[0..n]
 }
 
 // The number of the project test.
-fn tested(values: &[u32], bounds: &[usize]) -> u32 {
+fn tested<'a>(settings: [u32; 2], bounds: &'a [u32], columns: &'a [u32]) -> u32 {
     refusal_number(
-        setting(values, bounds, 0),
-        setting(values, bounds, 1),
-        column(values, bounds, 2),
-        column(values, bounds, 3),
-        column(values, bounds, 4),
-        column(values, bounds, 5),
-        column(values, bounds, 6),
-        column(values, bounds, 7),
-        column(values, bounds, 8),
-        column(values, bounds, 9),
-        column(values, bounds, 10),
-        column(values, bounds, 11),
-        column(values, bounds, 12),
-        column(values, bounds, 13),
-        column(values, bounds, 14),
-        column(values, bounds, 15),
-        column(values, bounds, 16),
-        column(values, bounds, 17),
-        column(values, bounds, 18),
-        column(values, bounds, 19),
-        column(values, bounds, 20),
-        column(values, bounds, 21),
-        column(values, bounds, 22),
-        column(values, bounds, 23),
-        column(values, bounds, 24),
-        column(values, bounds, 25),
-        column(values, bounds, 26),
-        column(values, bounds, 27),
-        column(values, bounds, 28),
-        column(values, bounds, 29),
-        column(values, bounds, 30),
-        column(values, bounds, 31),
-        column(values, bounds, 32),
-        column(values, bounds, 33),
-        column(values, bounds, 34),
+        settings[0],
+        settings[1],
+        bounds,
+        columns,
+        column(bounds, columns, RECORD_MODULE),
+        column(bounds, columns, RECORD_KIND),
+        column(bounds, columns, RECORD_TARGET),
     )
 }
 
-fn counted(case: u32, list: u32, k: usize, values: &[u32; 32768], bounds: &[usize; 36]) {
+fn counted<'a>(
+    case: u32,
+    list: u32,
+    k: usize,
+    settings: [u32; 2],
+    bounds: &'a [u32; COLUMNS + 1],
+    columns: &'a [u32; 32768],
+) {
     if 32768 < k {
         return;
     }
     print(
         b"case",
         &[case, list],
-        &[0, k as u32, tested(values, bounds)],
+        &[0, k as u32, tested(settings, bounds, first_of(columns, k))],
     );
 }
 
 // Reads the first n bytes of a text, and prints the answer.
 fn answer(case: u32, list: u32, text: &[u8], n: usize) {
-    let mut values = [0u32; 32768];
-    let mut bounds = [0usize; 36];
+    let mut settings = [0u32; 2];
+    let mut bounds = [0u32; COLUMNS + 1];
+    let mut columns = [0u32; 32768];
     if text.len() < n {
         return;
     }
-    let answer = read(&text[0..n], &mut values, &mut bounds);
+    let answer = read(&text[0..n], &mut settings, &mut bounds, &mut columns);
     match answer {
         Answer::Refused(number) => print(b"case", &[case, list], &[number]),
-        Answer::Counted(k) => counted(case, list, k, &values, &bounds),
+        Answer::Counted(k) => counted(case, list, k, settings, &bounds, &columns),
     }
 }
 

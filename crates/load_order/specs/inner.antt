@@ -1,2 +1,3 @@
 -- What inner contracts and proofs speak of.
 pub mod Rows
+pub mod OverTable

@@ -9,13 +9,13 @@ use native.Mathlib.Omega.{arith}
 use native.Mathlib.Decide.{ℕ-discrete, decLt}
 use lib.ListN.{length, getD, set, length-set, List·getD-eq-default}
 use lib.Seq.{ext-getD, getD-set-same, getD-set-other}
-use Rattle.lists.specs.Words.{isZero, upTo, has}
+use Rattle.lists.specs.Words.{isZero, upTo, has, ones}
 use Rattle.lists.proofs.Laws.{has-in, mark-in, mark-out, getD-map-upTo, length-map-upTo}
 use Rattle.walk.specs.Close.{Within, Bits}
 use Rattle.walk.proofs.Visits.{fresh-zero, set-zeros, set-bits}
 use Rattle.tables.specs.Lookups.{greaterOf}
 use Rattle.tables.proofs.Greater.{greater-first, greater-second, greater-one}
-use Rattle.marks.specs.Steps.{looked, Raised, Owners, Adding, Added}
+use Rattle.marks.specs.Steps.{looked, Raised, Owners, Adding, Added, Row}
 
 -- writing a column from place 0
 
@@ -236,3 +236,23 @@ looked-bits set column b row = go (decLt row (length column))
     go : Dec (row < length column) → getD (looked 0 set column) row 0 ≤ 1
     go (yes l) = rw (looked-at 0 set column row 0 l) (b (getD column row 0))
     go (no l) = let z : getD (looked 0 set column) row 0 ≡ 0 = List·getD-eq-default (looked 0 set column) 0 (omega (arith, length-looked 0 set column)) in omega arith
+
+-- owners of rows, from a set that holds nothing
+module _ (owner value S s t : List ℕ) (none : (m : ℕ) → has s m ≡ true → ⊥) (lengths : length value ≡ length owner) (o : Owners owner (looked 0 S value) (length owner) s t) where
+  pub owners-row : (m : ℕ) → has t m ≡ true → Row owner value S m
+  owners-row m e =
+      ⊎-elim (λ h. absurd (none m h))
+      (λ r. record { row = r .0; there = r .1; named = r .3; holds = has-looked S value (r .0) (r .2) .1 })
+      (o .only m e)
+
+  pub row-owners : (m : ℕ) → m < length s → Row owner value S m → has t m ≡ true
+  row-owners m l r =
+      subst (λ (x : ℕ). has t x ≡ true) (r .named)
+      (o .new (r .row) (r .there) (looked-has S value (r .row) (omega (arith, lengths, r .there)) ∙ r .holds) (subst (λ (x : ℕ). x < length s) (sym (r .named)) l))
+
+-- nothing is in where no mark is counted
+pub ones-none : (s : List ℕ) → ones s ≡ 0 → (m : ℕ) → has s m ≡ true → ⊥
+ones-none [] n m e = false≢true e
+ones-none (zero ∷ s) n zero e = false≢true e
+ones-none (zero ∷ s) n (suc m) e = ones-none s n m e
+ones-none (suc x ∷ s) n m e = omega arith

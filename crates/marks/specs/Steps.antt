@@ -45,3 +45,15 @@ Added f s t changed = Adding f (length s) s t changed
 -- in each of three sets
 abbrev pub InAll : List ℕ → List ℕ → List ℕ → ℕ → Type 0
 InAll a b c m = (has a m ≡ true) × (has b m ≡ true) × (has c m ≡ true)
+
+-- a set of just those places of which f holds
+pub record Marks (f : ℕ → Type 0) (set : List ℕ) : Type 0 where
+  pub only : (m : ℕ) → has set m ≡ true → f m
+  pub all : (m : ℕ) → m < length set → f m → has set m ≡ true
+
+-- a row of m whose value is in a set
+pub record Row (owner value S : List ℕ) (m : ℕ) : Type 0 where
+  pub row : ℕ
+  pub there : row < length owner
+  pub named : getD owner row 0 ≡ m
+  pub holds : has S (getD value row 0) ≡ true

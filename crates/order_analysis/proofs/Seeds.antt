@@ -9,10 +9,9 @@ use lib.ListN.{length}
 use Rattle.lists.specs.Words.{upTo, any, elem, has}
 use Rattle.lists.proofs.Laws.{iff-eq, or-parts, or-left, or-right, any-mem, mem-any, elem-mem, mem-elem, mem-keep, keep-mem, upTo-mem, has-in}
 use Rattle.tables.specs.Project.{Project}
-use Rattle.actual_order.proofs.Actuals.{mem-flat}
 use Rattle.at_risk.specs.Entry.{riskOfEntry}
 use Rattle.wrap_rules.specs.Plan.{roots}
-use Rattle.wrap_rules.proofs.Rows.{flat-mem}
+use Rattle.wrap_rules.proofs.Rows.{mem-flat, flat-mem}
 use Rattle.order_analysis.specs.Whole.{membersOfSet, seedsOf}
 
 module _ (p : Project) where

@@ -1,3 +1,3 @@
--- The whole analysis. `Analysis` is what its functions on tested tables ask and ensure.
+-- The whole analysis at a project.
 pub mod Whole
-pub mod Analysis
+pub mod inner

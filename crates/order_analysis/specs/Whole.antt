@@ -9,9 +9,9 @@ use lib.Dec.{leb}
 use Rattle.lists.specs.Words.{upTo, keep, has, ones}
 use Rattle.tables.specs.Project.{Project}
 use Rattle.tables.specs.Readings.{modules}
-use Rattle.tables.specs.Refusal.{refusal}
-use Rattle.tables.specs.Answers.{numberOf, countOf, verdict, counted, after}
+use Rattle.tables.specs.Answers.{verdict, after}
 use Rattle.tables.specs.declared.Answer.{Answer}
+use Rattle.table.specs.Table.{Lent, answer}
 use Rattle.at_risk.specs.Entry.{riskOfEntry}
 use Rattle.wrap_rules.specs.Plan.{roots}
 use Rattle.wrap_plan.specs.Planned.{planOf}
@@ -29,11 +29,10 @@ unfoldable pub wholePlan : Project → List ℕ
 wholePlan p = planOf p (seedsOf p)
 
 -- the number of a call: 6 for a short output, and never 5
-abbrev pub wholeVerdict : Project → ℕ → ℕ
-wholeVerdict p room = verdict (refusal p) true (leb (modules p) room)
+abbrev pub wholeVerdict : Lent → ℕ → ℕ
+wholeVerdict t room = verdict (t .number) true (leb (modules (t .project)) room)
 
 -- a call's answer, and the slice that it leaves
-pub record WholeAnalysis (p : Project) (marks : List ℕ) (r : Answer) (marks′ : List ℕ) : Type 0 where
-  pub number : numberOf r ≡ wholeVerdict p (length marks)
-  pub count : countOf r ≡ counted (wholeVerdict p (length marks)) (ones (wholePlan p))
-  pub written : marks′ ≡ after (wholeVerdict p (length marks)) marks (wholePlan p)
+pub record WholeAnalysis (t : Lent) (marks : List ℕ) (r : Answer) (marks′ : List ℕ) : Type 0 where
+  pub answered : r ≡ answer (wholeVerdict t (length marks)) (ones (wholePlan (t .project)))
+  pub written : marks′ ≡ after (wholeVerdict t (length marks)) marks (wholePlan (t .project))

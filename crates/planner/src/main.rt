@@ -1,68 +1,19 @@
 // Reads a project's text from standard input and prints its module order, the orders and the risk of each analysed entry, and the plan.
-use flat::Call;
-use flat::call_on;
+use actual_order::actual_order;
+use at_risk::risk;
+use expected_order::expected_order;
 use libc::STDIN_FILENO;
 use libc::STDOUT_FILENO;
 use lines::put_line;
 use lines::rising;
-use listing::column;
 use listing::read;
+use order_analysis::analyze_execution_order;
+use sort_modules::sort_modules;
+use table::COLUMNS;
+use table::ENTRY;
+use table::MODULE_LIMIT;
+use table::column;
 use tables::Answer;
-
-// A setting: the one row of its column.
-fn setting(values: &[u32], bounds: &[usize], j: usize) -> u32 {
-    let rows = column(values, bounds, j);
-    if rows.len() == 0 {
-        return 0;
-    }
-    rows[0]
-}
-
-// How many rows a column has; the reader has room for 32,768 values in all.
-fn row_count(values: &[u32], bounds: &[usize], j: usize) -> u32 {
-    let rows = column(values, bounds, j).len();
-    if 32768 < rows {
-        return 0;
-    }
-    rows as u32
-}
-
-// An operation on the project that was read. A list's row count is that of its first column.
-fn ask(
-    values: &[u32; 32768],
-    bounds: &[usize; 36],
-    first: &mut [u32],
-    second: &mut [u32],
-    call: Call,
-) -> Answer {
-    let counts = [
-        row_count(values, bounds, 2),
-        row_count(values, bounds, 9),
-        row_count(values, bounds, 12),
-        row_count(values, bounds, 14),
-        row_count(values, bounds, 16),
-        row_count(values, bounds, 18),
-        row_count(values, bounds, 20),
-        row_count(values, bounds, 22),
-        row_count(values, bounds, 25),
-        row_count(values, bounds, 27),
-        row_count(values, bounds, 28),
-        row_count(values, bounds, 30),
-        row_count(values, bounds, 32),
-        row_count(values, bounds, 34),
-    ];
-    let ends = [bounds[2], bounds[35]];
-    call_on(
-        setting(values, bounds, 0),
-        setting(values, bounds, 1),
-        &counts,
-        column(values, &ends, 0),
-        &[],
-        first,
-        second,
-        call,
-    )
-}
 
 // Writes the first n bytes.
 fn write_first(out: &[u8], n: usize) {
@@ -81,90 +32,119 @@ fn print(word: &[u8], entry: &[u32], numbers: &[u32]) {
     write_first(&out, n);
 }
 
-// Prints a line of the first n numbers.
-fn print_first(word: &[u8], entry: &[u32], numbers: &[u32], n: usize) {
-    if n <= numbers.len() {
-        print(word, entry, &numbers[0..n]);
+// The first n values.
+fn first_of(values: &[u32], n: usize) -> &[u32] {
+    if values.len() < n {
+        return values;
     }
+    &values[0..n]
 }
 
 // Prints a line of the members of a set, rising.
 fn print_members(word: &[u8], entry: &[u32], marks: &[u32]) {
-    let mut members = [0u32; 4096];
+    let mut members = [0u32; MODULE_LIMIT];
     let answer = rising(marks, &mut members);
     let Answer::Counted(n) = answer else {
         return;
     };
-    print_first(word, entry, &members, n);
+    print(word, entry, first_of(&members, n));
+}
+
+// Prints the expected order of a root.
+fn expected_line<'a>(runtime: u32, dynamic: u32, bounds: &'a [u32], columns: &'a [u32], root: u32) {
+    let mut expected = [0u32; MODULE_LIMIT];
+    let answer = expected_order(runtime, dynamic, bounds, columns, root, &mut expected);
+    let Answer::Counted(n) = answer else {
+        return;
+    };
+    print(b"expected", &[root], first_of(&expected, n));
+}
+
+// Prints the risk of an analysed entry.
+fn risk_line<'a>(runtime: u32, dynamic: u32, bounds: &'a [u32], columns: &'a [u32], root: u32) {
+    let mut marks = [0u32; MODULE_LIMIT];
+    let answer = risk(runtime, dynamic, bounds, columns, root, &mut marks);
+    let Answer::Counted(_) = answer else {
+        return;
+    };
+    print_members(b"risk", &[root], &marks);
 }
 
 // Prints the lines of an entry. Actual order refuses an entry that isn't analysed.
-fn entry_lines(values: &[u32; 32768], bounds: &[usize; 36], root: u32) {
-    let mut actual = [0u32; 4096];
-    let mut hosts = [0u32; 4096];
-    let ran = ask(values, bounds, &mut actual, &mut hosts, Call::Actual(root));
-    let Answer::Counted(placed) = ran else {
+fn entry_lines<'a>(runtime: u32, dynamic: u32, bounds: &'a [u32], columns: &'a [u32], root: u32) {
+    let mut actual = [0u32; MODULE_LIMIT];
+    let mut hosts = [0u32; MODULE_LIMIT];
+    let answer = actual_order(
+        runtime,
+        dynamic,
+        bounds,
+        columns,
+        root,
+        &mut actual,
+        &mut hosts,
+    );
+    let Answer::Counted(n) = answer else {
         return;
     };
-    let mut expected = [0u32; 4096];
-    let walked = ask(values, bounds, &mut expected, &mut [], Call::Expected(root));
-    let Answer::Counted(listed) = walked else {
-        return;
-    };
-    let mut marks = [0u32; 4096];
-    let judged = ask(values, bounds, &mut marks, &mut [], Call::Risk(root));
-    let Answer::Counted(_) = judged else {
-        return;
-    };
-    let of = [root];
-    print_first(b"expected", &of, &expected, listed);
-    print_first(b"actual", &of, &actual, placed);
-    print_members(b"risk", &of, &marks);
+    expected_line(runtime, dynamic, bounds, columns, root);
+    print(b"actual", &[root], first_of(&actual, n));
+    risk_line(runtime, dynamic, bounds, columns, root);
 }
 
 // Prints the lines of each analysed entry, in row order.
-fn entries(values: &[u32; 32768], bounds: &[usize; 36]) {
-    let rows = column(values, bounds, 32);
+fn entries<'a>(runtime: u32, dynamic: u32, bounds: &'a [u32], columns: &'a [u32]) {
+    let rows = column(bounds, columns, ENTRY);
     let mut row = 0;
     while row < rows.len() {
-        entry_lines(values, bounds, rows[row]);
+        entry_lines(runtime, dynamic, bounds, columns, rows[row]);
         row += 1;
     }
 }
 
 // Prints the line of the plan.
-fn plan_line(values: &[u32; 32768], bounds: &[usize; 36]) {
-    let mut marks = [0u32; 4096];
-    let planned = ask(values, bounds, &mut marks, &mut [], Call::Whole);
-    let Answer::Counted(_) = planned else {
+fn plan_line<'a>(runtime: u32, dynamic: u32, bounds: &'a [u32], columns: &'a [u32]) {
+    let mut marks = [0u32; MODULE_LIMIT];
+    let answer = analyze_execution_order(runtime, dynamic, bounds, columns, &mut marks);
+    let Answer::Counted(_) = answer else {
         return;
     };
     print_members(b"plan", &[], &marks);
 }
 
 // Prints the lines of a project, or its refusal.
-fn lines(values: &[u32; 32768], bounds: &[usize; 36]) {
-    let mut numbers = [0u32; 4096];
-    let mut sorted = [0u32; 4096];
-    let answer = ask(values, bounds, &mut numbers, &mut sorted, Call::Sort);
+fn lines<'a>(runtime: u32, dynamic: u32, bounds: &'a [u32], columns: &'a [u32]) {
+    let mut numbers = [0u32; MODULE_LIMIT];
+    let mut sorted = [0u32; MODULE_LIMIT];
+    let answer = sort_modules(runtime, dynamic, bounds, columns, &mut numbers, &mut sorted);
     match answer {
         Answer::Refused(number) => print(b"refused", &[], &[number]),
         Answer::Counted(n) => {
-            print_first(b"sorted", &[], &sorted, n);
-            entries(values, bounds);
-            plan_line(values, bounds);
+            print(b"sorted", &[], first_of(&sorted, n));
+            entries(runtime, dynamic, bounds, columns);
+            plan_line(runtime, dynamic, bounds, columns);
         }
     }
 }
 
+// Prints the lines of a project that was read, with n values in its columns.
+fn lines_of<'a>(
+    settings: [u32; 2],
+    bounds: &'a [u32; COLUMNS + 1],
+    columns: &'a [u32; 32768],
+    n: usize,
+) {
+    lines(settings[0], settings[1], bounds, first_of(columns, n));
+}
+
 fn main() {
     let mut text = [0u8; 65537];
-    let mut values = [0u32; 32768];
-    let mut bounds = [0usize; 36];
+    let mut settings = [0u32; 2];
+    let mut bounds = [0u32; COLUMNS + 1];
+    let mut columns = [0u32; 32768];
     let n = io::read_full(STDIN_FILENO, &mut text);
-    let answer = read(&text[..n], &mut values, &mut bounds);
+    let answer = read(&text[..n], &mut settings, &mut bounds, &mut columns);
     match answer {
         Answer::Refused(number) => print(b"refused", &[], &[number]),
-        Answer::Counted(_) => lines(&values, &bounds),
+        Answer::Counted(k) => lines_of(settings, &bounds, &columns, k),
     }
 }

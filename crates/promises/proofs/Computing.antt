@@ -11,16 +11,17 @@ use Rattle.expected_order.specs.Expected.{expected}
 use Rattle.expected_order.specs.OfProject.{expectedOf}
 use Rattle.load_order.specs.LoadOrder.{sortBy, loadOrder}
 use Rattle.actual_order.specs.Actual.{triggered, execute, eagerMembers, executeMembers, visitChunk, runFrom, runOf, actualOf, hostsOf}
-use Rattle.chunk_cycles.specs.Cycles.{cyclicOf, connected, component, cyclic, label, labels, reachesCycle, labelsOf, reachesCycleOf}
-use Rattle.chunk_cycles.specs.Cycles as cycles
+use Rattle.chunk_cycles.specs.Cycles.{cyclicOf, labelsOf, reachesCycleOf}
+use Rattle.strong_connection.specs.Cycles.{connected, component, cyclic, label, labels, reachesCycle}
+use Rattle.strong_connection.specs.Cycles as cycles
 use Rattle.sensitivity.specs.Marks.{wakes, usesWrapped, sensitive}
 use Rattle.eligibility.specs.Eligible.{eligible}
-use Rattle.at_risk.specs.Risk.{early, isFlagged, orderRisk, cycleRisk, riskOf}
-use Rattle.at_risk.specs.Entry.{expectedSensitiveOf, actualSensitiveOf, riskOfEntry}
+use Rattle.risk_of_orders.specs.Risk.{early, isFlagged, orderRisk, cycleRisk, riskOf}
+use Rattle.wrap_rules.specs.Plan.{expectedSensitiveOf, asked, start, planFrom, ordersOf}
+use Rattle.at_risk.specs.Entry.{actualSensitiveOf, riskOfEntry}
 use Rattle.wrap_rules.specs.Rules.{suffixAsks, componentAsks, leads, importAsks, symbolTouches, referenceTouches, readAsks}
-use Rattle.wrap_rules.specs.Plan.{asked, start, planFrom}
 use Rattle.wrap_rules.specs.Plan as plan
-use Rattle.wrap_plan.specs.Planned.{ordersOf, planOf}
+use Rattle.wrap_plan.specs.Planned.{planOf}
 use Rattle.order_analysis.specs.Whole.{seedsOf, wholePlan}
 
 unfoldable pub computing : Unit {0}

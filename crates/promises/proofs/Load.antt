@@ -25,13 +25,13 @@ use Rattle.expected_order.proofs.Laws.{reached-path}
 use Rattle.load_order.specs.LoadOrder.{loadOrder}
 use Rattle.actual_order.specs.Actual.{Executed, executes, triggered, unwrapped, eagerMembers, runOf, actualOf}
 use Rattle.actual_order.specs.inner.InTurn.{chunkOrder, hostsInTurn}
-use Rattle.actual_order.proofs.Actuals.{mem-flat, run-order, turn-host}
+use Rattle.wrap_rules.proofs.Rows.{mem-flat, mem-rows, flat-mem}
+use Rattle.actual_order.proofs.Actuals.{run-order, turn-host}
 use Rattle.actual_order.proofs.Chunks.{run-in-turn}
 use Rattle.sensitivity.specs.Marks.{sensitive}
 use Rattle.eligibility.specs.Eligible.{eligible}
-use Rattle.at_risk.specs.Entry.{expectedSensitiveOf, actualSensitiveOf}
-use Rattle.wrap_rules.specs.Plan.{reached}
-use Rattle.wrap_rules.proofs.Rows.{mem-rows, flat-mem}
+use Rattle.wrap_rules.specs.Plan.{expectedSensitiveOf, reached}
+use Rattle.at_risk.specs.Entry.{actualSensitiveOf}
 use Rattle.order_analysis.specs.Whole.{wholePlan}
 use Rattle.promises.specs.Statements.{WholePlanIsLeast, WholePlanKeepsTheOrder, AllEligible, SameOrder, unplanned}
 use Rattle.promises.specs.Load.{implies, plannedWraps, normalImports, belongs, membersBelong, Plain, PlannedLoadKeepsTheOrder}

@@ -15,14 +15,14 @@ use Rattle.evaluation.specs.Premises.{requestedOf}
 use Rattle.evaluation.proofs.Witness.{meets-premises}
 use Rattle.evaluation.proofs.Expected.{evaluation-gives-the-expected-order}
 use Rattle.sensitivity.specs.Marks.{sensitive}
-use Rattle.at_risk.specs.Entry.{expectedSensitiveOf}
+use Rattle.wrap_rules.specs.Plan.{expectedSensitiveOf}
 use Rattle.promises.specs.Listing.{listing}
 use Rattle.promises.specs.Load.{normalImports, PlannedLoadKeepsTheOrder}
 use Rattle.promises.specs.LoadEvaluation.{PlannedLoadKeepsTheLanguagesOrder, LanguagesOrderWitness}
 use Rattle.promises.proofs.Load.{plannedLoadKeepsTheOrder}
 
 -- a normal root's expected order
-expected-normal : (p : Project) (root : ℕ) → isNormal (p .normal) root ≡ true → expectedOf p root ≡ keep (flagged (p .included)) (postOrder (normalImports p) everywhere (modules p) (root ∷ []))
+pub expected-normal : (p : Project) (root : ℕ) → isNormal (p .normal) root ≡ true → expectedOf p root ≡ keep (flagged (p .included)) (postOrder (normalImports p) everywhere (modules p) (root ∷ []))
 unfolding expectedOf expected
 expected-normal p root e = ap (λ (b : Bool). cond b (keep (flagged (p .included)) (postOrder (normalImports p) everywhere (modules p) (root ∷ []))) []) e
 

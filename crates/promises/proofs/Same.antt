@@ -10,10 +10,10 @@ use Rattle.expected_order.specs.OfProject.{expectedOf}
 use Rattle.actual_order.specs.Actual.{runOf, actualOf, hostsOf}
 use Rattle.sensitivity.specs.Marks.{usesWrapped, sensitive}
 use Rattle.eligibility.specs.Eligible.{eligible}
-use Rattle.at_risk.specs.Entry.{expectedSensitiveOf, riskOfEntry}
+use Rattle.wrap_rules.specs.Plan.{expectedSensitiveOf, Rule, suffixRule, componentRule, importRule, readRule, roots, reached, asks, asked, start, planFrom, ordersOf}
+use Rattle.at_risk.specs.Entry.{riskOfEntry}
 use Rattle.wrap_rules.specs.Rules.{componentAsks, leads, importAsks, symbolTouches, referenceTouches, readAsks}
-use Rattle.wrap_rules.specs.Plan.{Rule, suffixRule, componentRule, importRule, readRule, roots, reached, asks, asked, start, planFrom}
-use Rattle.wrap_plan.specs.Planned.{ordersOf, planOf}
+use Rattle.wrap_plan.specs.Planned.{planOf}
 use Rattle.promises.specs.Changes.{withSeed, withImports}
 
 module _ (p : Project) (rows : List ℕ) where

@@ -4,7 +4,7 @@ use mathlib.Core.Path.{_≡_, refl, sym, ap, subst, _∙_}
 use mathlib.Core.Logic.{⊎-elim}
 use mathlib.Core.Bool.{true}
 use mathlib.Core.List.{List, _++_, List·Memᴰ, Memᴰ·map}
-use Prim.Native.Nat.{ℕ}
+use Prim.Native.Nat.{ℕ, zero, suc}
 use native.Mathlib.Omega.{arith}
 use lib.ListN.{length, getD, drop}
 use Rattle.lists.specs.Words.{upTo, elem, has, ones, Distinct}
@@ -13,11 +13,12 @@ use Rattle.walk.specs.Close.{Within, Closed, Bits}
 use Rattle.tables.specs.Project.{Project}
 use Rattle.tables.specs.Readings.{modules, analysedRow, isAnalysed, analysed, entryChunkOf, rowsOf}
 use Rattle.tables.specs.Refusal.{refusal}
-use Rattle.tables.specs.Answers.{numberOf, countOf, counted, after}
+use Rattle.tables.specs.Answers.{numberOf, countOf, after}
 use Rattle.tables.specs.declared.Answer.{Answer}
 use Rattle.tables.proofs.Accepted.{accepted}
+use Rattle.table.specs.Table.{Lent, answer}
 use Rattle.chunk_cycles.specs.Cycles.{labelsOf, reachesCycleOf}
-use Rattle.chunk_cycles.specs.Graph.{ImportsFit}
+use Rattle.chunk_cycles.proofs.OverTable.{accepted-fit}
 use Rattle.chunk_cycles.proofs.Paths.{component-grows}
 use Rattle.expected_order.specs.OfProject.{expectedOf}
 use Rattle.expected_order.proofs.Laws.{expected-distinct}
@@ -25,13 +26,13 @@ use Rattle.actual_order.specs.Actual.{actualOf, hostsOf}
 use Rattle.actual_order.proofs.OfProject.{actual-distinct}
 use Rattle.sensitivity.specs.Marks.{sensitive}
 use Rattle.eligibility.specs.Eligible.{eligible}
-use Rattle.at_risk.specs.Risk.{isFlagged}
-use Rattle.at_risk.specs.Entry.{expectedSensitiveOf, actualSensitiveOf, riskOfEntry}
+use Rattle.risk_of_orders.specs.Risk.{isFlagged}
+use Rattle.wrap_rules.specs.Plan.{expectedSensitiveOf, suffixRule, roots, asks, ordersOf}
+use Rattle.at_risk.specs.Entry.{actualSensitiveOf, riskOfEntry}
 use Rattle.eligibility.proofs.Eligible.{eligible-in}
-use Rattle.at_risk.proofs.Risks.{struck-same, flagged-risk}
+use Rattle.risk_of_orders.proofs.Risks.{struck-same, flagged-risk}
 use Rattle.wrap_rules.specs.Rules.{fromFirst}
-use Rattle.wrap_rules.specs.Plan.{suffixRule, roots, asks}
-use Rattle.wrap_plan.specs.Planned.{ordersOf, planOf, planVerdict}
+use Rattle.wrap_plan.specs.Planned.{planOf, planVerdict}
 use Rattle.wrap_rules.proofs.Monotone.{mem-fromFirst, asks-labels}
 use Rattle.wrap_rules.proofs.Rows.{mem-rows}
 use Rattle.wrap_rules.proofs.Suffix.{suffix-split, suffix-planned}
@@ -76,18 +77,6 @@ moreSeedRowsKeepTheWholePlan p rows h m e =
         (λ r. row-seed (withSeed p rows) x (h x r))
         (seed-cases p x s)
 
--- an accepted project's imports are a graph
-imports-fit : (p : Project) → refusal p ≡ 0 → ImportsFit p
-imports-fit p e =
-    let a = accepted p e in
-    record {
-      few = a .sizes .order;
-      rows = a .sizes .importChunk;
-      lengths = a .sizes .imports;
-      froms = a .values .importChunk;
-      tos = λ i l. a .values .imports i (omega (arith, a .sizes .imports));
-    }
-
 pub moreImportsKeepThePlan : MoreImportsKeepThePlan
 unfolding MoreImportsKeepThePlan planOf Within
 moreImportsKeepThePlan p froms tos seeds ok ok′ more =
@@ -96,7 +85,7 @@ moreImportsKeepThePlan p froms tos seeds ok ok′ more =
     (λ rule S n m e.
     ap (λ (orders : List (List ℕ)). asks orders (labelsOf q) q rule S m) (imports-orders p froms tos)
     ∙ imports-asks p froms tos (ordersOf p) (labelsOf q) rule S m
-    ∙ asks-labels (labelsOf p) (labelsOf q) (component-grows p q more (imports-fit p ok) (imports-fit q ok′) refl) (ordersOf p) p rule S m e)
+    ∙ asks-labels (labelsOf p) (labelsOf q) (component-grows p q more (accepted-fit p (accepted p ok)) (accepted-fit q (accepted q ok′)) refl) (ordersOf p) p rule S m e)
 
 -- an analysed entry is one of the roots
 pub analysed-root : (p : Project) (root : ℕ) → isAnalysed p root ≡ true → List·Memᴰ root (roots p)
@@ -142,22 +131,27 @@ wholePlanKeepsTheOrder p root a eE eA = record {
   same = struck p root a eE eA;
 }
 
+-- the number of an answer
+answer-number : (v count : ℕ) → numberOf (answer v count) ≡ v
+answer-number zero count = refl
+answer-number (suc v) count = refl
+
 -- a call whose number is 0 leaves the new list and counts it
-leaves : (p : Project) (plan marks marks′ : List ℕ) (r : Answer) (v : ℕ) → length plan ≡ modules p → numberOf r ≡ v → countOf r ≡ counted v (ones plan) → marks′ ≡ after v marks plan
+leaves : (p : Project) (plan marks marks′ : List ℕ) (r : Answer) (v : ℕ) → length plan ≡ modules p → r ≡ answer v (ones plan) → marks′ ≡ after v marks plan
     → numberOf r ≡ 0 → LeavesPlan p plan marks r marks′
-leaves p plan marks marks′ r v n e c w z =
-    let o : v ≡ 0 = sym e ∙ z in
+leaves p plan marks marks′ r v n e w z =
+    let o : v ≡ 0 = sym (answer-number v (ones plan)) ∙ ap numberOf (sym e) ∙ z in
     record {
       written = w ∙ ap (λ (k : ℕ). after k marks plan) o ∙ ap (λ (k : ℕ). plan ++ drop k marks) n;
-      count = c ∙ ap (λ (k : ℕ). counted k (ones plan)) o;
+      count = ap countOf e ∙ ap (λ (k : ℕ). countOf (answer k (ones plan))) o;
     }
 
 pub planCallLeavesThePlan : PlanCallLeavesThePlan
 unfolding PlanCallLeavesThePlan PlanIsLeast
-planCallLeavesThePlan p seeds marks marks′ r c =
-    leaves p (planOf p seeds) marks marks′ r (planVerdict p seeds (length marks)) (planIsLeast p seeds .holds .marks) (c .number) (c .count) (c .written)
+planCallLeavesThePlan t seeds marks marks′ r c =
+    leaves (t .project) (planOf (t .project) seeds) marks marks′ r (planVerdict t seeds (length marks)) (planIsLeast (t .project) seeds .holds .marks) (c .answered) (c .written)
 
 pub wholeCallLeavesThePlan : WholeCallLeavesThePlan
 unfolding WholeCallLeavesThePlan WholePlanIsLeast
-wholeCallLeavesThePlan p marks marks′ r c =
-    leaves p (wholePlan p) marks marks′ r (wholeVerdict p (length marks)) (wholePlanIsLeast p .holds .marks) (c .number) (c .count) (c .written)
+wholeCallLeavesThePlan t marks marks′ r c =
+    leaves (t .project) (wholePlan (t .project)) marks marks′ r (wholeVerdict t (length marks)) (wholePlanIsLeast (t .project) .holds .marks) (c .answered) (c .written)

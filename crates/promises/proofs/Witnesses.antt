@@ -10,7 +10,8 @@ use Rattle.lists.specs.Words.{every, elem, has}
 use Rattle.lists.proofs.Laws.{every-mem, elem-mem}
 use Rattle.chunk_cycles.specs.Paths.{Edge, MoreImports}
 use Rattle.eligibility.specs.Eligible.{eligible}
-use Rattle.at_risk.specs.Entry.{expectedSensitiveOf, actualSensitiveOf}
+use Rattle.wrap_rules.specs.Plan.{expectedSensitiveOf}
+use Rattle.at_risk.specs.Entry.{actualSensitiveOf}
 use Rattle.eligibility.proofs.Eligible.{eligible-in}
 use Rattle.order_analysis.specs.Whole.{seedsOf}
 use Rattle.promises.specs.Listing.{listing}
@@ -39,7 +40,7 @@ unfolding computing
 leastWholePlanWitness = record { closed = all-closed (seedsOf listing); plan = refl }
 
 -- the members of a list are among another's
-every-elem : (xs ys : List ℕ) → every (λ (x : ℕ). elem x ys) xs ≡ true → (m : ℕ) → elem m xs ≡ true → elem m ys ≡ true
+pub every-elem : (xs ys : List ℕ) → every (λ (x : ℕ). elem x ys) xs ≡ true → (m : ℕ) → elem m xs ≡ true → elem m ys ≡ true
 every-elem xs ys e m h = every-mem (λ (x : ℕ). elem x ys) xs e (elem-mem m xs h)
 
 pub moreSeedsWitness : MoreSeedsWitness
@@ -76,4 +77,4 @@ sameOrderWitness = record {
 
 pub callWitness : CallWitness
 unfolding computing
-callWitness = record { planned = record { number = refl; count = refl; written = refl }; analysed = record { number = refl; count = refl; written = refl } }
+callWitness = record { planned = record { answered = refl; written = refl }; analysed = record { answered = refl; written = refl } }

@@ -5,13 +5,17 @@ use Prim.Native.Nat.{ℕ}
 use lib.ListN.{length}
 use Rattle.lists.specs.Words.{ones, bit}
 use Rattle.tables.specs.Project.{Project}
+use Rattle.tables.specs.Refusal.{refusal}
 use Rattle.tables.specs.Answers.{counted, after}
-use Rattle.sort_modules.specs.OfProject.{numbersOf, sortedOf, sortVerdict}
-use Rattle.expected_order.specs.OfProject.{expectedOf, expectedVerdict}
+use Rattle.table.specs.Table.{Lent}
+use Rattle.sort_modules.specs.OfProject.{numbersOf, sortedOf}
+use Rattle.sort_modules.specs.Promise.{sortVerdict}
+use Rattle.expected_order.specs.OfProject.{expectedOf}
+use Rattle.expected_order.specs.Promise.{expectedVerdict}
 use Rattle.actual_order.specs.Actual.{actualOf, hostsOf}
 use Rattle.actual_order.specs.Promise.{actualVerdict}
 use Rattle.chunk_cycles.specs.Cycles.{labelsOf, cyclicOf, reachesCycleOf}
-use Rattle.chunk_cycles.specs.Operations.{labelsNumber, reachNumber}
+use Rattle.chunk_cycles.specs.Promise.{labelsVerdict, reachVerdict}
 use Rattle.at_risk.specs.Entry.{riskOfEntry, riskVerdict}
 use Rattle.wrap_plan.specs.Planned.{planOf, planVerdict}
 use Rattle.order_analysis.specs.Whole.{wholePlan, wholeVerdict}
@@ -37,15 +41,23 @@ pub record Outcome : Type 0 where
 abbrev pub outcome : ℕ → ℕ → List (List ℕ × List ℕ) → Outcome
 outcome v count slices = record { number = v; count = counted v count; slices = map (λ (s : List ℕ × List ℕ). after v (s .0) (s .1)) slices }
 
-abbrev pub outcomeOf : Project → Call → Outcome
-outcomeOf p (sort numbers sorted) =
-    outcome (sortVerdict p (length numbers) (length sorted)) (length (sortedOf p)) ((numbers, numbersOf p) ∷ (sorted, sortedOf p) ∷ [])
-outcomeOf p (expectedOrder root order) = outcome (expectedVerdict p root (length order)) (length (expectedOf p root)) ((order, expectedOf p root) ∷ [])
-outcomeOf p (actualOrder root order hosts) =
-    outcome (actualVerdict p root (length order) (length hosts)) (length (actualOf p root)) ((order, actualOf p root) ∷ (hosts, hostsOf p root) ∷ [])
-outcomeOf p (chunkLabels labels) =
-    outcome (labelsNumber p labels) (length (cyclicOf p)) ((labels, labelsOf p) ∷ [])
-outcomeOf p (chunkReach chunk) = outcome (reachNumber p chunk) (bit (reachesCycleOf p chunk)) []
-outcomeOf p (riskOfAnEntry root marks) = outcome (riskVerdict p root (length marks)) (ones (riskOfEntry p root)) ((marks, riskOfEntry p root) ∷ [])
-outcomeOf p (planFromSeeds seeds marks) = outcome (planVerdict p seeds (length marks)) (ones (planOf p seeds)) ((marks, planOf p seeds) ∷ [])
-outcomeOf p (wholeAnalysis marks) = outcome (wholeVerdict p (length marks)) (ones (wholePlan p)) ((marks, wholePlan p) ∷ [])
+abbrev pub outcomeOf : Lent → Call → Outcome
+outcomeOf t (sort numbers sorted) =
+    outcome (sortVerdict t (length numbers) (length sorted)) (length (sortedOf (t .project)))
+    ((numbers, numbersOf (t .project)) ∷ (sorted, sortedOf (t .project)) ∷ [])
+outcomeOf t (expectedOrder root order) =
+    outcome (expectedVerdict t root (length order)) (length (expectedOf (t .project) root)) ((order, expectedOf (t .project) root) ∷ [])
+outcomeOf t (actualOrder root order hosts) =
+    outcome (actualVerdict t root (length order) (length hosts)) (length (actualOf (t .project) root))
+    ((order, actualOf (t .project) root) ∷ (hosts, hostsOf (t .project) root) ∷ [])
+outcomeOf t (chunkLabels labels) = outcome (labelsVerdict t (length labels)) (length (cyclicOf (t .project))) ((labels, labelsOf (t .project)) ∷ [])
+outcomeOf t (chunkReach chunk) = outcome (reachVerdict t chunk) (bit (reachesCycleOf (t .project) chunk)) []
+outcomeOf t (riskOfAnEntry root marks) =
+    outcome (riskVerdict t root (length marks)) (ones (riskOfEntry (t .project) root)) ((marks, riskOfEntry (t .project) root) ∷ [])
+outcomeOf t (planFromSeeds seeds marks) =
+    outcome (planVerdict t seeds (length marks)) (ones (planOf (t .project) seeds)) ((marks, planOf (t .project) seeds) ∷ [])
+outcomeOf t (wholeAnalysis marks) = outcome (wholeVerdict t (length marks)) (ones (wholePlan (t .project))) ((marks, wholePlan (t .project)) ∷ [])
+
+-- a project as a table that fits lends it: its number is that of the tests 1 to 4
+abbrev pub lentBy : Project → Lent
+lentBy p = record { number = refusal p; project = p }

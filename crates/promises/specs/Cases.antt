@@ -6,7 +6,7 @@ use Prim.Native.Nat.{ℕ}
 use Rattle.tables.specs.Project.{Project, missing}
 use Rattle.promises.specs.Changes.{withImports, withNormal}
 use Rattle.promises.specs.Listing.{listing}
-use Rattle.promises.specs.Calls.{Call, sort, expectedOrder, actualOrder, chunkLabels, riskOfAnEntry, planFromSeeds, wholeAnalysis, Outcome, outcomeOf}
+use Rattle.promises.specs.Calls.{Call, sort, expectedOrder, actualOrder, chunkLabels, riskOfAnEntry, planFromSeeds, wholeAnalysis, Outcome, outcomeOf, lentBy}
 
 pub record Case : Type 0 where
   pub on : Project
@@ -23,7 +23,7 @@ refuses p call number slices = record { on = p; call = call; gives = record { nu
 
 -- every case gives what it says
 unfoldable pub AllHold : List Case → Type 0
-AllHold cases = map (λ (c : Case). outcomeOf (c .on) (c .call)) cases ≡ map (λ (c : Case). c .gives) cases
+AllHold cases = map (λ (c : Case). outcomeOf (lentBy (c .on)) (c .call)) cases ≡ map (λ (c : Case). c .gives) cases
 
 -- "with edge 1 to 0 added", "with edge 0 to 0 added", "module 3 external"
 abbrev pub edge10 : Project

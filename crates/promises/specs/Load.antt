@@ -13,8 +13,7 @@ use Rattle.tables.specs.Refusal.{refusal}
 use Rattle.actual_order.specs.Actual.{executes, runOf}
 use Rattle.sensitivity.specs.Marks.{sensitive}
 use Rattle.eligibility.specs.Eligible.{eligible}
-use Rattle.at_risk.specs.Entry.{expectedSensitiveOf}
-use Rattle.wrap_rules.specs.Plan.{reached}
+use Rattle.wrap_rules.specs.Plan.{expectedSensitiveOf, reached}
 use Rattle.order_analysis.specs.Whole.{wholePlan}
 
 -- if a, then b

@@ -11,8 +11,7 @@ use Rattle.tables.specs.Refusal.{refusal}
 use Rattle.actual_order.specs.Actual.{runOf}
 use Rattle.sensitivity.specs.Marks.{sensitive}
 use Rattle.eligibility.specs.Eligible.{eligible}
-use Rattle.at_risk.specs.Entry.{expectedSensitiveOf}
-use Rattle.wrap_rules.specs.Plan.{importRule}
+use Rattle.wrap_rules.specs.Plan.{expectedSensitiveOf, importRule}
 use Rattle.order_analysis.specs.Whole.{seedsOf, wholePlan}
 use Rattle.promises.specs.Changes.{withMembers, withSensitive, withExports, withRecords, withDependencies}
 use Rattle.promises.specs.Listing.{listing}

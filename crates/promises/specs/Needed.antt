@@ -10,9 +10,9 @@ use Rattle.tables.specs.Readings.{modules, isAnalysed}
 use Rattle.tables.specs.Refusal.{refusal}
 use Rattle.chunk_cycles.specs.Cycles.{labelsOf}
 use Rattle.eligibility.specs.Eligible.{eligible}
-use Rattle.at_risk.specs.Entry.{expectedSensitiveOf, actualSensitiveOf}
-use Rattle.wrap_rules.specs.Plan.{Rule, suffixRule, componentRule, importRule, readRule, asks}
-use Rattle.wrap_plan.specs.Planned.{ordersOf, planOf}
+use Rattle.wrap_rules.specs.Plan.{expectedSensitiveOf, Rule, suffixRule, componentRule, importRule, readRule, asks, ordersOf}
+use Rattle.at_risk.specs.Entry.{actualSensitiveOf}
+use Rattle.wrap_plan.specs.Planned.{planOf}
 use Rattle.order_analysis.specs.Whole.{wholePlan}
 use Rattle.promises.specs.Changes.{withImports, withMembers, withEntryChunks, withSensitive, withExports, withDependencies, withReferences}
 use Rattle.promises.specs.Listing.{listing}
@@ -47,11 +47,11 @@ isNeeded c =
     && not (every (λ (m : ℕ). implies (has (planOf (c .on) (c .seeds)) m) (has (c .marks) m)) (upTo (modules (c .on))))))
 
 -- module 1 insensitive: only its dependency and import bring it in
-abbrev insensitive1 : Project
+abbrev pub insensitive1 : Project
 insensitive1 = withSensitive listing (0 ∷ 0 ∷ 1 ∷ 1 ∷ [])
 
 -- module 1 insensitive and without dependencies, and a statement of it, which isn't included, refers to a symbol of module 2
-abbrev reads1 : Project
+abbrev pub reads1 : Project
 reads1 =
     withReferences (withDependencies insensitive1 [] []) (0 ∷ 1 ∷ 0 ∷ 0 ∷ []) (1 ∷ []) (0 ∷ []) (2 ∷ []) (0 ∷ []) (0 ∷ []) (0 ∷ []) (0 ∷ [])
 

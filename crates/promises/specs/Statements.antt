@@ -12,12 +12,13 @@ use Rattle.tables.specs.Readings.{modules, isAnalysed}
 use Rattle.tables.specs.Refusal.{refusal}
 use Rattle.tables.specs.Answers.{numberOf, countOf}
 use Rattle.tables.specs.declared.Answer.{Answer}
+use Rattle.table.specs.Table.{Lent}
 use Rattle.chunk_cycles.specs.Cycles.{labelsOf}
 use Rattle.chunk_cycles.specs.Paths.{MoreImports}
 use Rattle.eligibility.specs.Eligible.{eligible}
-use Rattle.at_risk.specs.Entry.{expectedSensitiveOf, actualSensitiveOf}
-use Rattle.wrap_rules.specs.Plan.{Rule, asks}
-use Rattle.wrap_plan.specs.Planned.{ordersOf, planOf, PlanFromSeeds}
+use Rattle.wrap_rules.specs.Plan.{expectedSensitiveOf, Rule, asks, ordersOf}
+use Rattle.at_risk.specs.Entry.{actualSensitiveOf}
+use Rattle.wrap_plan.specs.Planned.{planOf, PlanFromSeeds}
 use Rattle.order_analysis.specs.Whole.{seedsOf, wholePlan, WholeAnalysis}
 use Rattle.promises.specs.Changes.{withSeed, withImports}
 
@@ -87,9 +88,10 @@ pub record LeavesPlan (p : Project) (plan marks : List ℕ) (r : Answer) (marks�
 
 unfoldable pub PlanCallLeavesThePlan : Type 0
 PlanCallLeavesThePlan =
-    (p : Project) (seeds marks marks′ : List ℕ) (r : Answer) → PlanFromSeeds p seeds marks r marks′ → numberOf r ≡ 0
-    → LeavesPlan p (planOf p seeds) marks r marks′
+    (t : Lent) (seeds marks marks′ : List ℕ) (r : Answer) → PlanFromSeeds t seeds marks r marks′ → numberOf r ≡ 0
+    → LeavesPlan (t .project) (planOf (t .project) seeds) marks r marks′
 
 unfoldable pub WholeCallLeavesThePlan : Type 0
 WholeCallLeavesThePlan =
-    (p : Project) (marks marks′ : List ℕ) (r : Answer) → WholeAnalysis p marks r marks′ → numberOf r ≡ 0 → LeavesPlan p (wholePlan p) marks r marks′
+    (t : Lent) (marks marks′ : List ℕ) (r : Answer) → WholeAnalysis t marks r marks′ → numberOf r ≡ 0
+    → LeavesPlan (t .project) (wholePlan (t .project)) marks r marks′

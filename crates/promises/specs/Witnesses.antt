@@ -10,9 +10,11 @@ use Rattle.tables.specs.Refusal.{refusal}
 use Rattle.tables.specs.declared.Answer.the-variants.{Counted}
 use Rattle.chunk_cycles.specs.Paths.{MoreImports}
 use Rattle.eligibility.specs.Eligible.{eligible}
-use Rattle.at_risk.specs.Entry.{expectedSensitiveOf, actualSensitiveOf}
+use Rattle.wrap_rules.specs.Plan.{expectedSensitiveOf}
+use Rattle.at_risk.specs.Entry.{actualSensitiveOf}
 use Rattle.wrap_plan.specs.Planned.{planOf, PlanFromSeeds}
 use Rattle.order_analysis.specs.Whole.{seedsOf, wholePlan, WholeAnalysis}
+use Rattle.promises.specs.Calls.{lentBy}
 use Rattle.promises.specs.Changes.{withSeed}
 use Rattle.promises.specs.Listing.{listing}
 use Rattle.promises.specs.Cases.{lent, edge10}
@@ -57,5 +59,5 @@ pub record SameOrderWitness : Type 0 where
 
 -- an accepted call of each operation, with a plan and one place past it
 pub record CallWitness : Type 0 where
-  pub planned : PlanFromSeeds listing (2 ∷ []) lent (Counted 3) (0 ∷ 1 ∷ 1 ∷ 1 ∷ 5 ∷ [])
-  pub analysed : WholeAnalysis listing lent (Counted 2) (0 ∷ 1 ∷ 0 ∷ 1 ∷ 5 ∷ [])
+  pub planned : PlanFromSeeds (lentBy listing) (2 ∷ []) lent (Counted 3) (0 ∷ 1 ∷ 1 ∷ 1 ∷ 5 ∷ [])
+  pub analysed : WholeAnalysis (lentBy listing) lent (Counted 2) (0 ∷ 1 ∷ 0 ∷ 1 ∷ 5 ∷ [])

@@ -2,7 +2,7 @@
 --     zeros-are, zeros-typed   the array `[0; n]` and its machine value
 --     arrVal, arr-typed        the machine value of a list of numbers, and its type
 --     opened           an array in memory is its elements side by side.        closed   and back, at its list's machine value
---     stored           one row more of a column stands in its table
+--     stored           one row more of a column stands in its array
 -- Assumes `Given`.
 use mathlib.Core.Path.{_≡_, refl, ap, subst, _∙_}
 use mathlib.Core.List.{List, [], _∷_, map, _++_}
@@ -34,7 +34,7 @@ use denote.Steps.{owned, peeks}
 use denote.Triple.Walked.{says}
 use Rattle.lists.proofs.Laws.{front-more, take-more}
 use Rattle.tables.specs.Refusal.{rowLimit}
-use Rattle.record_columns.specs.Rows.{table}
+use Rattle.record_columns.specs.Rows.{padded}
 
 abbrev pub arrVal : List ℕ → Val
 arrVal xs = arrayVal (map (λ (x : ℕ). vint w32 x) xs)
@@ -70,11 +70,11 @@ module _ {M : Type 1} (𝓤 : URA M) (H : Heap 𝓤) (A : Atoms 𝓤) (W : Given
       use1 W (‵ (fat fullShare (tyArray (tyInt w32) n) b 0 (arrVal xs))) (W .laws .raw-at fullShare (tyArray (tyInt w32) n) b 0 (arrVal xs)) $
       says ! (subst (Is (Array u32 n) xs) (array-tells u32 (uint-vals w32) (uint-tells w32) n xs vs p) p) $ done !))
 
-pub stored : {X : Type 0} (f : X → ℕ) (ys : List X) (i : ℕ) (d : X) → i < length ys → i < rowLimit → set (table i (map f ys)) i (f (getD ys i d)) ≡ table (i + 1) (map f ys)
+pub stored : {X : Type 0} (f : X → ℕ) (ys : List X) (i : ℕ) (d : X) → i < length ys → i < rowLimit → set (padded i (map f ys)) i (f (getD ys i d)) ≡ padded (i + 1) (map f ys)
 stored f ys i d l k =
     let n : length (map f ys) ≡ length ys = length-map ys f in
     let z : length {A = ℕ} (replicate rowLimit 0) ≡ rowLimit = length-replicate {A = ℕ} rowLimit 0 in
-    ap (λ (v : ℕ). set (table i (map f ys)) i v) (at f ys i d l)
+    ap (λ (v : ℕ). set (padded i (map f ys)) i v) (at f ys i d l)
     ∙ front-more (take i (map f ys)) (replicate rowLimit 0) i (getD (map f ys) i 0) (length-take-le i (map f ys) (omega (arith, n))) (omega (arith, z))
     ∙ ap (λ (t : List ℕ). t ++ drop (i + 1) (replicate rowLimit 0)) (take-more (map f ys) i (omega (arith, n)))
   where

@@ -17,9 +17,11 @@ use Rattle.tables.specs.Project.{Project}
 use Rattle.tables.specs.Refusal.{rowLimit, sizesFit, refusal}
 use Rattle.tables.proofs.Accepted.{sizes-fit}
 use Rattle.tables.proofs.Number.{number-1}
+use Rattle.table.specs.Table.{table, read, withRecords, boundsFit, lentWith}
+use Rattle.table.proofs.Laws.{number-unfit, number-fit}
 use Rattle.record_columns.specs.declared.Record.{Record}
 use Rattle.record_columns.specs.declared.core.Columns.{Columns}
-use Rattle.record_columns.specs.Rows.{importersOf, kindsOf, targetsOf, copied, table, columnsOf}
+use Rattle.record_columns.specs.Rows.{importerColumn, kindColumn, targetColumn, copied, padded, columnsOf}
 use Rattle.record_columns.proofs.core.Columns as Cols
 
 pub copied-all : (n : ℕ) → n ≤ rowLimit → copied n ≡ n
@@ -36,34 +38,39 @@ copied-le n = ⊎-elim (λ t. omega (arith, copied-all n (leb-true n rowLimit t)
 pub copied-limit : (n : ℕ) → copied n ≤ rowLimit
 copied-limit n = ⊎-elim (λ t. omega (arith, copied-all n (leb-true n rowLimit t), leb-true n rowLimit t)) (λ f. omega (arith, copied-none n (leb-false n rowLimit f))) (both (leb n rowLimit))
 
-pub table-long : (i : ℕ) (column : List ℕ) → i ≤ length column → i ≤ rowLimit → length (table i column) ≡ rowLimit
-table-long i column l k =
+pub padded-long : (i : ℕ) (column : List ℕ) → i ≤ length column → i ≤ rowLimit → length (padded i column) ≡ rowLimit
+padded-long i column l k =
     length-append (take i column) (drop i (replicate rowLimit 0))
     ∙ omega (arith, length-take-le i column l, length-drop {A = ℕ} i (replicate rowLimit 0), length-replicate {A = ℕ} rowLimit 0)
 
 -- a column that is copied whole
-whole : (f : Record → ℕ) (records : List Record) → length records ≤ rowLimit → take (length records) (table (copied (length records)) (map f records)) ≡ map f records
+whole : (f : Record → ℕ) (records : List Record) → length records ≤ rowLimit → take (length records) (padded (copied (length records)) (map f records)) ≡ map f records
 whole f records h =
     let n : ℕ = length records in
     let l : length (map f records) ≡ n = length-map records f in
-    ap (λ (m : ℕ). take n (table m (map f records))) (copied-all n h)
+    ap (λ (m : ℕ). take n (padded m (map f records))) (copied-all n h)
     ∙ take-at (take n (map f records)) (drop n (replicate rowLimit 0)) n (length-take-le n (map f records) (omega (arith, l)))
     ∙ take-all n (map f records) (omega (arith, l))
 
 -- what holds of the first rows of the columns holds of the records' columns
 pub as-columns : (P : List ℕ → List ℕ → List ℕ → Type 0) (c : Columns) (records : List Record) → c ≡ columnsOf records → c .rows ≤ rowLimit
-    → P (take (c .rows) (c .importers)) (take (c .rows) (c .kinds)) (take (c .rows) (c .targets)) → P (importersOf records) (kindsOf records) (targetsOf records)
-as-columns P c records is = subst (λ (d : Columns). d .rows ≤ rowLimit → P (take (d .rows) (d .importers)) (take (d .rows) (d .kinds)) (take (d .rows) (d .targets)) → P (importersOf records) (kindsOf records) (targetsOf records)) (sym is)
-    (λ h p. subst (λ (t : List ℕ). P (importersOf records) (kindsOf records) t) (whole (λ (r : Record). r .target) records h)
-    (subst (λ (k : List ℕ). P (importersOf records) k (take (length records) (table (copied (length records)) (targetsOf records)))) (whole (λ (r : Record). r .kind) records h)
-    (subst (λ (i : List ℕ). P i (take (length records) (table (copied (length records)) (kindsOf records))) (take (length records) (table (copied (length records)) (targetsOf records)))) (whole (λ (r : Record). r .importer) records h) p)))
+    → P (take (c .rows) (c .importers)) (take (c .rows) (c .kinds)) (take (c .rows) (c .targets)) → P (importerColumn records) (kindColumn records) (targetColumn records)
+as-columns P c records is = subst (λ (d : Columns). d .rows ≤ rowLimit → P (take (d .rows) (d .importers)) (take (d .rows) (d .kinds)) (take (d .rows) (d .targets)) → P (importerColumn records) (kindColumn records) (targetColumn records)) (sym is)
+    (λ h p. subst (λ (t : List ℕ). P (importerColumn records) (kindColumn records) t) (whole (λ (r : Record). r .target) records h)
+    (subst (λ (k : List ℕ). P (importerColumn records) k (take (length records) (padded (copied (length records)) (targetColumn records)))) (whole (λ (r : Record). r .kind) records h)
+    (subst (λ (i : List ℕ). P i (take (length records) (padded (copied (length records)) (kindColumn records))) (take (length records) (padded (copied (length records)) (targetColumn records)))) (whole (λ (r : Record). r .importer) records h) p)))
 
 -- "a list is over its limit"
 over : (p : Project) → rowLimit < length (p .recordModule) → 1 ≡ refusal p
 over p h = ⊎-elim (λ t. let s = sizes-fit p t in absurd (omega (arith, s .recordModule))) (λ f. number-1 p f) (both (sizesFit p))
 
-pub too-many : (c : Columns) (records : List Record) → c ≡ columnsOf records → rowLimit < c .rows → (p : Project) → p .recordModule ≡ importersOf records → 1 ≡ refusal p
-too-many c records is h p m = over p (omega (arith, h, ap (λ (d : Columns). d .rows) is, ap (λ (l : List ℕ). length l) m, length-map records (λ (r : Record). r .importer)))
+pub too-many : (c : Columns) (records : List Record) → c ≡ columnsOf records → rowLimit < c .rows → (runtime dynamic : ℕ) (bounds columns : List ℕ)
+    → 1 ≡ lentWith runtime dynamic bounds columns (importerColumn records) (kindColumn records) (targetColumn records) .number
+unfolding read
+too-many c records is h runtime dynamic bounds columns =
+    let p : Project = withRecords (table runtime dynamic bounds columns) (importerColumn records) (kindColumn records) (targetColumn records) in
+    let e : 1 ≡ refusal p = over p (omega (arith, h, ap (λ (d : Columns). d .rows) is, length-map records (λ (r : Record). r .importer))) in
+    ⊎-elim (λ f. e ∙ number-fit bounds columns p f) (λ f. number-unfit bounds columns p f) (both (boundsFit bounds columns))
 
 -- the rows lie within the three arrays
 abbrev pub Within : Columns → Type 0

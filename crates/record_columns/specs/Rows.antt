@@ -14,27 +14,27 @@ abbrev pub noRow : Record
 noRow = record { importer = 0; kind = 0; target = 0 }
 
 -- the columns of a list of records, as a project has them
-abbrev pub importersOf : List Record → List ℕ
-importersOf records = map (λ (r : Record). r .importer) records
+abbrev pub importerColumn : List Record → List ℕ
+importerColumn records = map (λ (r : Record). r .importer) records
 
-abbrev pub kindsOf : List Record → List ℕ
-kindsOf records = map (λ (r : Record). r .kind) records
+abbrev pub kindColumn : List Record → List ℕ
+kindColumn records = map (λ (r : Record). r .kind) records
 
-abbrev pub targetsOf : List Record → List ℕ
-targetsOf records = map (λ (r : Record). r .target) records
+abbrev pub targetColumn : List Record → List ℕ
+targetColumn records = map (λ (r : Record). r .target) records
 
 -- how many rows are copied of so many: none of a list over the limit
 unfoldable pub copied : ℕ → ℕ
 copied rows = cond (leb rows rowLimit) rows 0
 
 -- the first n rows of a column, and zeros up to the limit
-abbrev pub table : ℕ → List ℕ → List ℕ
-table n column = take n column ++ drop n (replicate rowLimit 0)
+abbrev pub padded : ℕ → List ℕ → List ℕ
+padded n column = take n column ++ drop n (replicate rowLimit 0)
 
 abbrev pub columnsOf : List Record → Columns
 columnsOf records = record {
   rows = length records;
-  importers = table (copied (length records)) (importersOf records);
-  kinds = table (copied (length records)) (kindsOf records);
-  targets = table (copied (length records)) (targetsOf records);
+  importers = padded (copied (length records)) (importerColumn records);
+  kinds = padded (copied (length records)) (kindColumn records);
+  targets = padded (copied (length records)) (targetColumn records);
 }

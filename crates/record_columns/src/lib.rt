@@ -2,7 +2,7 @@
 ghost use mathlib.Core.Path.{_≡_};
 ghost use Prim.Native.Nat.{_<_};
 ghost use lib.ListN.{length, getD};
-ghost use Rattle.record_columns.specs.Rows.{noRow, copied};
+ghost use Rattle.record_columns.specs.Rows.{noRow};
 
 pub mod core;
 

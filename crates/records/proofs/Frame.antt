@@ -4,9 +4,11 @@
 --     held, kind       what local i holds, and its type.        set     another value in local i.        Fit      values are of the first locals' types
 --     in-local         the cell of local i is a part of the entry.        loads      locals are read as a call's arguments.        lays     a value is laid into local i
 --     lends            a `&mut` slice in local p is lent again, as the code `lending` does.        lent     what the locals hold then
+--     without j        the entry without local j, which is lent itself.        takes-out, puts-in      local j leaves the entry and comes back.        loads-beside     the other locals are read
 -- Assumes `Given`.
 use mathlib.Core.Path.{_≡_, refl, sym, ap, subst}
 use mathlib.Core.Option.{Option, none, some}
+use mathlib.Core.Bool.{Bool, true, false}
 use mathlib.Core.List.{List, [], _∷_, map}
 use Prim.Native.Nat.{ℕ, zero, suc, _<_, _^_}
 use lib.Dec.{T}
@@ -227,3 +229,91 @@ module _ {X : Type 0} (x : RefT (List X)) where
         assigns ! (addr ! (found p at-p (fld ! refl (hop ! (look-in ! 0 (sub ! 0 refl (there ss p at-p h₁))) (stop !))))) (from ! (stop !)) (lays ls bs ss ! 0 t refl at-t (tt, tt)) $
         assigns ! (agg ! (and-then ! (load ! (from ! (stop !)) (look-in ! 0 (in-local ls bs (set t start ss) ! t h₃))) (and-then ! (load ! (found p at-p (fld ! refl (stop !))) (look-in ! 0 (sub ! 1 refl (there (set t start ss) p at-p h₂)))) (no-more !)))) (from ! (stop !))
         (lays ls bs (set t start ss) ! 0 t′ refl at-t′ (tt, (tt, (record { fits = fits }, tt)))) $ s
+
+-- ---- the locals but local j, which is lent
+
+-- local i isn't local j
+abbrev pub apart-from : ℕ → ℕ → Bool
+apart-from zero zero = false
+apart-from zero (suc i) = true
+apart-from (suc j) zero = true
+apart-from (suc j) (suc i) = apart-from j i
+
+abbrev pub without : ℕ → List Local → (ℕ → ℕ) → List (Option Val) → Fml
+without j [] bs ss = ftrue
+without zero (l ∷ ls) bs ss = cells ls (next bs) (others ss)
+without (suc j) (l ∷ ls) bs ss = fsep (fsep (holds (first ss) (ty l) (bs zero)) (fdies (ty l) (bs zero))) (without j ls (next bs) (others ss))
+
+module _ {M : Type 1} (𝓤 : URA M) (H : Heap 𝓤) (A : Atoms 𝓤) (W : Given 𝓤 H A) where
+  -- what is known of local i's place
+  abbrev its-type : List Local → (ℕ → ℕ) → ℕ → Ty
+  its-type ls bs i = spotOf 𝓤 H (env ls bs) i .0
+
+  abbrev its-place : List Local → (ℕ → ℕ) → ℕ → ℕ
+  its-place ls bs i = spotOf 𝓤 H (env ls bs) i .1
+
+  -- local j is taken out, and put back with a value
+  taken : (ls : List Local) (bs : ℕ → ℕ) (ss : List (Option Val)) (j : ℕ) → Inside j ls
+      → ent 𝓤 (sem 𝓤 H A (cells ls bs ss)) (sep 𝓤 (sem 𝓤 H A (fsep (holds (held ls ss j) (its-type ls bs j) (its-place ls bs j)) (fdies (its-type ls bs j) (its-place ls bs j)))) (sem 𝓤 H A (without j ls bs ss)))
+  taken [] bs ss j z = absurd z
+  taken (l ∷ ls) bs ss zero z = qed W (‵ (cells (l ∷ ls) bs ss) ∷ []) ∵ fsplit ! $ done !
+  taken (l ∷ ls) bs ss (suc j) z =
+      qed W (‵ (cells (l ∷ ls) bs ss) ∷ []) ∵ fsplit ! $ move ! (1 ∷ []) $
+      use1 W (‵ (fsep (holds (held ls (others ss) j) (its-type ls (next bs) j) (its-place ls (next bs) j)) (fdies (its-type ls (next bs) j) (its-place ls (next bs) j))) ⊛ ‵ (without j ls (next bs) (others ss))) (taken ls (next bs) (others ss) j z) $ split ! $ frame ! $
+      move ! (1 ∷ 0 ∷ []) $ fjoin ! $ done !
+
+  put-back : (ls : List Local) (bs : ℕ → ℕ) (ss : List (Option Val)) (j : ℕ) (v : Val) → Inside j ls
+      → ent 𝓤 (sep 𝓤 (sem 𝓤 H A (fsep (fat fullShare (its-type ls bs j) (its-place ls bs j) zero v) (fdies (its-type ls bs j) (its-place ls bs j)))) (sem 𝓤 H A (without j ls bs ss))) (sem 𝓤 H A (cells ls bs (set j v ss)))
+  put-back [] bs ss j v z = absurd z
+  put-back (l ∷ ls) bs ss zero v z = qed W (‵ (fsep (fat fullShare (ty l) (bs zero) zero v) (fdies (ty l) (bs zero))) ∷ ‵ (cells ls (next bs) (others ss)) ∷ []) ∵ fjoin ! $ done !
+  put-back (l ∷ ls) bs ss (suc j) v z =
+      qed W (‵ (fsep (fat fullShare (its-type ls (next bs) j) (its-place ls (next bs) j) zero v) (fdies (its-type ls (next bs) j) (its-place ls (next bs) j))) ∷ ‵ (without (suc j) (l ∷ ls) bs ss) ∷ []) ∵ move ! (1 ∷ []) $ fsplit ! $ move ! (2 ∷ 1 ∷ []) $
+      use2 W (‵ (cells ls (next bs) (set j v (others ss)))) (put-back ls (next bs) (others ss) j v z) $ move ! (1 ∷ 0 ∷ []) $ fjoin ! $ done !
+
+  -- by its type
+  pub takes-out : (ls : List Local) (bs : ℕ → ℕ) (ss : List (Option Val)) (j : ℕ) {τ : Ty} {v : Val} → kind ls j ≡ some τ → held ls ss j ≡ some v
+      → ent 𝓤 (sem 𝓤 H A (cells ls bs ss)) (sep 𝓤 (sem 𝓤 H A (fsep (fat fullShare τ (its-place ls bs j) zero v) (fdies τ (its-place ls bs j)))) (sem 𝓤 H A (without j ls bs ss)))
+  takes-out ls bs ss j {τ} {v} k h =
+      subst (λ (σ : Ty). ent 𝓤 (sem 𝓤 H A (cells ls bs ss)) (sep 𝓤 (sem 𝓤 H A (fsep (fat fullShare σ (its-place ls bs j) zero v) (fdies σ (its-place ls bs j)))) (sem 𝓤 H A (without j ls bs ss)))) (stands 𝓤 H A W ls bs j k)
+      (subst (λ (s : Option Val). ent 𝓤 (sem 𝓤 H A (cells ls bs ss)) (sep 𝓤 (sem 𝓤 H A (fsep (holds s (its-type ls bs j) (its-place ls bs j)) (fdies (its-type ls bs j) (its-place ls bs j)))) (sem 𝓤 H A (without j ls bs ss)))) h (taken ls bs ss j (kind-inside ls j k)))
+
+  pub puts-in : (ls : List Local) (bs : ℕ → ℕ) (ss : List (Option Val)) (j : ℕ) (v : Val) {τ : Ty} → kind ls j ≡ some τ
+      → ent 𝓤 (sep 𝓤 (sem 𝓤 H A (fsep (fat fullShare τ (its-place ls bs j) zero v) (fdies τ (its-place ls bs j)))) (sem 𝓤 H A (without j ls bs ss))) (sem 𝓤 H A (cells ls bs (set j v ss)))
+  puts-in ls bs ss j v k =
+      subst (λ (σ : Ty). ent 𝓤 (sep 𝓤 (sem 𝓤 H A (fsep (fat fullShare σ (its-place ls bs j) zero v) (fdies σ (its-place ls bs j)))) (sem 𝓤 H A (without j ls bs ss))) (sem 𝓤 H A (cells ls bs (set j v ss)))) (stands 𝓤 H A W ls bs j k) (put-back ls bs ss j v (kind-inside ls j k))
+
+  abbrev WayBeside : ℕ → List Local → (ℕ → ℕ) → List (Option Val) → ℕ → Val → SProp 𝓤
+  WayBeside j ls bs ss i u = wand 𝓤 (H .at fullShare (its-type ls bs i) (its-place ls bs i) zero u) (sem 𝓤 H A (without j ls bs (set i u ss)))
+
+  apart-beside : (j : ℕ) (ls : List Local) (bs : ℕ → ℕ) (ss : List (Option Val)) (i : ℕ) → T (apart-from j i) → Inside i ls
+      → ent 𝓤 (sem 𝓤 H A (without j ls bs ss)) (sep 𝓤 (sem 𝓤 H A (holds (held ls ss i) (its-type ls bs i) (its-place ls bs i))) (Logic.all 𝓤 (WayBeside j ls bs ss i)))
+  apart-beside j [] bs ss i n z = absurd z
+  apart-beside zero (l ∷ ls) bs ss zero n z = absurd n
+  apart-beside zero (l ∷ ls) bs ss (suc i) n z = apart 𝓤 H A W ls (next bs) (others ss) i z
+  apart-beside (suc j) (l ∷ ls) bs ss zero n z =
+      qed W (‵ (without (suc j) (l ∷ ls) bs ss) ∷ []) ∵ fsplit ! $ fsplit ! $ frame ! $ each ! (WayBeside (suc j) (l ∷ ls) bs ss zero) (λ u. assume ! (‵ (fat fullShare (ty l) (bs zero) zero u)) $ fjoin ! $ fjoin ! $ done !)
+  apart-beside (suc j) (l ∷ ls) bs ss (suc i) n z =
+      qed W (‵ (without (suc j) (l ∷ ls) bs ss) ∷ []) ∵ fsplit ! $ move ! (1 ∷ []) $
+      use1 W (‵ (holds (held ls (others ss) i) (its-type ls (next bs) i) (its-place ls (next bs) i)) ⊛ raw (Logic.all 𝓤 (WayBeside j ls (next bs) (others ss) i))) (apart-beside j ls (next bs) (others ss) i n z) $ split ! $ frame ! $
+      each ! (WayBeside (suc j) (l ∷ ls) bs ss (suc i)) (λ u. assume ! (‵ (fat fullShare (its-type ls (next bs) i) (its-place ls (next bs) i) zero u)) $
+      move ! (1 ∷ []) $ use1 W (raw (WayBeside j ls (next bs) (others ss) i u)) (allE 𝓤 (WayBeside j ls (next bs) (others ss) i) u) $ move ! (1 ∷ 0 ∷ []) $
+      use2 W (‵ (without j ls (next bs) (set i u (others ss)))) (apply∗ 𝓤 (H .at fullShare (its-type ls (next bs) i) (its-place ls (next bs) i) zero u) (sem 𝓤 H A (without j ls (next bs) (set i u (others ss))))) $ move ! (1 ∷ 0 ∷ []) $ fjoin ! $ done !)
+
+-- none of the locals is local j
+abbrev pub all-apart : ℕ → List ℕ → Type 0
+all-apart j [] = Unit {0}
+all-apart j (i ∷ is) = T (apart-from j i) × all-apart j is
+
+module _ {M : Type 1} {𝓤 : URA M} {H : Heap 𝓤} {A : Atoms 𝓤} {K : Type 0} {W : Given 𝓤 H A} (j : ℕ) (ls : List Local) (bs : ℕ → ℕ) (ss : List (Option Val)) where
+  in-local-beside : K → (i : ℕ) {v : Val} → T (apart-from j i) → held ls ss i ≡ some v → Part K W (‵ (without j ls bs ss)) fullShare (spotOf 𝓤 H (env ls bs) i .0) (spotOf 𝓤 H (env ls bs) i .1) zero v (λ u. ‵ (without j ls bs (set i u ss)))
+  in-local-beside t i {v} n e = record {
+    out = subst (λ (s : Option Val). ent 𝓤 (sem 𝓤 H A (without j ls bs ss)) (sep 𝓤 (sem 𝓤 H A (holds s (spotOf 𝓤 H (env ls bs) i .0) (spotOf 𝓤 H (env ls bs) i .1))) (Logic.all 𝓤 (WayBeside 𝓤 H A W j ls bs ss i)))) e (apart-beside 𝓤 H A W j ls bs ss i n (inside ls ss i e));
+    same = ap (λ (os : List (Option Val)). ‵ (without j ls bs os)) (set-held ls ss i e);
+  }
+
+  module _ {Γ : List (Item 𝓤)} where
+    pub loads-beside : K → (n : ℕ) (is : List ℕ) (vs : List Val) → nth 𝓤 H A n Γ ≡ ‵ (without j ls bs ss) → all-apart j is → map (held ls ss) is ≡ map (λ v. some v) vs → Opds K W Γ (env ls bs) (map (λ i. copy (place i [])) is) vs
+    loads-beside t n [] [] e a h = no-more t
+    loads-beside t n [] (v ∷ vs) e a h = absurd (subst None h tt)
+    loads-beside t n (i ∷ is) [] e a h = absurd (subst None (sym h) tt)
+    loads-beside t n (i ∷ is) (v ∷ vs) e a h = and-then t (load t (from t (stop t)) (look-in t n (subst (λ (k : Item 𝓤). Part K W k fullShare (spotOf 𝓤 H (env ls bs) i .0) (spotOf 𝓤 H (env ls bs) i .1) zero v (λ u. ‵ (without j ls bs (set i u ss)))) (sym e) (in-local-beside t i (a .0) (ap first h))))) (loads-beside t n is vs e (a .1) (ap others h))

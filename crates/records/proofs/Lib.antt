@@ -1,3 +1,4 @@
--- What the walks by hand of the three operations have in common.
+-- `Frame`: the locals of a function. `Forms`: the walk of a record form. `Shapes`: the own parameters that forms have.
 pub mod Frame
-pub mod Wide
+pub mod Forms
+pub mod Shapes

@@ -1,255 +1,157 @@
-// Sort, expected order and whole analysis with the import records lent as a slice of records.
-ghost use Rattle.tables.specs.Project.{project};
-ghost use Rattle.sort_modules.specs.OfProject.{SortModules};
-ghost use Rattle.expected_order.specs.OfProject.{ExpectedOrder};
+// The operations with the import records lent as a slice of records, in the place of the table's own, which aren't read.
+ghost use Rattle.table.specs.Table.{lentWith};
+ghost use Rattle.sort_modules.specs.Promise.{SortModules};
+ghost use Rattle.expected_order.specs.Promise.{ExpectedOrder};
+ghost use Rattle.actual_order.specs.Promise.{ActualOrder};
+ghost use Rattle.chunk_cycles.specs.Promise.{LabelsPromise, ReachPromise};
+ghost use Rattle.at_risk.specs.Entry.{EntryRisk};
+ghost use Rattle.wrap_plan.specs.Planned.{PlanFromSeeds};
 ghost use Rattle.order_analysis.specs.Whole.{WholeAnalysis};
-ghost use Rattle.record_columns.specs.Rows.{importersOf, kindsOf, targetsOf};
+ghost use Rattle.record_columns.specs.Rows.{importerColumn, kindColumn, targetColumn};
 
+mod actual;
 mod analyze;
 mod expected;
+mod label;
+mod plan;
+mod reach;
+mod risk;
 mod sort;
 
+use actual::actual_columns;
 use analyze::analyze_columns;
 use expected::expected_columns;
+use label::label_columns;
+use plan::plan_columns;
+use reach::reach_columns;
 use record_columns::Record;
 use record_columns::core::columns_of;
+use risk::risk_columns;
 use sort::sort_columns;
 use tables::Answer;
 
-// Module numbers and sorted list, with a list of records in the place of their three columns.
+// Module numbers and sorted list.
 pub fn sort_records<'a>(
     runtime: u32,
     dynamic: u32,
-    normal: &'a [u32],
-    included: &'a [u32],
-    sensitive: &'a [u32],
-    reads: &'a [u32],
-    exports: &'a [u32],
-    wrap: &'a [u32],
-    chunk: &'a [u32],
+    bounds: &'a [u32],
+    columns: &'a [u32],
     records: &'a [Record],
-    dependency_module: &'a [u32],
-    dependency: &'a [u32],
-    statement_module: &'a [u32],
-    statement_included: &'a [u32],
-    use_statement: &'a [u32],
-    use_record: &'a [u32],
-    owner: &'a [u32],
-    canonical: &'a [u32],
-    chain_symbol: &'a [u32],
-    chain_link: &'a [u32],
-    reference_statement: &'a [u32],
-    reference_form: &'a [u32],
-    reference_symbol: &'a [u32],
-    depended_reference: &'a [u32],
-    depended: &'a [u32],
-    order: &'a [u32],
-    member_chunk: &'a [u32],
-    member: &'a [u32],
-    import_chunk: &'a [u32],
-    imports: &'a [u32],
-    entry: &'a [u32],
-    entry_chunk: &'a [u32],
-    seed: &'a [u32],
     numbers: &mut [u32],
     sorted: &mut [u32],
 ) -> Answer
-    ensures { λ r. ⌜ SortModules (project runtime dynamic (now (normal .entry)) (now (included .entry)) (now (sensitive .entry)) (now (reads .entry)) (now (exports .entry)) (now (wrap .entry)) (now (chunk .entry)) (importersOf (now (records .entry))) (kindsOf (now (records .entry))) (targetsOf (now (records .entry))) (now («dependency_module» .entry)) (now (dependency .entry)) (now («statement_module» .entry)) (now («statement_included» .entry)) (now («use_statement» .entry)) (now («use_record» .entry)) (now (owner .entry)) (now (canonical .entry)) (now («chain_symbol» .entry)) (now («chain_link» .entry)) (now («reference_statement» .entry)) (now («reference_form» .entry)) (now («reference_symbol» .entry)) (now («depended_reference» .entry)) (now (depended .entry)) (now (order .entry)) (now («member_chunk» .entry)) (now (member .entry)) (now («import_chunk» .entry)) (now (imports .entry)) (now (entry .entry)) (now («entry_chunk» .entry)) (now (seed .entry))) (now (numbers .entry)) (now (sorted .entry)) r (now (numbers .exit)) (now (sorted .exit)) ⌝ }
+    ensures { λ r. ⌜ SortModules (lentWith runtime dynamic (now (bounds .entry)) (now (columns .entry)) (importerColumn (now (records .entry))) (kindColumn (now (records .entry))) (targetColumn (now (records .entry)))) (now (numbers .entry)) (now (sorted .entry)) r (now (numbers .exit)) (now (sorted .exit)) ⌝ }
 {
-    let columns = columns_of(records);
-    sort_columns(
-        runtime,
-        dynamic,
-        normal,
-        included,
-        sensitive,
-        reads,
-        exports,
-        wrap,
-        chunk,
-        columns,
-        dependency_module,
-        dependency,
-        statement_module,
-        statement_included,
-        use_statement,
-        use_record,
-        owner,
-        canonical,
-        chain_symbol,
-        chain_link,
-        reference_statement,
-        reference_form,
-        reference_symbol,
-        depended_reference,
-        depended,
-        order,
-        member_chunk,
-        member,
-        import_chunk,
-        imports,
-        entry,
-        entry_chunk,
-        seed,
-        numbers,
-        sorted,
-    )
+    let made = columns_of(records);
+    sort_columns(runtime, dynamic, bounds, columns, made, numbers, sorted)
 }
 
-// Expected order of an entry, with a list of records in the place of their three columns.
+// Expected order of an entry.
 pub fn expected_records<'a>(
     runtime: u32,
     dynamic: u32,
-    normal: &'a [u32],
-    included: &'a [u32],
-    sensitive: &'a [u32],
-    reads: &'a [u32],
-    exports: &'a [u32],
-    wrap: &'a [u32],
-    chunk: &'a [u32],
+    bounds: &'a [u32],
+    columns: &'a [u32],
     records: &'a [Record],
-    dependency_module: &'a [u32],
-    dependency: &'a [u32],
-    statement_module: &'a [u32],
-    statement_included: &'a [u32],
-    use_statement: &'a [u32],
-    use_record: &'a [u32],
-    owner: &'a [u32],
-    canonical: &'a [u32],
-    chain_symbol: &'a [u32],
-    chain_link: &'a [u32],
-    reference_statement: &'a [u32],
-    reference_form: &'a [u32],
-    reference_symbol: &'a [u32],
-    depended_reference: &'a [u32],
-    depended: &'a [u32],
-    order: &'a [u32],
-    member_chunk: &'a [u32],
-    member: &'a [u32],
-    import_chunk: &'a [u32],
-    imports: &'a [u32],
-    entry: &'a [u32],
-    entry_chunk: &'a [u32],
-    seed: &'a [u32],
     root: u32,
     expected: &mut [u32],
 ) -> Answer
-    ensures { λ r. ⌜ ExpectedOrder (project runtime dynamic (now (normal .entry)) (now (included .entry)) (now (sensitive .entry)) (now (reads .entry)) (now (exports .entry)) (now (wrap .entry)) (now (chunk .entry)) (importersOf (now (records .entry))) (kindsOf (now (records .entry))) (targetsOf (now (records .entry))) (now («dependency_module» .entry)) (now (dependency .entry)) (now («statement_module» .entry)) (now («statement_included» .entry)) (now («use_statement» .entry)) (now («use_record» .entry)) (now (owner .entry)) (now (canonical .entry)) (now («chain_symbol» .entry)) (now («chain_link» .entry)) (now («reference_statement» .entry)) (now («reference_form» .entry)) (now («reference_symbol» .entry)) (now («depended_reference» .entry)) (now (depended .entry)) (now (order .entry)) (now («member_chunk» .entry)) (now (member .entry)) (now («import_chunk» .entry)) (now (imports .entry)) (now (entry .entry)) (now («entry_chunk» .entry)) (now (seed .entry))) root (now (expected .entry)) r (now (expected .exit)) ⌝ }
+    ensures { λ r. ⌜ ExpectedOrder (lentWith runtime dynamic (now (bounds .entry)) (now (columns .entry)) (importerColumn (now (records .entry))) (kindColumn (now (records .entry))) (targetColumn (now (records .entry)))) root (now (expected .entry)) r (now (expected .exit)) ⌝ }
 {
-    let columns = columns_of(records);
-    expected_columns(
-        runtime,
-        dynamic,
-        normal,
-        included,
-        sensitive,
-        reads,
-        exports,
-        wrap,
-        chunk,
-        columns,
-        dependency_module,
-        dependency,
-        statement_module,
-        statement_included,
-        use_statement,
-        use_record,
-        owner,
-        canonical,
-        chain_symbol,
-        chain_link,
-        reference_statement,
-        reference_form,
-        reference_symbol,
-        depended_reference,
-        depended,
-        order,
-        member_chunk,
-        member,
-        import_chunk,
-        imports,
-        entry,
-        entry_chunk,
-        seed,
-        root,
-        expected,
-    )
+    let made = columns_of(records);
+    expected_columns(runtime, dynamic, bounds, columns, made, root, expected)
 }
 
-// Whole analysis, with a list of records in the place of their three columns.
+// Actual order and hosts of an entry.
+pub fn actual_records<'a>(
+    runtime: u32,
+    dynamic: u32,
+    bounds: &'a [u32],
+    columns: &'a [u32],
+    records: &'a [Record],
+    root: u32,
+    order: &mut [u32],
+    hosts: &mut [u32],
+) -> Answer
+    ensures { λ r. ⌜ ActualOrder (lentWith runtime dynamic (now (bounds .entry)) (now (columns .entry)) (importerColumn (now (records .entry))) (kindColumn (now (records .entry))) (targetColumn (now (records .entry)))) root (now (order .entry)) (now (hosts .entry)) r (now (order .exit)) (now (hosts .exit)) ⌝ }
+{
+    let made = columns_of(records);
+    actual_columns(runtime, dynamic, bounds, columns, made, root, order, hosts)
+}
+
+// Labels of the chunks.
+pub fn label_records<'a>(
+    runtime: u32,
+    dynamic: u32,
+    bounds: &'a [u32],
+    columns: &'a [u32],
+    records: &'a [Record],
+    labels: &mut [u32],
+) -> Answer
+    ensures { λ r. ⌜ LabelsPromise (lentWith runtime dynamic (now (bounds .entry)) (now (columns .entry)) (importerColumn (now (records .entry))) (kindColumn (now (records .entry))) (targetColumn (now (records .entry)))) (now (labels .entry)) r (now (labels .exit)) ⌝ }
+{
+    let made = columns_of(records);
+    label_columns(runtime, dynamic, bounds, columns, made, labels)
+}
+
+// Whether a chunk reaches a cyclic one.
+pub fn reach_records<'a>(
+    runtime: u32,
+    dynamic: u32,
+    bounds: &'a [u32],
+    columns: &'a [u32],
+    records: &'a [Record],
+    chunk: u32,
+) -> Answer
+    ensures { λ r. ⌜ ReachPromise (lentWith runtime dynamic (now (bounds .entry)) (now (columns .entry)) (importerColumn (now (records .entry))) (kindColumn (now (records .entry))) (targetColumn (now (records .entry)))) chunk r ⌝ }
+{
+    let made = columns_of(records);
+    reach_columns(runtime, dynamic, bounds, columns, made, chunk)
+}
+
+// Risk of an entry.
+pub fn risk_records<'a>(
+    runtime: u32,
+    dynamic: u32,
+    bounds: &'a [u32],
+    columns: &'a [u32],
+    records: &'a [Record],
+    root: u32,
+    marks: &mut [u32],
+) -> Answer
+    ensures { λ r. ⌜ EntryRisk (lentWith runtime dynamic (now (bounds .entry)) (now (columns .entry)) (importerColumn (now (records .entry))) (kindColumn (now (records .entry))) (targetColumn (now (records .entry)))) root (now (marks .entry)) r (now (marks .exit)) ⌝ }
+{
+    let made = columns_of(records);
+    risk_columns(runtime, dynamic, bounds, columns, made, root, marks)
+}
+
+// Plan from seeds.
+pub fn plan_records<'a>(
+    runtime: u32,
+    dynamic: u32,
+    bounds: &'a [u32],
+    columns: &'a [u32],
+    records: &'a [Record],
+    seeds: &[u32],
+    marks: &mut [u32],
+) -> Answer
+    ensures { λ r. ⌜ PlanFromSeeds (lentWith runtime dynamic (now (bounds .entry)) (now (columns .entry)) (importerColumn (now (records .entry))) (kindColumn (now (records .entry))) (targetColumn (now (records .entry)))) (now (seeds .entry)) (now (marks .entry)) r (now (marks .exit)) ⌝ }
+{
+    let made = columns_of(records);
+    plan_columns(runtime, dynamic, bounds, columns, made, seeds, marks)
+}
+
+// Whole analysis.
 pub fn analyze_records<'a>(
     runtime: u32,
     dynamic: u32,
-    normal: &'a [u32],
-    included: &'a [u32],
-    sensitive: &'a [u32],
-    reads: &'a [u32],
-    exports: &'a [u32],
-    wrap: &'a [u32],
-    chunk: &'a [u32],
+    bounds: &'a [u32],
+    columns: &'a [u32],
     records: &'a [Record],
-    dependency_module: &'a [u32],
-    dependency: &'a [u32],
-    statement_module: &'a [u32],
-    statement_included: &'a [u32],
-    use_statement: &'a [u32],
-    use_record: &'a [u32],
-    owner: &'a [u32],
-    canonical: &'a [u32],
-    chain_symbol: &'a [u32],
-    chain_link: &'a [u32],
-    reference_statement: &'a [u32],
-    reference_form: &'a [u32],
-    reference_symbol: &'a [u32],
-    depended_reference: &'a [u32],
-    depended: &'a [u32],
-    order: &'a [u32],
-    member_chunk: &'a [u32],
-    member: &'a [u32],
-    import_chunk: &'a [u32],
-    imports: &'a [u32],
-    entry: &'a [u32],
-    entry_chunk: &'a [u32],
-    seed: &'a [u32],
     marks: &mut [u32],
 ) -> Answer
-    ensures { λ r. ⌜ WholeAnalysis (project runtime dynamic (now (normal .entry)) (now (included .entry)) (now (sensitive .entry)) (now (reads .entry)) (now (exports .entry)) (now (wrap .entry)) (now (chunk .entry)) (importersOf (now (records .entry))) (kindsOf (now (records .entry))) (targetsOf (now (records .entry))) (now («dependency_module» .entry)) (now (dependency .entry)) (now («statement_module» .entry)) (now («statement_included» .entry)) (now («use_statement» .entry)) (now («use_record» .entry)) (now (owner .entry)) (now (canonical .entry)) (now («chain_symbol» .entry)) (now («chain_link» .entry)) (now («reference_statement» .entry)) (now («reference_form» .entry)) (now («reference_symbol» .entry)) (now («depended_reference» .entry)) (now (depended .entry)) (now (order .entry)) (now («member_chunk» .entry)) (now (member .entry)) (now («import_chunk» .entry)) (now (imports .entry)) (now (entry .entry)) (now («entry_chunk» .entry)) (now (seed .entry))) (now (marks .entry)) r (now (marks .exit)) ⌝ }
+    ensures { λ r. ⌜ WholeAnalysis (lentWith runtime dynamic (now (bounds .entry)) (now (columns .entry)) (importerColumn (now (records .entry))) (kindColumn (now (records .entry))) (targetColumn (now (records .entry)))) (now (marks .entry)) r (now (marks .exit)) ⌝ }
 {
-    let columns = columns_of(records);
-    analyze_columns(
-        runtime,
-        dynamic,
-        normal,
-        included,
-        sensitive,
-        reads,
-        exports,
-        wrap,
-        chunk,
-        columns,
-        dependency_module,
-        dependency,
-        statement_module,
-        statement_included,
-        use_statement,
-        use_record,
-        owner,
-        canonical,
-        chain_symbol,
-        chain_link,
-        reference_statement,
-        reference_form,
-        reference_symbol,
-        depended_reference,
-        depended,
-        order,
-        member_chunk,
-        member,
-        import_chunk,
-        imports,
-        entry,
-        entry_chunk,
-        seed,
-        marks,
-    )
+    let made = columns_of(records);
+    analyze_columns(runtime, dynamic, bounds, columns, made, marks)
 }

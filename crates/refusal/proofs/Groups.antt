@@ -5,11 +5,13 @@ use mathlib.Core.Bool.{Bool, true, _&&_}
 use mathlib.Core.List.{List}
 use Prim.Native.Nat.{ℕ, _≤_}
 use native.Mathlib.Nat.{lt-of-lt-of-le}
-use Rattle.tables.specs.Project.{Project}
+use lib.ListN.{length}
+use Rattle.tables.specs.Project.{Project, missing}
 use Rattle.tables.specs.Accepted.{Below}
-use Rattle.tables.specs.Refusal.{moduleLimit, chunkLimit, codeSized, symbolsSized, chunksSized, sizesFit, codeIn, symbolsIn, chunksIn, valuesFit}
+use Rattle.tables.specs.Readings.{modules, chunks}
+use Rattle.tables.specs.Refusal.{moduleLimit, chunkLimit, codeSized, symbolsSized, chunksSized, sizesFit, settingsIn, modulesIn, recordsIn, pairIn, referencesIn, entriesIn, below, codeIn, symbolsIn, chunksIn, valuesFit}
 use Rattle.tables.proofs.Accepted.{sizes-fit, values-fit}
-use Rattle.refusal.proofs.Chain.{and-3}
+use Rattle.column_tests.proofs.Chain.{and-3, and-5}
 
 below-more : (m n : ℕ) (column : List ℕ) → m ≤ n → Below m column → Below n column
 below-more m n column l h i k = lt-of-lt-of-le (h i k) l
@@ -23,6 +25,36 @@ module _ (p : Project) where
     pub values-joined : a ≡ codeIn p → b ≡ symbolsIn p → c ≡ chunksIn p → ((a && b) && c) ≡ valuesFit p
     unfolding valuesFit
     values-joined e f g = and-3 e f g
+
+  -- test 2, list by list, with the counts that the tests were given
+
+  module _ {a b c d e : Bool} where
+    pub code-joined : {m n : ℕ} → m ≡ modules p → n ≡ chunks p
+        → a ≡ settingsIn m (p .runtime) (p .dynamic)
+        → b ≡ modulesIn n (p .normal) (p .included) (p .sensitive) (p .reads) (p .exports) (p .wrap) (p .chunk)
+        → c ≡ recordsIn m (p .recordModule) (p .recordKind) (p .recordTarget)
+        → d ≡ pairIn m m (p .dependencyModule) (p .dependency)
+        → e ≡ pairIn m 2 (p .statementModule) (p .statementIncluded)
+        → ((((a && b) && c) && d) && e) ≡ codeIn p
+    code-joined m n = rw (m, n) and-5
+
+    pub symbols-joined : {m s y r : ℕ} → m ≡ modules p → s ≡ length (p .statementModule) → y ≡ length (p .owner) → r ≡ length (p .referenceStatement)
+        → a ≡ pairIn s (length (p .recordModule)) (p .useStatement) (p .useRecord)
+        → b ≡ pairIn m y (p .owner) (p .canonical)
+        → c ≡ pairIn y y (p .chainSymbol) (p .chainLink)
+        → d ≡ referencesIn s y (p .referenceStatement) (p .referenceForm) (p .referenceSymbol)
+        → e ≡ pairIn r y (p .dependedReference) (p .depended)
+        → ((((a && b) && c) && d) && e) ≡ symbolsIn p
+    symbols-joined m s y r = rw (m, s, y, r) and-5
+
+    pub chunks-joined : {m n : ℕ} → m ≡ modules p → n ≡ chunks p
+        → a ≡ below missing (p .order)
+        → b ≡ pairIn n m (p .memberChunk) (p .member)
+        → c ≡ pairIn n n (p .importChunk) (p .imports)
+        → d ≡ entriesIn m n (p .entry) (p .entryChunk)
+        → e ≡ below m (p .seed)
+        → ((((a && b) && c) && d) && e) ≡ chunksIn p
+    chunks-joined m n = rw (m, n) and-5
 
   -- what test 4 asks
   module _ (e : sizesFit p ≡ true) (f : valuesFit p ≡ true) where

@@ -11,7 +11,7 @@ use borrow.Author.Tests.{lt-ltb}
 use Rattle.lists.specs.Words.{isZero, every}
 use Rattle.lists.proofs.Laws.{every-append}
 use Rattle.tables.specs.Refusal.{sized}
-use Rattle.refusal.proofs.Chain.{and-4}
+use Rattle.column_tests.proofs.Chain.{and-4}
 
 -- one is there
 some-one : (n : ℕ) → ltb 0 n ≡ not (isZero n)

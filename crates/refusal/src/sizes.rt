@@ -4,17 +4,32 @@ ghost use mathlib.Core.Bool.{not, _&&_};
 ghost use mathlib.Core.List.{[], _∷_};
 ghost use lib.ListN.{length};
 ghost use Rattle.lists.specs.Words.{isZero};
-ghost use Rattle.tables.specs.Refusal.{moduleLimit, chunkLimit, rowLimit, sized};
-use tables::ModuleIdx;
-
-// The most modules.
-pub const MODULES: usize = ModuleIdx::LARGEST as usize + 1;
-
-// The most chunks.
-pub const CHUNKS: usize = 1024;
-
-// The most rows of any other list.
-const ROWS: usize = 16384;
+ghost use Prim.Native.Nat.{_+_, _<_};
+ghost use Rattle.table.specs.Table.{columnAt, table, withRecords};
+ghost use Rattle.tables.specs.Refusal.{moduleLimit, sized, codeSized, symbolsSized, chunksSized};
+use table::CHAIN_SYMBOL;
+use table::CHUNK;
+use table::CHUNK_LIMIT;
+use table::DEPENDED_REFERENCE;
+use table::DEPENDENCY_MODULE;
+use table::ENTRY;
+use table::EXPORTS;
+use table::IMPORT_CHUNK;
+use table::INCLUDED;
+use table::MEMBER_CHUNK;
+use table::MODULE_LIMIT;
+use table::NORMAL;
+use table::ORDER;
+use table::OWNER;
+use table::READS;
+use table::REFERENCE_STATEMENT;
+use table::ROW_LIMIT;
+use table::SEED;
+use table::SENSITIVE;
+use table::STATEMENT_MODULE;
+use table::USE_STATEMENT;
+use table::WRAP;
+use table::column;
 
 // A list of one column.
 fn one_sized(limit: usize, column: &[u32]) -> bool
@@ -50,75 +65,85 @@ fn modules_sized<'a>(
     ensures { λ r. ⌜ r ≡ (not (isZero (length (now (normal .entry)))) && sized moduleLimit (now (normal .entry)) (now (included .entry) ∷ now (sensitive .entry) ∷ now (reads .entry) ∷ now (exports .entry) ∷ now (wrap .entry) ∷ now (chunk .entry) ∷ [])) ⌝ }
 {
     (0 < normal.len())
-        & three_sized(MODULES, normal, included, sensitive)
-        & three_sized(MODULES, normal, reads, exports)
-        & three_sized(MODULES, normal, wrap, chunk)
+        & three_sized(MODULE_LIMIT, normal, included, sensitive)
+        & three_sized(MODULE_LIMIT, normal, reads, exports)
+        & three_sized(MODULE_LIMIT, normal, wrap, chunk)
+}
+
+// A list of one column, of two or of three, from column k on.
+fn one_at<'a>(bounds: &'a [u32], columns: &'a [u32], limit: usize, k: usize) -> bool
+    ensures { λ r. ⌜ r ≡ sized limit (columnAt (now (bounds .entry)) (now (columns .entry)) k) [] ⌝ }
+{
+    one_sized(limit, column(bounds, columns, k))
+}
+
+fn two_at<'a>(bounds: &'a [u32], columns: &'a [u32], limit: usize, k: usize) -> bool
+    requires { ⌜ k < 64 ⌝ }
+    ensures { λ r. ⌜ r ≡ sized limit (columnAt (now (bounds .entry)) (now (columns .entry)) k) ((columnAt (now (bounds .entry)) (now (columns .entry)) (k + 1)) ∷ []) ⌝ }
+{
+    two_sized(
+        limit,
+        column(bounds, columns, k),
+        column(bounds, columns, k + 1),
+    )
+}
+
+fn three_at<'a>(bounds: &'a [u32], columns: &'a [u32], limit: usize, k: usize) -> bool
+    requires { ⌜ k < 64 ⌝ }
+    ensures { λ r. ⌜ r ≡ sized limit (columnAt (now (bounds .entry)) (now (columns .entry)) k) ((columnAt (now (bounds .entry)) (now (columns .entry)) (k + 1)) ∷ (columnAt (now (bounds .entry)) (now (columns .entry)) (k + 2)) ∷ []) ⌝ }
+{
+    three_sized(
+        limit,
+        column(bounds, columns, k),
+        column(bounds, columns, k + 1),
+        column(bounds, columns, k + 2),
+    )
 }
 
 // Modules, records, dependencies and statements.
 pub fn code_sized<'a>(
-    normal: &'a [u32],
-    included: &'a [u32],
-    sensitive: &'a [u32],
-    reads: &'a [u32],
-    exports: &'a [u32],
-    wrap: &'a [u32],
-    chunk: &'a [u32],
-    record_module: &'a [u32],
-    record_kind: &'a [u32],
-    record_target: &'a [u32],
-    dependency_module: &'a [u32],
-    dependency: &'a [u32],
-    statement_module: &'a [u32],
-    statement_included: &'a [u32],
+    runtime: u32,
+    dynamic: u32,
+    bounds: &'a [u32],
+    columns: &'a [u32],
+    importers: &'a [u32],
+    kinds: &'a [u32],
+    targets: &'a [u32],
 ) -> bool
-    ensures { λ r. ⌜ r ≡ ((not (isZero (length (now (normal .entry)))) && sized moduleLimit (now (normal .entry)) (now (included .entry) ∷ now (sensitive .entry) ∷ now (reads .entry) ∷ now (exports .entry) ∷ now (wrap .entry) ∷ now (chunk .entry) ∷ [])) && (sized rowLimit (now («record_module» .entry)) (now («record_kind» .entry) ∷ now («record_target» .entry) ∷ []) && (sized rowLimit (now («dependency_module» .entry)) (now (dependency .entry) ∷ []) && sized rowLimit (now («statement_module» .entry)) (now («statement_included» .entry) ∷ [])))) ⌝ }
+    ensures { λ r. ⌜ r ≡ codeSized (withRecords (table runtime dynamic (now (bounds .entry)) (now (columns .entry))) (now (importers .entry)) (now (kinds .entry)) (now (targets .entry))) ⌝ }
 {
-    modules_sized(normal, included, sensitive, reads, exports, wrap, chunk)
-        & three_sized(ROWS, record_module, record_kind, record_target)
-        & two_sized(ROWS, dependency_module, dependency)
-        & two_sized(ROWS, statement_module, statement_included)
+    modules_sized(
+        column(bounds, columns, NORMAL),
+        column(bounds, columns, INCLUDED),
+        column(bounds, columns, SENSITIVE),
+        column(bounds, columns, READS),
+        column(bounds, columns, EXPORTS),
+        column(bounds, columns, WRAP),
+        column(bounds, columns, CHUNK),
+    )
+        & three_sized(ROW_LIMIT, importers, kinds, targets)
+        & two_at(bounds, columns, ROW_LIMIT, DEPENDENCY_MODULE)
+        & two_at(bounds, columns, ROW_LIMIT, STATEMENT_MODULE)
 }
 
 // Uses, symbols, export chains, references and depended rows.
-pub fn symbols_sized<'a>(
-    use_statement: &'a [u32],
-    use_record: &'a [u32],
-    owner: &'a [u32],
-    canonical: &'a [u32],
-    chain_symbol: &'a [u32],
-    chain_link: &'a [u32],
-    reference_statement: &'a [u32],
-    reference_form: &'a [u32],
-    reference_symbol: &'a [u32],
-    depended_reference: &'a [u32],
-    depended: &'a [u32],
-) -> bool
-    ensures { λ r. ⌜ r ≡ (sized rowLimit (now («use_statement» .entry)) (now («use_record» .entry) ∷ []) && (sized rowLimit (now (owner .entry)) (now (canonical .entry) ∷ []) && (sized rowLimit (now («chain_symbol» .entry)) (now («chain_link» .entry) ∷ []) && (sized rowLimit (now («reference_statement» .entry)) (now («reference_form» .entry) ∷ now («reference_symbol» .entry) ∷ []) && sized rowLimit (now («depended_reference» .entry)) (now (depended .entry) ∷ []))))) ⌝ }
+pub fn symbols_sized<'a>(runtime: u32, dynamic: u32, bounds: &'a [u32], columns: &'a [u32]) -> bool
+    ensures { λ r. ⌜ r ≡ symbolsSized (table runtime dynamic (now (bounds .entry)) (now (columns .entry))) ⌝ }
 {
-    two_sized(ROWS, use_statement, use_record)
-        & two_sized(ROWS, owner, canonical)
-        & two_sized(ROWS, chain_symbol, chain_link)
-        & three_sized(ROWS, reference_statement, reference_form, reference_symbol)
-        & two_sized(ROWS, depended_reference, depended)
+    two_at(bounds, columns, ROW_LIMIT, USE_STATEMENT)
+        & two_at(bounds, columns, ROW_LIMIT, OWNER)
+        & two_at(bounds, columns, ROW_LIMIT, CHAIN_SYMBOL)
+        & three_at(bounds, columns, ROW_LIMIT, REFERENCE_STATEMENT)
+        & two_at(bounds, columns, ROW_LIMIT, DEPENDED_REFERENCE)
 }
 
 // Chunks, members, imports, entries and seeds.
-pub fn chunks_sized<'a>(
-    order: &'a [u32],
-    member_chunk: &'a [u32],
-    member: &'a [u32],
-    import_chunk: &'a [u32],
-    imports: &'a [u32],
-    entry: &'a [u32],
-    entry_chunk: &'a [u32],
-    seed: &'a [u32],
-) -> bool
-    ensures { λ r. ⌜ r ≡ (sized chunkLimit (now (order .entry)) [] && (sized rowLimit (now («member_chunk» .entry)) (now (member .entry) ∷ []) && (sized rowLimit (now («import_chunk» .entry)) (now (imports .entry) ∷ []) && (sized rowLimit (now (entry .entry)) (now («entry_chunk» .entry) ∷ []) && sized rowLimit (now (seed .entry)) [])))) ⌝ }
+pub fn chunks_sized<'a>(runtime: u32, dynamic: u32, bounds: &'a [u32], columns: &'a [u32]) -> bool
+    ensures { λ r. ⌜ r ≡ chunksSized (table runtime dynamic (now (bounds .entry)) (now (columns .entry))) ⌝ }
 {
-    one_sized(CHUNKS, order)
-        & two_sized(ROWS, member_chunk, member)
-        & two_sized(ROWS, import_chunk, imports)
-        & two_sized(ROWS, entry, entry_chunk)
-        & one_sized(ROWS, seed)
+    one_at(bounds, columns, CHUNK_LIMIT, ORDER)
+        & two_at(bounds, columns, ROW_LIMIT, MEMBER_CHUNK)
+        & two_at(bounds, columns, ROW_LIMIT, IMPORT_CHUNK)
+        & two_at(bounds, columns, ROW_LIMIT, ENTRY)
+        & one_at(bounds, columns, ROW_LIMIT, SEED)
 }

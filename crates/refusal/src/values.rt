@@ -1,11 +1,33 @@
 // Test 2: every value is inside its column.
 ghost use mathlib.Core.Path.{_≡_};
 ghost use mathlib.Core.Bool.{_&&_};
-ghost use lib.ListN.{length};
-ghost use Rattle.tables.specs.Project.{missing};
-ghost use Rattle.tables.specs.Refusal.{below, belowOrMissing, settingsIn, modulesIn, recordsIn, pairIn, referencesIn, entriesIn};
-use crate::columns::all_below;
-use crate::columns::all_below_or_missing;
+ghost use Prim.Native.Nat.{_+_, _<_};
+ghost use Rattle.table.specs.Table.{columnAt, table, withRecords};
+ghost use Rattle.tables.specs.Refusal.{below, belowOrMissing, settingsIn, modulesIn, pairIn, entriesIn, codeIn, symbolsIn, chunksIn};
+use column_tests::core::all_below;
+use column_tests::core::all_below_or_missing;
+use table::CHAIN_SYMBOL;
+use table::CHUNK;
+use table::DEPENDED_REFERENCE;
+use table::DEPENDENCY_MODULE;
+use table::ENTRY;
+use table::ENTRY_CHUNK;
+use table::EXPORTS;
+use table::IMPORT_CHUNK;
+use table::INCLUDED;
+use table::MEMBER_CHUNK;
+use table::NORMAL;
+use table::ORDER;
+use table::OWNER;
+use table::READS;
+use table::REFERENCE_STATEMENT;
+use table::SEED;
+use table::SENSITIVE;
+use table::STATEMENT_MODULE;
+use table::USE_STATEMENT;
+use table::WRAP;
+use table::column;
+use table::rows;
 use tables::ModuleIdx;
 
 // The two settings.
@@ -65,105 +87,108 @@ fn entries_in<'a>(entry: &'a [u32], entry_chunk: &'a [u32], modules: usize, chun
     all_below(entry, modules) & all_below_or_missing(entry_chunk, chunks)
 }
 
+// A list of two columns or of three, from column k on.
+fn pair_at<'a>(bounds: &'a [u32], columns: &'a [u32], k: usize, m: usize, n: usize) -> bool
+    requires { ⌜ k < 64 ⌝ }
+    ensures { λ r. ⌜ r ≡ pairIn m n (columnAt (now (bounds .entry)) (now (columns .entry)) k) (columnAt (now (bounds .entry)) (now (columns .entry)) (k + 1)) ⌝ }
+{
+    pair_in(
+        column(bounds, columns, k),
+        column(bounds, columns, k + 1),
+        m,
+        n,
+    )
+}
+
+fn three_at<'a>(
+    bounds: &'a [u32],
+    columns: &'a [u32],
+    k: usize,
+    l: usize,
+    m: usize,
+    n: usize,
+) -> bool
+    requires { ⌜ k < 64 ⌝ }
+    ensures { λ r. ⌜ r ≡ (below l (columnAt (now (bounds .entry)) (now (columns .entry)) k) && (below m (columnAt (now (bounds .entry)) (now (columns .entry)) (k + 1)) && belowOrMissing n (columnAt (now (bounds .entry)) (now (columns .entry)) (k + 2)))) ⌝ }
+{
+    three_in(
+        column(bounds, columns, k),
+        column(bounds, columns, k + 1),
+        column(bounds, columns, k + 2),
+        l,
+        m,
+        n,
+    )
+}
+
 // Settings, modules, records, dependencies and statements.
 pub fn code_in<'a>(
-    normal: &'a [u32],
-    included: &'a [u32],
-    sensitive: &'a [u32],
-    reads: &'a [u32],
-    exports: &'a [u32],
-    wrap: &'a [u32],
-    chunk: &'a [u32],
-    record_module: &'a [u32],
-    record_kind: &'a [u32],
-    record_target: &'a [u32],
-    dependency_module: &'a [u32],
-    dependency: &'a [u32],
-    statement_module: &'a [u32],
-    statement_included: &'a [u32],
     runtime: u32,
     dynamic: u32,
-    chunks: usize,
+    bounds: &'a [u32],
+    columns: &'a [u32],
+    importers: &'a [u32],
+    kinds: &'a [u32],
+    targets: &'a [u32],
 ) -> bool
-    ensures { λ r. ⌜ r ≡ (settingsIn (length (now (normal .entry))) runtime dynamic && (modulesIn chunks (now (normal .entry)) (now (included .entry)) (now (sensitive .entry)) (now (reads .entry)) (now (exports .entry)) (now (wrap .entry)) (now (chunk .entry)) && (recordsIn (length (now (normal .entry))) (now («record_module» .entry)) (now («record_kind» .entry)) (now («record_target» .entry)) && (pairIn (length (now (normal .entry))) (length (now (normal .entry))) (now («dependency_module» .entry)) (now (dependency .entry)) && pairIn (length (now (normal .entry))) 2 (now («statement_module» .entry)) (now («statement_included» .entry)))))) ⌝ }
+    ensures { λ r. ⌜ r ≡ codeIn (withRecords (table runtime dynamic (now (bounds .entry)) (now (columns .entry))) (now (importers .entry)) (now (kinds .entry)) (now (targets .entry))) ⌝ }
 {
-    let modules = normal.len();
+    let modules = rows(bounds, columns, NORMAL);
+    let chunks = rows(bounds, columns, ORDER);
     settings_in(modules, runtime, dynamic)
         & modules_in(
-            normal,
-            included,
-            sensitive,
-            reads,
-            exports,
-            wrap,
-            chunk,
+            column(bounds, columns, NORMAL),
+            column(bounds, columns, INCLUDED),
+            column(bounds, columns, SENSITIVE),
+            column(bounds, columns, READS),
+            column(bounds, columns, EXPORTS),
+            column(bounds, columns, WRAP),
+            column(bounds, columns, CHUNK),
             chunks,
         )
-        & three_in(
-            record_module,
-            record_kind,
-            record_target,
-            modules,
-            4,
-            modules,
-        )
-        & pair_in(dependency_module, dependency, modules, modules)
-        & pair_in(statement_module, statement_included, modules, 2)
+        & three_in(importers, kinds, targets, modules, 4, modules)
+        & pair_at(bounds, columns, DEPENDENCY_MODULE, modules, modules)
+        & pair_at(bounds, columns, STATEMENT_MODULE, modules, 2)
 }
 
 // Uses, symbols, export chains, references and depended rows.
 pub fn symbols_in<'a>(
-    use_statement: &'a [u32],
-    use_record: &'a [u32],
-    owner: &'a [u32],
-    canonical: &'a [u32],
-    chain_symbol: &'a [u32],
-    chain_link: &'a [u32],
-    reference_statement: &'a [u32],
-    reference_form: &'a [u32],
-    reference_symbol: &'a [u32],
-    depended_reference: &'a [u32],
-    depended: &'a [u32],
-    modules: usize,
-    statements: usize,
-    records: usize,
+    runtime: u32,
+    dynamic: u32,
+    bounds: &'a [u32],
+    columns: &'a [u32],
+    importers: &'a [u32],
+    kinds: &'a [u32],
+    targets: &'a [u32],
 ) -> bool
-    ensures { λ r. ⌜ r ≡ (pairIn statements records (now («use_statement» .entry)) (now («use_record» .entry)) && (pairIn modules (length (now (owner .entry))) (now (owner .entry)) (now (canonical .entry)) && (pairIn (length (now (owner .entry))) (length (now (owner .entry))) (now («chain_symbol» .entry)) (now («chain_link» .entry)) && (referencesIn statements (length (now (owner .entry))) (now («reference_statement» .entry)) (now («reference_form» .entry)) (now («reference_symbol» .entry)) && pairIn (length (now («reference_statement» .entry))) (length (now (owner .entry))) (now («depended_reference» .entry)) (now (depended .entry)))))) ⌝ }
+    ensures { λ r. ⌜ r ≡ symbolsIn (withRecords (table runtime dynamic (now (bounds .entry)) (now (columns .entry))) (now (importers .entry)) (now (kinds .entry)) (now (targets .entry))) ⌝ }
 {
-    let symbols = owner.len();
-    let references = reference_statement.len();
-    pair_in(use_statement, use_record, statements, records)
-        & pair_in(owner, canonical, modules, symbols)
-        & pair_in(chain_symbol, chain_link, symbols, symbols)
-        & three_in(
-            reference_statement,
-            reference_form,
-            reference_symbol,
-            statements,
-            3,
-            symbols,
-        )
-        & pair_in(depended_reference, depended, references, symbols)
+    let modules = rows(bounds, columns, NORMAL);
+    let records = importers.len();
+    let statements = rows(bounds, columns, STATEMENT_MODULE);
+    let symbols = rows(bounds, columns, OWNER);
+    let references = rows(bounds, columns, REFERENCE_STATEMENT);
+    pair_at(bounds, columns, USE_STATEMENT, statements, records)
+        & pair_at(bounds, columns, OWNER, modules, symbols)
+        & pair_at(bounds, columns, CHAIN_SYMBOL, symbols, symbols)
+        & three_at(bounds, columns, REFERENCE_STATEMENT, statements, 3, symbols)
+        & pair_at(bounds, columns, DEPENDED_REFERENCE, references, symbols)
 }
 
 // Chunks, members, imports, entries and seeds.
-pub fn chunks_in<'a>(
-    order: &'a [u32],
-    member_chunk: &'a [u32],
-    member: &'a [u32],
-    import_chunk: &'a [u32],
-    imports: &'a [u32],
-    entry: &'a [u32],
-    entry_chunk: &'a [u32],
-    seed: &'a [u32],
-    modules: usize,
-) -> bool
-    ensures { λ r. ⌜ r ≡ (below missing (now (order .entry)) && (pairIn (length (now (order .entry))) modules (now («member_chunk» .entry)) (now (member .entry)) && (pairIn (length (now (order .entry))) (length (now (order .entry))) (now («import_chunk» .entry)) (now (imports .entry)) && (entriesIn modules (length (now (order .entry))) (now (entry .entry)) (now («entry_chunk» .entry)) && below modules (now (seed .entry)))))) ⌝ }
+pub fn chunks_in<'a>(runtime: u32, dynamic: u32, bounds: &'a [u32], columns: &'a [u32]) -> bool
+    ensures { λ r. ⌜ r ≡ chunksIn (table runtime dynamic (now (bounds .entry)) (now (columns .entry))) ⌝ }
 {
-    let chunks = order.len();
-    all_below(order, ModuleIdx::MISSING as usize)
-        & pair_in(member_chunk, member, chunks, modules)
-        & pair_in(import_chunk, imports, chunks, chunks)
-        & entries_in(entry, entry_chunk, modules, chunks)
-        & all_below(seed, modules)
+    let modules = rows(bounds, columns, NORMAL);
+    let chunks = rows(bounds, columns, ORDER);
+    all_below(column(bounds, columns, ORDER), ModuleIdx::MISSING as usize)
+        & pair_at(bounds, columns, MEMBER_CHUNK, chunks, modules)
+        & pair_at(bounds, columns, IMPORT_CHUNK, chunks, chunks)
+        & entries_in(
+            column(bounds, columns, ENTRY),
+            column(bounds, columns, ENTRY_CHUNK),
+            modules,
+            chunks,
+        )
+        & all_below(column(bounds, columns, SEED), modules)
 }

@@ -1,19 +1,30 @@
 // Runs the library on every call of a replay list, which stands on standard input, and compares each answer and both outputs, whole,
 // with what the list says. README.md says how the list was made.
-use flat::Call;
-use flat::call_on;
 use libc::STDIN_FILENO;
 use libc::STDOUT_FILENO;
+use table::RECORD_KIND;
+use table::RECORD_MODULE;
+use table::RECORD_TARGET;
+use table::column;
 use tables::Answer;
-
-// What outputs hold before a call. No call writes it.
-const FILLER: u32 = 4000000000;
 
 // A number, and where the next may begin.
 struct Word(u32, usize);
 
-// How often a value is still to be taken, the value, and where the next may begin.
-struct Run(u32, u32, usize);
+// Values of a list still to be taken: how many, the first of them, by how much the next differs and how many are equal, of them how many with this
+// one; whether they are those that stand there; and where the next run may begin.
+struct Run {
+    left: u32,
+    value: u32,
+    step: u32,
+    each: u32,
+    turn: u32,
+    kept: bool,
+    at: usize,
+}
+
+// A place of an output, and where the next number may begin.
+struct Place(usize, usize);
 
 // How many calls agreed, of how many, and where the next case or call begins.
 struct Done(u64, u64, usize);
@@ -42,7 +53,16 @@ fn line_end(text: &[u8], at: usize) -> usize {
     i
 }
 
-// The number whose digits begin at `at`. No number of the list is over 4000000000.
+// The number with a digit more; 4294967295 where it is too large.
+fn with_digit(value: u32, digit: u8) -> u32 {
+    let n = value as u64 * 10 + digit as u64;
+    if 4294967295 < n {
+        return 4294967295;
+    }
+    n as u32
+}
+
+// The number whose digits begin at `at`.
 fn digits(text: &[u8], at: usize) -> Word {
     let mut value: u32 = 0;
     let mut i = at;
@@ -54,61 +74,158 @@ fn digits(text: &[u8], at: usize) -> Word {
         if 57 < b {
             return Word(value, i);
         }
-        if 400000000 < value {
-            return Word(value, i);
-        }
-        value = value * 10 + (b - 48) as u32;
+        value = with_digit(value, b - 48);
         i += 1;
     }
     Word(value, i)
 }
 
+// The place behind this byte where it stands at `at`, else `at`.
+fn past(text: &[u8], at: usize, byte: u8) -> usize {
+    if text.len() <= at {
+        return at;
+    }
+    if text[at] != byte {
+        return at;
+    }
+    at + 1
+}
+
 // The next number; `-` is the missing mark.
 fn number(text: &[u8], at: usize) -> Word {
     let i = skip(text, at);
-    if text.len() <= i {
-        return Word(0, i);
-    }
-    if text[i] == 45 {
-        return Word(4294967295, i + 1);
+    let behind = past(text, i, b'-');
+    if behind != i {
+        return Word(4294967295, behind);
     }
     digits(text, i)
 }
 
-// The next value of a list, or `TIMES*VALUE`.
+// The number behind this byte where it stands at `at`, else another.
+fn number_behind(text: &[u8], at: usize, byte: u8, other: u32) -> Word {
+    let behind = past(text, at, byte);
+    if behind == at {
+        return Word(other, at);
+    }
+    number(text, behind)
+}
+
+// By how much a run climbs, `+STEP`, or falls, `~STEP`.
+fn read_step(text: &[u8], at: usize) -> Word {
+    let up = number_behind(text, at, b'+', 0);
+    let down = number_behind(text, up.1, b'~', 0);
+    Word(std::num::wrapping_sub_u32(up.0, down.0), down.1)
+}
+
+// The run behind `TIMES*`.
+fn read_times(text: &[u8], at: usize, times: u32) -> Run {
+    let value = number(text, at);
+    let step = read_step(text, value.1);
+    let each = number_behind(text, step.1, b'/', 1);
+    Run {
+        left: times,
+        value: value.0,
+        step: step.0,
+        each: each.0,
+        turn: each.0,
+        kept: false,
+        at: each.1,
+    }
+}
+
+// The run that `first` begins: `TIMES*..`, `TIMES.`, or a value.
 fn read_run(text: &[u8], at: usize) -> Run {
     let first = number(text, at);
     let next = first.1;
-    if text.len() <= next {
-        return Run(1, first.0, next);
+    let times = past(text, next, b'*');
+    if times != next {
+        return read_times(text, times, first.0);
     }
-    if text[next] != 42 {
-        return Run(1, first.0, next);
+    let dot = past(text, next, b'.');
+    if dot != next {
+        return Run {
+            left: first.0,
+            value: 0,
+            step: 0,
+            each: 1,
+            turn: 1,
+            kept: true,
+            at: dot,
+        };
     }
-    let second = number(text, next + 1);
-    Run(first.0, second.0, second.1)
+    Run {
+        left: 1,
+        value: first.0,
+        step: 0,
+        each: 1,
+        turn: 1,
+        kept: false,
+        at: next,
+    }
 }
 
-fn next_of(text: &[u8], run: Run) -> Run {
-    if 1 < run.0 {
-        return Run(run.0 - 1, run.1, run.2);
+// What is left behind the first value of a run.
+fn rest(run: Run) -> Run {
+    if 1 < run.turn {
+        return Run {
+            left: std::num::wrapping_sub_u32(run.left, 1),
+            value: run.value,
+            step: run.step,
+            each: run.each,
+            turn: run.turn - 1,
+            kept: run.kept,
+            at: run.at,
+        };
     }
-    read_run(text, run.2)
+    Run {
+        left: std::num::wrapping_sub_u32(run.left, 1),
+        value: std::num::wrapping_add_u32(run.value, run.step),
+        step: run.step,
+        each: run.each,
+        turn: run.each,
+        kept: run.kept,
+        at: run.at,
+    }
+}
+
+// The run at hand, or the next one where none of it is left.
+fn run_on(text: &[u8], run: Run) -> Run {
+    if run.left == 0 {
+        return read_run(text, run.at);
+    }
+    run
+}
+
+// The value of a run, or what stands in its place.
+fn value_of(run: Run, stands: u32) -> u32 {
+    if run.kept {
+        return stands;
+    }
+    run.value
 }
 
 // Reads n values into out, and says where the next may begin.
 fn fill(text: &[u8], at: usize, out: &mut [u32], n: u32) -> usize {
-    let mut run = Run(0, 0, at);
+    let mut run = Run {
+        left: 0,
+        value: 0,
+        step: 0,
+        each: 1,
+        turn: 1,
+        kept: false,
+        at: at,
+    };
     let mut i = 0;
     while i < out.len() {
         if n as usize <= i {
-            return run.2;
+            return run.at;
         }
-        run = next_of(text, run);
-        out[i] = run.1;
+        run = run_on(text, run);
+        out[i] = value_of(run, out[i]);
+        run = rest(run);
         i += 1;
     }
-    run.2
+    run.at
 }
 
 // The first place where two slices differ, else the end of the shorter.
@@ -126,24 +243,13 @@ fn differs(a: &[u32], b: &[u32]) -> usize {
     i
 }
 
+fn wide(x: u32) -> u64 {
+    x as u64
+}
+
 fn print(word: &[u8], value: u64) {
     io::write_all(STDOUT_FILENO, word);
     io::print_decimal(STDOUT_FILENO, value);
-}
-
-// The operation of this number in the list.
-fn operation(number: u32, argument: u32) -> Call {
-    match number {
-        0 => Call::Sort,
-        1 => Call::Expected(argument),
-        2 => Call::Actual(argument),
-        3 => Call::Labels,
-        4 => Call::Reach(argument),
-        5 => Call::Risk(argument),
-        6 => Call::Plan,
-        7 => Call::Whole,
-        _ => Call::Refusal,
-    }
 }
 
 // The part of a slice from place 0 on that has this length, or all of it.
@@ -155,35 +261,110 @@ fn first_of(list: &[u32], n: u32) -> &[u32] {
     &list[0..end]
 }
 
-// Calls the library with outputs of these lengths.
-fn ask<'a>(
-    settings: [u32; 2],
-    counts: &'a [u32],
+// The test of the tables alone.
+fn test<'a>(runtime: u32, dynamic: u32, bounds: &'a [u32], columns: &'a [u32]) -> Answer {
+    let number = refusal::refusal_number(
+        runtime,
+        dynamic,
+        bounds,
+        columns,
+        column(bounds, columns, RECORD_MODULE),
+        column(bounds, columns, RECORD_KIND),
+        column(bounds, columns, RECORD_TARGET),
+    );
+    if number == 0 {
+        return Answer::Counted(0);
+    }
+    Answer::Refused(number)
+}
+
+// The operations without an output.
+fn ask_none<'a>(
+    runtime: u32,
+    dynamic: u32,
+    bounds: &'a [u32],
     columns: &'a [u32],
-    seeds: &[u32],
+    operation: u32,
+    argument: u32,
+) -> Answer {
+    if operation == 4 {
+        return chunk_cycles::chunk_reach(runtime, dynamic, bounds, columns, argument);
+    }
+    test(runtime, dynamic, bounds, columns)
+}
+
+// Those with one.
+fn ask_one<'a>(
+    runtime: u32,
+    dynamic: u32,
+    bounds: &'a [u32],
+    columns: &'a [u32],
+    seeds: &'a [u32],
+    first: &mut [u32],
+    operation: u32,
+    argument: u32,
+) -> Answer {
+    match operation {
+        1 => expected_order::expected_order(runtime, dynamic, bounds, columns, argument, first),
+        3 => chunk_cycles::labels(runtime, dynamic, bounds, columns, first),
+        5 => at_risk::risk(runtime, dynamic, bounds, columns, argument, first),
+        6 => wrap_plan::plan_from_seeds(runtime, dynamic, bounds, columns, seeds, first),
+        _ => order_analysis::analyze_execution_order(runtime, dynamic, bounds, columns, first),
+    }
+}
+
+// Those with two.
+fn ask_two<'a>(
+    runtime: u32,
+    dynamic: u32,
+    bounds: &'a [u32],
+    columns: &'a [u32],
     first: &mut [u32],
     second: &mut [u32],
-    lengths: [u32; 2],
-    call: Call,
+    operation: u32,
+    argument: u32,
 ) -> Answer {
-    let one = lengths[0] as usize;
-    let two = lengths[1] as usize;
-    if first.len() < one {
-        return Answer::Refused(0);
+    if operation == 0 {
+        return sort_modules::sort_modules(runtime, dynamic, bounds, columns, first, second);
     }
-    if second.len() < two {
-        return Answer::Refused(0);
+    actual_order::actual_order(runtime, dynamic, bounds, columns, argument, first, second)
+}
+
+// The operation of this number in the list.
+fn ask<'a>(
+    runtime: u32,
+    dynamic: u32,
+    bounds: &'a [u32],
+    columns: &'a [u32],
+    seeds: &'a [u32],
+    first: &mut [u32],
+    second: &mut [u32],
+    operation: u32,
+    argument: u32,
+) -> Answer {
+    match operation {
+        0 | 2 => ask_two(
+            runtime,
+            dynamic,
+            bounds,
+            columns,
+            first,
+            second,
+            operation,
+            argument,
+        ),
+        4 | 8 => ask_none(runtime, dynamic, bounds, columns, operation, argument),
+        _ => ask_one(
+            runtime,
+            dynamic,
+            bounds,
+            columns,
+            seeds,
+            first,
+            operation,
+            argument,
+        ),
     }
-    call_on(
-        settings[0],
-        settings[1],
-        counts,
-        columns,
-        seeds,
-        &mut first[0..one],
-        &mut second[0..two],
-        call,
-    )
 }
 
 // Whether an answer is the one that the list says: 0 and a count, or 1 and the number of a refusal.
@@ -213,142 +394,195 @@ fn print_answer(answer: Answer) {
 
 // Says what a call that differs has given, and where each output differs first.
 fn report(call: u64, answer: Answer, first: usize, second: usize) {
-    print(b"call ", call);
+    print(b"\ncall ", call);
     print_answer(answer);
     print(b", differs in the first output at ", first as u64);
     print(b", in the second at ", second as u64);
-    io::write_all(STDOUT_FILENO, b" (4104: nowhere)\n");
+}
+
+// Where an output differs from what the list says of it: what is written, and else the filler.
+fn check(text: &[u8], at: usize, output: &[u32], filler: u32) -> Place {
+    let mut right = [filler; 4104];
+    let written = number(text, at);
+    let next = fill(text, written.1, &mut right, written.0);
+    Place(differs(output, &right), next)
+}
+
+// The call whose numbers are in `head`, with outputs of its lengths.
+fn answer_of<'a>(
+    settings: [u32; 4],
+    bounds: &'a [u32],
+    columns: &'a [u32],
+    seeds: &'a [u32],
+    first: &mut [u32],
+    second: &mut [u32],
+    head: [u32; 6],
+) -> Answer {
+    let one = head[4] as usize;
+    let two = head[5] as usize;
+    if first.len() < one {
+        return Answer::Refused(0);
+    }
+    if second.len() < two {
+        return Answer::Refused(0);
+    }
+    ask(
+        settings[0],
+        settings[1],
+        bounds,
+        columns,
+        seeds,
+        &mut first[0..one],
+        &mut second[0..two],
+        head[0],
+        head[1],
+    )
+}
+
+// Makes a call, and compares what it gives.
+fn judge<'a>(
+    text: &[u8],
+    done: Done,
+    settings: [u32; 4],
+    bounds: &'a [u32],
+    columns: &'a [u32],
+    seeds: &'a [u32],
+    head: [u32; 6],
+) -> Done {
+    let filler = settings[2];
+    let mut first = [filler; 4104];
+    let mut second = [filler; 4104];
+    let answer = answer_of(
+        settings,
+        bounds,
+        columns,
+        seeds,
+        &mut first,
+        &mut second,
+        head,
+    );
+    let one = check(text, done.2, &first, filler);
+    let two = check(text, one.1, &second, filler);
+    judged(
+        Done(done.0, done.1, two.1),
+        agrees(answer, head[2], head[3]),
+        answer,
+        one.0,
+        two.0,
+    )
 }
 
 // One call: what the list asks for, and what it says of the answer.
 fn call_of<'a>(
     text: &[u8],
     done: Done,
-    settings: [u32; 2],
-    counts: &'a [u32],
+    settings: [u32; 4],
+    bounds: &'a [u32],
     columns: &'a [u32],
 ) -> Done {
+    let mut head = [0u32; 6];
     let mut seeds = [0u32; 16385];
-    let mut first = [FILLER; 4104];
-    let mut second = [FILLER; 4104];
-    let mut right_first = [FILLER; 4104];
-    let mut right_second = [FILLER; 4104];
-    let kind = number(text, done.2);
-    let argument = number(text, kind.1);
-    let many = number(text, argument.1);
-    let behind_seeds = fill(text, many.1, &mut seeds, many.0);
-    let one = number(text, behind_seeds);
-    let two = number(text, one.1);
-    let refused = number(text, two.1);
-    let right = number(text, refused.1);
-    let listed = number(text, right.1);
-    let behind_first = fill(text, listed.1, &mut right_first, listed.0);
-    let marked = number(text, behind_first);
-    let next = fill(text, marked.1, &mut right_second, marked.0);
-    let answer = ask(
+    let at = fill(text, done.2, &mut head, 6);
+    let some = read_list(text, at, &mut seeds);
+    judge(
+        text,
+        Done(done.0, done.1, some.1),
         settings,
-        counts,
+        bounds,
         columns,
-        first_of(&seeds, many.0),
-        &mut first,
-        &mut second,
-        [one.0, two.0],
-        operation(kind.0, argument.0),
-    );
-    let in_first = differs(&first, &right_first);
-    let in_second = differs(&second, &right_second);
-    judged(
-        done,
-        next,
-        agrees(answer, refused.0, right.0),
-        answer,
-        in_first,
-        in_second,
+        first_of(&seeds, some.0),
+        head,
     )
 }
 
-fn judged(
-    done: Done,
-    next: usize,
-    same: bool,
-    answer: Answer,
-    in_first: usize,
-    in_second: usize,
-) -> Done {
+fn judged(done: Done, same: bool, answer: Answer, in_first: usize, in_second: usize) -> Done {
     let all = std::num::wrapping_add_u64(done.1, 1);
     if same {
         if in_first == 4104 {
             if in_second == 4104 {
-                return Done(std::num::wrapping_add_u64(done.0, 1), all, next);
+                return Done(std::num::wrapping_add_u64(done.0, 1), all, done.2);
             }
         }
     }
     report(all, answer, in_first, in_second);
-    Done(done.0, all, next)
+    Done(done.0, all, done.2)
 }
 
+// The calls of a case. `settings` has the project's two, what outputs hold before a call, and how many calls there are.
 fn calls_of<'a>(
     text: &[u8],
     at: usize,
-    settings: [u32; 2],
-    counts: &'a [u32],
+    settings: [u32; 4],
+    bounds: &'a [u32],
     columns: &'a [u32],
     calls: u32,
 ) -> Done {
     let mut done = Done(0, 0, at);
     let mut k = 0;
     while k < calls {
-        done = call_of(text, done, settings, counts, columns);
+        done = call_of(text, done, settings, bounds, columns);
         k += 1;
     }
     done
 }
 
-// Prints a case's name, and `ok` or how many calls agreed.
-fn print_case(text: &[u8], from: usize, to: usize, done: Done) {
-    if to <= text.len() {
-        if from <= to {
-            io::write_all(STDOUT_FILENO, &text[from..to]);
-        }
-    }
+// Prints `ok`, or how many calls agreed.
+fn print_done(done: Done) {
     if done.0 == done.1 {
         print(b": ok, ", done.1);
         io::write_all(STDOUT_FILENO, b" calls\n");
         return;
     }
-    print(b": DIFFERS, agree ", done.0);
+    print(b"\nDIFFERS, agree ", done.0);
     print(b" of ", done.1);
     io::write_all(STDOUT_FILENO, b"\n");
 }
 
-fn case(text: &[u8], at: usize) -> Done {
-    let mut counts = [0u32; 14];
-    let mut columns = [0u32; 65536];
+// Prints the line that begins next, and says where it ends.
+fn print_name(text: &[u8], at: usize) -> usize {
     let from = skip(text, at);
     let to = line_end(text, from);
-    let runtime = number(text, to);
-    let dynamic = number(text, runtime.1);
-    let behind_counts = fill(text, dynamic.1, &mut counts, 14);
-    let values = number(text, behind_counts);
-    let behind = fill(text, values.1, &mut columns, values.0);
-    let calls = number(text, behind);
-    let done = calls_of(
-        text,
-        calls.1,
-        [runtime.0, dynamic.0],
-        &counts,
-        first_of(&columns, values.0),
-        calls.0,
-    );
-    print_case(text, from, to, done);
+    if to <= text.len() {
+        if from <= to {
+            io::write_all(STDOUT_FILENO, &text[from..to]);
+        }
+    }
+    to
+}
+
+// Reads a list over what stood in its place, and says how long it is.
+fn read_list(text: &[u8], at: usize, out: &mut [u32]) -> Word {
+    let length = number(text, at);
+    let next = fill(text, length.1, out, length.0);
+    Word(length.0, next)
+}
+
+// The calls of a case on these columns.
+fn case_on<'a>(text: &[u8], at: usize, bounds: &'a [u32], columns: &'a [u32]) -> Done {
+    let mut settings = [0u32; 4];
+    let next = fill(text, at, &mut settings, 4);
+    let done = calls_of(text, next, settings, bounds, columns, settings[3]);
+    print_done(done);
     done
 }
 
-fn cases(text: &[u8], at: usize, many: u32) -> Done {
+// A case: its bounds and columns stay in these slices for the next.
+fn case(text: &[u8], at: usize, bounds: &mut [u32], columns: &mut [u32]) -> Done {
+    let some = read_list(text, print_name(text, at), bounds);
+    let all = read_list(text, some.1, columns);
+    case_on(
+        text,
+        all.1,
+        first_of(bounds, some.0),
+        first_of(columns, all.0),
+    )
+}
+
+fn cases(text: &[u8], at: usize, bounds: &mut [u32], columns: &mut [u32], many: u32) -> Done {
     let mut all = Done(0, 0, at);
     let mut k = 0;
     while k < many {
-        let one = case(text, all.2);
+        let one = case(text, all.2, bounds, columns);
         all = Done(
             std::num::wrapping_add_u64(all.0, one.0),
             std::num::wrapping_add_u64(all.1, one.1),
@@ -359,13 +593,19 @@ fn cases(text: &[u8], at: usize, many: u32) -> Done {
     all
 }
 
-fn main() {
-    let mut text = [0u8; 131072];
-    let n = io::read_full(STDIN_FILENO, &mut text);
-    let many = number(&text[..n], 0);
-    let all = cases(&text[..n], many.1, many.0);
-    print(b"cases ", many.0 as u64);
+fn replay(text: &[u8], bounds: &mut [u32], columns: &mut [u32]) {
+    let many = number(text, 0);
+    let all = cases(text, many.1, bounds, columns, many.0);
+    print(b"cases ", wide(many.0));
     print(b", calls ", all.1);
     print(b", agree ", all.0);
     io::write_all(STDOUT_FILENO, b"\n");
+}
+
+fn main() {
+    let mut text = [0u8; 262144];
+    let mut bounds = [0u32; 64];
+    let mut columns = [0u32; 131072];
+    let n = io::read_full(STDIN_FILENO, &mut text);
+    replay(&text[..n], &mut bounds, &mut columns);
 }

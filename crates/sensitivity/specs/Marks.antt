@@ -4,9 +4,9 @@ use mathlib.Core.Bool.{Bool, not, _&&_, _||_}
 use mathlib.Core.List.{List}
 use Prim.Native.Nat.{ℕ}
 use lib.Dec.{eqb}
-use Rattle.lists.specs.Words.{any}
+use Rattle.lists.specs.Words.{any, marksOf}
 use Rattle.tables.specs.Project.{Project}
-use Rattle.tables.specs.Readings.{isNormal, flagged, wrapped, isImport, normalTarget, rowTargets, rowsOf, valuesOf}
+use Rattle.tables.specs.Readings.{modules, isNormal, flagged, wrapped, isImport, normalTarget, rowTargets, rowsOf, valuesOf}
 
 -- "a kind 0 record to a normal target with wrap not 0"
 unfoldable pub wakes : List ℕ → List ℕ → List ℕ → List ℕ → ℕ → Bool
@@ -32,3 +32,7 @@ sensitive p m =
     isSensitive (p .runtime) (p .normal) (p .included) (p .sensitive)
     (usesWrapped (p .normal) (p .wrap) (p .recordKind) (p .recordTarget) (p .statementModule) (p .statementIncluded) (p .useStatement) (p .useRecord))
     m
+
+-- the marks of a project's sensitive modules
+abbrev pub sensitiveMarks : Project → List ℕ
+sensitiveMarks p = marksOf (sensitive p) (modules p)

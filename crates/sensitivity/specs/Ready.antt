@@ -4,6 +4,7 @@ use mathlib.Core.Path.{_≡_}
 use mathlib.Core.List.{List}
 use Prim.Native.Nat.{ℕ, _≤_}
 use lib.ListN.{length}
+use Rattle.tables.specs.Refusal.{rowLimit}
 use Rattle.tables.specs.Lookups.{Rising}
 use Rattle.tables.specs.Threads.{Threads}
 use Rattle.tables.specs.Accepted.{Below}
@@ -29,11 +30,11 @@ pub record Flags (normal included flag : List ℕ) : Type 0 where
 pub record Statements (statementModule statementIncluded : List ℕ) : Type 0 where
   pub rising : Rising statementModule
   pub includeds : length statementIncluded ≡ length statementModule
-  pub few : length statementModule ≤ 16384
+  pub few : length statementModule ≤ rowLimit
 
 -- the uses are few, and each names a statement and a record
 pub record UseRows (statementModule useStatement useRecord : List ℕ) (records : ℕ) : Type 0 where
   pub rows : length useStatement ≡ length useRecord
-  pub few : length useRecord ≤ 16384
+  pub few : length useRecord ≤ rowLimit
   pub owned : Below (length statementModule) useStatement
   pub named : Below records useRecord

@@ -3,9 +3,25 @@ ghost use mathlib.Core.Path.{_≡_};
 ghost use Prim.Native.Nat.{_+_, _-_, _<_, _≤_};
 ghost use lib.ListN.{length};
 ghost use Rattle.lists.specs.Words.{any, countFrom, bit, marksOf};
+ghost use Rattle.tables.specs.Project.{Project};
+ghost use Rattle.tables.specs.Readings.{modules};
+ghost use Rattle.tables.specs.Refusal.{moduleLimit};
 ghost use Rattle.tables.specs.Lookups.{FirstRows};
-ghost use Rattle.sensitivity.specs.Marks.{wakes, statementWakes, usesWrapped, isSensitive};
+ghost use Rattle.table.specs.Table.{table, read};
+ghost use Rattle.table.specs.Places.{Places};
+ghost use Rattle.sensitivity.specs.Marks.{wakes, statementWakes, usesWrapped, isSensitive, sensitiveMarks};
 ghost use Rattle.sensitivity.specs.Ready.{Records, Uses, Flags, Statements, UseRows};
+use table::INCLUDED;
+use table::MODULE_LIMIT;
+use table::NORMAL;
+use table::ROW_LIMIT;
+use table::SENSITIVE;
+use table::STATEMENT_INCLUDED;
+use table::STATEMENT_MODULE;
+use table::USE_RECORD;
+use table::USE_STATEMENT;
+use table::WRAP;
+use table::column;
 use tables::Target;
 use tables::core::first_rows;
 use tables::core::resolve;
@@ -242,14 +258,14 @@ pub fn mark_sensitive(
     requires records { ⌜ Records (now normal) (now wrap) (now «record_kind») (now «record_target») ⌝ }
     requires rows { ⌜ UseRows (now «statement_module») (now «use_statement») (now «use_record») (length (now «record_kind»)) ⌝ }
     requires statements { ⌜ Statements (now «statement_module») (now «statement_included») × (length (now marks) ≡ length (now normal)) ⌝ }
-    requires few { ⌜ length (now marks) ≤ 4096 ⌝ }
+    requires few { ⌜ length (now marks) ≤ moduleLimit ⌝ }
     ensures { λ _. ⌜ now (marks .exit) ≡ marksOf (isSensitive runtime (now (normal .entry)) (now (included .entry)) (now (sensitive .entry)) (usesWrapped (now (normal .entry)) (now (wrap .entry)) (now («record_kind» .entry)) (now («record_target» .entry)) (now («statement_module» .entry)) (now («statement_included» .entry)) (now («use_statement» .entry)) (now («use_record» .entry)))) (length (now (marks .entry))) ⌝ }
 {
     let statements = statement_included.len();
     let places = marks.len() + 1;
-    let mut heads = [0u32; 16384];
-    let mut nexts = [0u32; 16384];
-    let mut starts = [0u32; 4097];
+    let mut heads = [0u32; ROW_LIMIT];
+    let mut nexts = [0u32; ROW_LIMIT];
+    let mut starts = [0u32; MODULE_LIMIT + 1];
     thread(use_statement, &mut heads[..statements], &mut nexts);
     first_rows(statement_module, &mut starts[..places]);
     mark_with_threads(
@@ -266,6 +282,40 @@ pub fn mark_sensitive(
         use_record,
         &heads[..statements],
         &nexts,
+        marks,
+        runtime,
+    );
+}
+
+// Marks the sensitive modules of a table.
+pub fn mark_table_sensitive<'a>(
+    runtime: u32,
+    dynamic: u32,
+    bounds: &'a [u32],
+    columns: &'a [u32],
+    importers: &'a [u32],
+    kinds: &'a [u32],
+    targets: &'a [u32],
+    dependencies: &'a [u32],
+    members: &'a [u32],
+    marks: &mut [u32],
+)
+    ghost { Project }
+    requires project { λ p. ⌜ read (table runtime dynamic (now bounds) (now columns)) (now importers) (now kinds) (now targets) (now dependencies) (now members) ≡ p ⌝ }
+    requires places { λ p. ⌜ Places p (modules p) (length (now marks)) ⌝ }
+    ensures { λ p _. ⌜ now (marks .exit) ≡ sensitiveMarks p ⌝ }
+{
+    mark_sensitive(
+        column(bounds, columns, NORMAL),
+        column(bounds, columns, INCLUDED),
+        column(bounds, columns, SENSITIVE),
+        column(bounds, columns, WRAP),
+        kinds,
+        targets,
+        column(bounds, columns, STATEMENT_MODULE),
+        column(bounds, columns, STATEMENT_INCLUDED),
+        column(bounds, columns, USE_STATEMENT),
+        column(bounds, columns, USE_RECORD),
         marks,
         runtime,
     );

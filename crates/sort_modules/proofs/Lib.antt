@@ -1,4 +1,3 @@
--- `Rows`: what a record row leads to. `Numbers`: what a walk that numbers makes. `Promise`: the operation's cases.
-pub mod Rows
+-- `Numbers`: what a walk that numbers makes. `Promise`: the operation's cases.
 pub mod Numbers
 pub mod Promise

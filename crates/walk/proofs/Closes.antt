@@ -22,7 +22,7 @@ round-at f j [] i l = absurd (not-suc-le-zero l)
 round-at f j (x ∷ xs) zero l = rw add-zero
 round-at f j (x ∷ xs) (suc i) l = rw (add-suc, ← suc-add) (round-at f (suc j) xs i (omega arith))
 
-round-len : (f : ℕ → Bool) (j : ℕ) (xs : List ℕ) → length (roundFrom f j xs) ≡ length xs
+pub round-len : (f : ℕ → Bool) (j : ℕ) (xs : List ℕ) → length (roundFrom f j xs) ≡ length xs
 round-len f j [] = refl
 round-len f j (x ∷ xs) = ap suc (round-len f (suc j) xs)
 
@@ -81,16 +81,25 @@ module _ (rule : List ℕ → ℕ → Bool) where
       (λ l. rounds-end k (round rule s) (omega arith))
       (round-falls (rule s) zero s)
 
+  -- a round has what was in and what the rule asks for
+
+  pub round-parts : (s : List ℕ) (i : ℕ) → has (round rule s) i ≡ true → (has s i ≡ true) ⊎ (rule s i ≡ true)
+  round-parts s i e =
+      let l : i < length s = rw (round-len (rule s) zero s) at (has-in (round rule s) i e) in
+      has-mark (rule s i) (getD s i 0) (sym (ap (λ (n : ℕ). not (isZero n)) (at s i l)) ∙ e)
+
+  pub round-asked : (s : List ℕ) (i : ℕ) → i < length s → rule s i ≡ true → has (round rule s) i ≡ true
+  round-asked s i l r = ap (λ (n : ℕ). not (isZero n)) (at s i l) ∙ mark-has (rule s i) (getD s i 0) r
+
   fixed-closed : (s : List ℕ) → round rule s ≡ s → Closed rule s
   unfolding Closed
-  fixed-closed s e i l r =
-      ap (λ (t : List ℕ). has t i) (sym e) ∙ ap (λ (n : ℕ). not (isZero n)) (at s i l) ∙ mark-has (rule s i) (getD s i 0) r
+  fixed-closed s e i l r = ap (λ (t : List ℕ). has t i) (sym e) ∙ round-asked s i l r
 
   pub close-closed : (s : List ℕ) → Closed rule (close rule s)
   unfolding close
   close-closed s = fixed-closed (rounds rule (length s) s) (rounds-end (length s) s (zeros-le s))
 
-  round-more : (s : List ℕ) → Within s (round rule s)
+  pub round-more : (s : List ℕ) → Within s (round rule s)
   unfolding Within
   round-more s i e =
       ap (λ (n : ℕ). not (isZero n)) (at s i (has-in s i e)) ∙ mark-keeps (rule s i) (getD s i 0) e
@@ -109,7 +118,7 @@ module _ (rule : List ℕ → ℕ → Bool) where
     unfolding Within Monotone Closed
     round-least s n w i e =
         let l : i < length s = rw (round-len (rule s) zero s) at (has-in (round rule s) i e) in
-        ⊎-elim (w i) (λ r. c i (omega arith) (mono s t n w i r)) (has-mark (rule s i) (getD s i 0) (sym (ap (λ (x : ℕ). not (isZero x)) (at s i l)) ∙ e))
+        ⊎-elim (w i) (λ r. c i (omega arith) (mono s t n w i r)) (round-parts s i e)
 
     rounds-least : (k : ℕ) (s : List ℕ) → length s ≡ length t → Within s t → Within (rounds rule k s) t
     unfolding rounds
@@ -158,6 +167,14 @@ module _ (rule : List ℕ → ℕ → Bool) where
   close-unique mono s t n bs bt w c sound =
       ext-getD 0 t (close rule s) (n ∙ sym (close-len s))
       (λ i l. bit-eq (getD t i 0) (getD (close rule s) i 0) (bt i) (close-bits s bs i) (sound (close rule s) (close-len s) (close-closed s) (close-more s) i) (close-least mono t c s (sym n) w i))
+
+-- two starts, each within what closing the other gives, close to the same set
+pub close-same : (rule : List ℕ → ℕ → Bool) → Monotone rule → (s t : List ℕ) → length s ≡ length t → Bits s → Bits t → Within s (close rule t)
+    → Within t (close rule s) → close rule s ≡ close rule t
+unfolding Within
+close-same rule mono s t n bs bt st ts =
+    close-unique rule mono t (close rule s) (close-len rule s ∙ n) bt (close-bits rule s bs) ts (close-closed rule s)
+    (λ u l c w. close-least rule mono u c s (n ∙ sym l) (λ i e. close-least rule mono u c t (sym l) w i (st i e)))
 
 -- with more at the start, or a rule that asks for more, there is more at the end
 pub close-rises : (rule rule′ : List ℕ → ℕ → Bool) → Monotone rule → (s t : List ℕ) → length s ≡ length t

@@ -1,15 +1,10 @@
--- The four rules' theory.
+-- The theory of the four rules and of the plan: `Monotone`, `Plans`, `Passes`. `Rows`: each rule by the rows that make it ask. `Suffix`: rule (i) splits an order.
+-- `Sets`: the marks that the passes read. `Roots`: the analysed entries' roots.
 pub mod Lists
 pub mod Monotone
 pub mod Plans
 pub mod Passes
-pub mod Leads
 pub mod Suffix
 pub mod Rows
-pub mod Touches
-pub mod Spreading
-pub mod Edging
-pub mod Parts
-pub mod Marking
-pub mod Extending
-pub mod Listing
+pub mod Sets
+pub mod Roots

@@ -1,8 +1,8 @@
 -- Laws of tests and lists that the rules' theory uses.
 -- Assumes nothing.
-use mathlib.Core.Path.{_≡_, refl}
+use mathlib.Core.Path.{_≡_}
 use mathlib.Core.Logic.{⊎-elim}
-use mathlib.Core.Bool.{Bool, true, false, cond, _&&_, _||_, true≢false}
+use mathlib.Core.Bool.{Bool, true, false, cond, _&&_, _||_}
 use mathlib.Core.List.{List}
 use Prim.Native.Nat.{ℕ, _≤_, _<_}
 use native.Mathlib.Decide.{decLt}
@@ -24,10 +24,6 @@ and-right a g = and-more {a = a} {c = a} (λ e. e) g
 
 pub or-more : {a b c d : Bool} → (a ≡ true → c ≡ true) → (b ≡ true → d ≡ true) → (a || b) ≡ true → (c || d) ≡ true
 or-more {a} {b} {c} {d} f g e = ⊎-elim (λ l. or-left c d (f l)) (λ r. or-right c d (g r)) (or-parts a b e)
-
-pub or-skip : (a b : Bool) → a ≡ false → (a || b) ≡ b
-or-skip true b e = absurd (true≢false e)
-or-skip false b e = refl
 
 pub cond-more : (c : Bool) {a b a′ b′ : Bool} → (a ≡ true → a′ ≡ true) → (b ≡ true → b′ ≡ true) → cond c a b ≡ true → cond c a′ b′ ≡ true
 cond-more true f g e = f e

@@ -1,78 +1,48 @@
--- Passes: marking one module after another makes a pass, passes of several rules in turn are one pass of the rules together, and passes until
--- nothing changes end at the least closed set.
+-- Passes: what is added to a set is a pass, passes of several rules in turn are one pass of the rules together, and passes until nothing changes
+-- end at the least closed set.
 -- Assumes nothing.
 use mathlib.Core.Path.{_≡_, refl, sym, ap, subst, _∙_}
 use mathlib.Core.Logic.{⊎-elim}
 use mathlib.Core.Bool.{Bool, true, false, _||_, true≢false, false≢true}
 use mathlib.Core.List.{List}
-use Prim.Native.Nat.{ℕ, _+_, _≤_, _<_}
+use Prim.Native.Nat.{ℕ, _+_, _<_}
 use native.Mathlib.Omega.{arith}
-use lib.ListN.{length, getD, set, length-set}
+use lib.ListN.{length}
 use Rattle.lists.specs.Words.{has, zeros, bit}
-use Rattle.lists.proofs.Laws.{or-parts, or-left, or-right}
+use Rattle.lists.proofs.Laws.{or-parts, or-left, or-right, has-in}
 use Rattle.walk.specs.Close.{close, Within, Closed, Monotone, Bits}
-use Rattle.walk.proofs.Visits.{fresh-zero, set-zeros, set-bits}
 use Rattle.walk.proofs.Closes.{close-unique}
 use Rattle.tables.specs.Project.{Project}
-use Rattle.marks.proofs.Steps.{has-set, set-has}
-use Rattle.wrap_rules.specs.Passes.{Passed}
-use Rattle.wrap_rules.specs.Plan.{suffixRule, componentRule, importRule, readRule, asks, asked, start, planFrom}
-use Rattle.wrap_rules.proofs.Monotone.{asked-monotone}
-use Rattle.wrap_rules.proofs.Plans.{start-bits}
+use Rattle.marks.specs.Steps.{Added}
+use Rattle.wrap_rules.specs.Plan.{suffixRule, componentRule, importRule, readRule, asks, asked}
+use Rattle.wrap_rules.specs.inner.Passes.{Passed}
 
-module _ (rule : List ℕ → ℕ → Bool) where
-  -- a pass under way: from s to t, some places looked at
-  pub record Passing (s t : List ℕ) (changed : Bool) : Type 0 where
-    pub len : length t ≡ length s
-    pub bits : Bits t
-    pub grows : Within s t
-    pub sound : (u : List ℕ) → length u ≡ length s → Closed rule u → Within s u → Within t u
-    pub fewer : zeros t ≤ zeros s
-    pub same : changed ≡ false → t ≡ s
-    pub falls : changed ≡ true → zeros t < zeros s
+-- what is added to a set is a pass of a rule that asks for just that
+pub passed-added : (rule : List ℕ → ℕ → Bool) (f : ℕ → Type 0) → Monotone rule → {s t : List ℕ} {changed : Bool} → Bits s
+    → ((m : ℕ) → f m → rule s m ≡ true) → ((m : ℕ) → m < length s → rule s m ≡ true → f m) → Added f s t changed → Passed rule s t changed
+unfolding Within Closed Monotone
+passed-added rule f mono {s} {t} b there back a = record {
+  len = a .len;
+  bits = a .bits b;
+  grows = a .old;
+  sound = λ u n c w m e. ⊎-elim (w m) (λ h. c m (omega (arith, has-in t m e, a .len, n)) (mono s u (sym n) w m (there m h))) (a .only m e);
+  fewer = a .fewer;
+  still = λ e. (a .same e, λ m l h. subst (λ (x : List ℕ). has x m ≡ true) (a .same e) (a .all m l (back m l h)));
+  falls = a .falls;
+}
 
-  pub passing-start : (s : List ℕ) → Bits s → Passing s s false
-  unfolding Within
-  passing-start s b = record {
-    len = refl;
-    bits = b;
-    grows = λ i e. e;
-    sound = λ u n c w. w;
-    fewer = omega arith;
-    same = λ e. refl;
-    falls = λ e. absurd (false≢true e);
-  }
-
-  -- a place that the rule asks for, by what was in at first or has come in since, is put in
-  pub passing-put : Monotone rule → {s t : List ℕ} {changed : Bool} → Passing s t changed → (v : List ℕ) → length v ≡ length s → Within v t
-      → (m : ℕ) → rule v m ≡ true → m < length t → getD t m 0 ≡ 0 → Passing s (set t m 1) true
-  unfolding Within Closed Monotone
-  passing-put mono {s} {t} g v n w m a l e =
-      let z = set-zeros t m (fresh-zero t m l e) in
-      record {
-        len = length-set t m 1 ∙ g .len;
-        bits = set-bits t m (g .bits);
-        grows = λ i h. has-set t m i (g .grows i h);
-        sound = λ u k c d i h.
-            let t-in-u : (j : ℕ) → has t j ≡ true → has u j ≡ true = g .sound u k c d in
-            let m-in-u : has u m ≡ true = c m (omega (arith, g .len)) (mono v u (n ∙ sym k) (λ j q. t-in-u j (w j q)) m a) in
-            ⊎-elim (λ q. subst (λ (j : ℕ). has u j ≡ true) (sym q) m-in-u) (t-in-u i) (set-has t m i h);
-        fewer = omega (arith, g .fewer);
-        same = λ q. absurd (true≢false q);
-        falls = λ q. omega (arith, g .fewer);
-      }
-
-  -- every place was looked at: where nothing changed the rule asks for nothing that is out
-  pub passing-end : {s t : List ℕ} {changed : Bool} → Passing s t changed → (changed ≡ false → Closed rule s) → Passed rule s t changed
-  passing-end g c = record {
-    len = g .len;
-    bits = g .bits;
-    grows = g .grows;
-    sound = g .sound;
-    fewer = g .fewer;
-    still = λ e. (g .same e, c e);
-    falls = g .falls;
-  }
+-- nothing is added to a closed set
+pub passed-closed : (rule : List ℕ → ℕ → Bool) (s : List ℕ) → Bits s → Closed rule s → Passed rule s s false
+unfolding Within
+passed-closed rule s b c = record {
+  len = refl;
+  bits = b;
+  grows = λ m e. e;
+  sound = λ u n d w. w;
+  fewer = omega arith;
+  still = λ e. (refl, c);
+  falls = λ e. absurd (false≢true e);
+}
 
 -- two rules together
 abbrev pub join : (List ℕ → ℕ → Bool) → (List ℕ → ℕ → Bool) → List ℕ → ℕ → Bool
@@ -147,8 +117,3 @@ module _ (orders : List (List ℕ)) (labels : List ℕ) (p : Project) where
       pass-then (asks orders labels p suffixRule) (join (asks orders labels p componentRule) (join (asks orders labels p importRule) (asks orders labels p readRule))) f
       (pass-then (asks orders labels p componentRule) (join (asks orders labels p importRule) (asks orders labels p readRule)) g
       (pass-then (asks orders labels p importRule) (asks orders labels p readRule) h k))
-
-  -- and passes until nothing changes end at the plan
-  pub spread-plan : (seeds : List ℕ) {t : List ℕ} → Spread (asked orders labels p) (start orders labels p seeds) t false → t ≡ planFrom orders labels p seeds
-  unfolding planFrom
-  spread-plan seeds g = spread-end (asked orders labels p) (asked-monotone orders labels p) (start-bits orders labels p seeds) g

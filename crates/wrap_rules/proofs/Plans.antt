@@ -1,5 +1,5 @@
 -- The plan from seeds is the least set of modules that holds the eligible seeds and is closed under each rule; more seeds or rules that ask for
--- more give more; and a set that lies between the start and every closed set and is closed is the plan.
+-- more give more; seeds that lie in each other's plan give the same.
 -- Assumes nothing.
 use mathlib.Core.Path.{_≡_, refl, sym, _∙_}
 use mathlib.Core.Bool.{true, _&&_}
@@ -7,30 +7,18 @@ use mathlib.Core.List.{List}
 use Prim.Native.Nat.{ℕ, _<_}
 use lib.ListN.{length}
 use Rattle.lists.specs.Words.{elem, has, marksOf}
-use Rattle.lists.proofs.Laws.{and-parts, and-join, elem-mem, has-in, length-marksOf, has-marksOf, marks-test}
-use Rattle.walk.specs.Walk.{everywhere, postOrder}
-use Rattle.walk.proofs.Orders.{order-met}
+use Rattle.lists.proofs.Laws.{and-parts, and-join, has-in, length-marksOf, has-marksOf}
 use Rattle.walk.specs.Close.{Within, Closed, Bits}
-use Rattle.walk.proofs.Closes.{close-len, close-bits, close-closed, close-more, close-least, close-unique, close-rises}
+use Rattle.walk.proofs.Closes.{close-len, close-bits, close-closed, close-more, close-least, close-same, close-rises}
 use Rattle.tables.specs.Project.{Project}
-use Rattle.tables.specs.Readings.{modules, isImport, normalTarget, targetsOf}
+use Rattle.tables.specs.Readings.{modules}
 use Rattle.sensitivity.specs.Marks.{sensitive}
 use Rattle.eligibility.specs.Eligible.{eligible}
 use Rattle.eligibility.proofs.Eligible.{eligible-in}
 use Rattle.wrap_rules.specs.Rules.{suffixAsks, componentAsks, importAsks, readAsks}
-use Rattle.wrap_rules.specs.Plan.{Rule, suffixRule, componentRule, importRule, readRule, roots, reached, asks, asked, start, planFrom}
+use Rattle.wrap_rules.specs.Plan.{Rule, suffixRule, componentRule, importRule, readRule, asks, asked, start, planFrom}
 use Rattle.wrap_rules.proofs.Lists.{marksOf-bits}
 use Rattle.wrap_rules.proofs.Monotone.{asked-monotone, asks-asked, asked-asks}
-
--- a reached module has a row, and the marks of the reached modules are that test
-pub reached-in : (p : Project) (m : ℕ) → reached p m ≡ true → m < modules p
-unfolding reached
-reached-in p m e =
-    order-met (targetsOf isImport normalTarget (p .normal) (p .recordModule) (p .recordKind) (p .recordTarget)) everywhere (modules p) (roots p) m
-    (elem-mem m (postOrder (targetsOf isImport normalTarget (p .normal) (p .recordModule) (p .recordKind) (p .recordTarget)) everywhere (modules p) (roots p)) e) .0
-
-pub reached-marks : (p : Project) → has (marksOf (reached p) (modules p)) ≡ reached p
-reached-marks p = marks-test (reached p) (modules p) (reached-in p)
 
 module _ (orders : List (List ℕ)) (labels : List ℕ) (p : Project) where
   -- a rule asks for eligible modules only
@@ -111,16 +99,6 @@ module _ (orders : List (List ℕ)) (labels : List ℕ) (p : Project) where
         all : (i : ℕ) → i < modules p → has (marksOf (eligible p) (modules p)) i ≡ eligible p i
         all = has-marksOf (eligible p) (modules p)
 
-    -- a set of marks that holds the start, is closed under each rule and lies within every such set is the plan
-    pub plan-unique : (t : List ℕ) → length t ≡ modules p → Bits t → Within (start orders labels p seeds) t
-        → ((rule : Rule) → Closed (asks orders labels p rule) t)
-        → ((u : List ℕ) → length u ≡ modules p → ((rule : Rule) → Closed (asks orders labels p rule) u) → Within (start orders labels p seeds) u → Within t u)
-        → t ≡ planFrom orders labels p seeds
-    unfolding planFrom
-    plan-unique t n b w c sound =
-        close-unique (asked orders labels p) (asked-monotone orders labels p) (start orders labels p seeds) t (n ∙ sym start-length) start-bits b w (closed-each t c)
-        (λ u k d v. sound u (k ∙ start-length) (each-closed u d) v)
-
 -- more seeds, or rules that ask for more, never remove a member
 pub plan-rises : (orders orders′ : List (List ℕ)) (labels labels′ : List ℕ) (p p′ : Project) (seeds seeds′ : List ℕ) → modules p ≡ modules p′
     → ((m : ℕ) → eligible p m ≡ true → elem m seeds ≡ true → (eligible p′ m ≡ true) × (elem m seeds′ ≡ true))
@@ -136,3 +114,15 @@ plan-rises orders orders′ labels labels′ p p′ seeds seeds′ n h a =
 pub plan-more-seeds : (orders : List (List ℕ)) (labels : List ℕ) (p : Project) (seeds seeds′ : List ℕ)
     → ((m : ℕ) → elem m seeds ≡ true → elem m seeds′ ≡ true) → Within (planFrom orders labels p seeds) (planFrom orders labels p seeds′)
 plan-more-seeds orders labels p seeds seeds′ h = plan-rises orders orders labels labels p p seeds seeds′ refl (λ m e s. (e, h m s)) (λ rule S n m e. e)
+
+-- seeds whose eligible ones are in the plan from the others, both ways, give the same plan
+pub plan-same : (orders : List (List ℕ)) (labels : List ℕ) (p : Project) (seeds seeds′ : List ℕ)
+    → ((m : ℕ) → eligible p m ≡ true → elem m seeds ≡ true → has (planFrom orders labels p seeds′) m ≡ true)
+    → ((m : ℕ) → eligible p m ≡ true → elem m seeds′ ≡ true → has (planFrom orders labels p seeds) m ≡ true)
+    → planFrom orders labels p seeds ≡ planFrom orders labels p seeds′
+unfolding planFrom Within
+plan-same orders labels p seeds seeds′ h h′ =
+    close-same (asked orders labels p) (asked-monotone orders labels p) (start orders labels p seeds) (start orders labels p seeds′)
+    (start-length orders labels p seeds ∙ sym (start-length orders labels p seeds′)) (start-bits orders labels p seeds) (start-bits orders labels p seeds′)
+    (λ m e. let r = start-has orders labels p seeds m e in h m (r .0) (r .1))
+    (λ m e. let r = start-has orders labels p seeds′ m e in h′ m (r .0) (r .1))

@@ -3,21 +3,20 @@
 use mathlib.Core.Path.{_≡_, refl, sym, subst, _∙_}
 use mathlib.Core.Logic.{⊎-elim}
 use mathlib.Core.Bool.{Bool, true, cond, _&&_}
-use mathlib.Core.List.{List, [], _∷_, flatMap, List·Memᴰ, List·Memᴰ·head, List·Memᴰ·tail, List·Memᴰ·not-nil, List·Memᴰ·cases-cons, List·Memᴰ·eq-of-singleton, Memᴰ·append-left, Memᴰ·append-right}
+use mathlib.Core.List.{List, [], _∷_, flatMap, List·Memᴰ, List·Memᴰ·head, List·Memᴰ·tail, List·Memᴰ·not-nil, List·Memᴰ·cases-cons, List·Memᴰ·append-cases, List·Memᴰ·eq-of-singleton, Memᴰ·append-left, Memᴰ·append-right}
 use Prim.Native.Nat.{ℕ, zero, suc, _≤_, _<_}
 use native.Mathlib.Nat.{not-suc-le-zero}
 use native.Mathlib.Omega.{arith}
 use lib.ListN.{length, getD}
 use lib.Dec.{eqb}
 use borrow.Author.Tests.{eq-eqb, ne-eqb, eqb-true, eqb-false}
-use Rattle.lists.specs.Words.{upTo, any, elem, has}
-use Rattle.lists.proofs.Laws.{both, and-parts, and-join, any-mem, mem-any, elem-mem, mem-elem, mem-keep, keep-mem, mem-upTo, upTo-mem}
+use Rattle.lists.specs.Words.{upTo, any, has}
+use Rattle.lists.proofs.Laws.{both, and-parts, and-join, any-mem, mem-any, mem-keep, keep-mem, mem-upTo, upTo-mem}
 use Rattle.tables.specs.Project.{Project, missing}
 use Rattle.tables.specs.Readings.{modules, isNormal, flagged, isImport, resolved, anyTarget, rowTargets, targetsOf, rowsOf, valuesOf}
 use Rattle.tables.proofs.Accepted.{getD-mem}
 use Rattle.tables.proofs.OwnerRows.{values-row, row-values}
-use Rattle.actual_order.proofs.Actuals.{mem-flat}
-use Rattle.wrap_rules.specs.Rules.{fromFirst, suffixAsks, sameComponent, componentAsks, importsOf, leads, importAsks, referenceTouches, readAsks}
+use Rattle.wrap_rules.specs.Rules.{fromFirst, sameComponent, componentAsks, importsOf, leads, importAsks, referenceTouches, readAsks}
 
 -- the rows of an owner
 pub mem-rows : {row : ℕ} (owner : List ℕ) (m : ℕ) → List·Memᴰ row (rowsOf owner m) → (row < length owner) × (getD owner row 0 ≡ m)
@@ -53,22 +52,6 @@ places-fromFirst f (y ∷ xs) (suc i) zero l k e = absurd (not-suc-le-zero l)
 places-fromFirst f (y ∷ xs) (suc i) (suc j) l k e =
     ⊎-elim (λ q. rw q (List·Memᴰ·tail (getD-mem xs j (omega arith)))) (λ q. rw q (places-fromFirst f xs i j (omega arith) (omega arith) e)) (both (f y))
 
-module _ (eligible : ℕ → Bool) (orders : List (List ℕ)) (S : List ℕ) where
-  pub suffix-asks : (order : List ℕ) → List·Memᴰ order orders → (i j : ℕ) → i ≤ j → j < length order → has S (getD order i 0) ≡ true → eligible (getD order j 0) ≡ true
-      → suffixAsks eligible orders S (getD order j 0) ≡ true
-  unfolding suffixAsks
-  suffix-asks order h i j l k e g =
-      and-join (eligible (getD order j 0)) _ g
-      (mem-any (λ (xs : List ℕ). elem (getD order j 0) (fromFirst (has S) xs)) orders h (mem-elem (getD order j 0) (fromFirst (has S) order) (places-fromFirst (has S) order i j l k e)))
-
-  pub suffix-rows : (m : ℕ) → suffixAsks eligible orders S m ≡ true
-      → (eligible m ≡ true) × ((order : List ℕ) × List·Memᴰ order orders × ((i j : ℕ) × (i ≤ j) × (j < length order) × (has S (getD order i 0) ≡ true) × (getD order j 0 ≡ m)))
-  unfolding suffixAsks
-  suffix-rows m e =
-      let a = and-parts (eligible m) _ e in
-      let r = any-mem (λ (xs : List ℕ). elem m (fromFirst (has S) xs)) orders (a .1) in
-      (a .0, (r .0, r .1, fromFirst-places (has S) (r .0) (elem-mem m (fromFirst (has S) (r .0)) (r .2))))
-
 -- (ii) by a member row and a planned module of the same component
 
 module _ (sensitive eligible : ℕ → Bool) (labels : List ℕ) (p : Project) (S : List ℕ) where
@@ -98,6 +81,17 @@ module _ (sensitive eligible : ℕ → Bool) (labels : List ℕ) (p : Project) (
       (a .0, b .0, (r .0, q .0, mem-upTo (r .1), eqb-true (getD (p .member) (r .0) 0) m (c .0), mem-upTo (q .1), d .0, d .1))
 
 -- (iii) by a dependency row with a planned dependency, and a kind 0 record whose target is planned or leads to a planned module
+
+-- members of a list of lists in turn
+
+pub mem-flat : {x : ℕ} (f : ℕ → List ℕ) (ys : List ℕ) → List·Memᴰ x (flatMap f ys) → (y : ℕ) × List·Memᴰ y ys × List·Memᴰ x (f y)
+unfolding flatMap
+mem-flat f [] h = absurd (List·Memᴰ·not-nil h)
+mem-flat f (y ∷ ys) h =
+    ⊎-elim
+    (λ a. (y, List·Memᴰ·head refl, a))
+    (λ b. let r = mem-flat f ys b in (r .0, List·Memᴰ·tail (r .1), r .2))
+    (List·Memᴰ·append-cases (f y) h)
 
 pub flat-mem : {x y : ℕ} (f : ℕ → List ℕ) (ys : List ℕ) → List·Memᴰ y ys → List·Memᴰ x (f y) → List·Memᴰ x (flatMap f ys)
 unfolding flatMap

@@ -1,8 +1,4 @@
--- The four rules, and the plan from seeds. `Passes` to `Roots` are what the functions on tested tables ask and ensure.
+-- The four rules, and the plan from seeds.
 pub mod Rules
 pub mod Plan
-pub mod Passes
-pub mod Spread
-pub mod Asked
-pub mod Suffix
-pub mod Roots
+pub mod inner

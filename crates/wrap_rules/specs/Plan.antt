@@ -4,11 +4,12 @@ use mathlib.Core.Bool.{Bool, _&&_, _||_}
 use mathlib.Core.List.{List, map}
 use Prim.Native.Nat.{ℕ}
 use lib.ListN.{getD}
-use Rattle.lists.specs.Words.{elem, marksOf}
+use Rattle.lists.specs.Words.{keep, elem, marksOf}
 use Rattle.walk.specs.Walk.{everywhere, postOrder}
 use Rattle.walk.specs.Close.{close}
 use Rattle.tables.specs.Project.{Project}
 use Rattle.tables.specs.Readings.{modules, isImport, normalTarget, targetsOf, analysed}
+use Rattle.expected_order.specs.OfProject.{expectedOf}
 use Rattle.sensitivity.specs.Marks.{sensitive}
 use Rattle.eligibility.specs.Eligible.{eligible}
 use Rattle.wrap_rules.specs.Rules.{suffixAsks, componentAsks, importAsks, readAsks}
@@ -16,6 +17,14 @@ use Rattle.wrap_rules.specs.Rules.{suffixAsks, componentAsks, importAsks
 -- the modules of the analysed entries, in row order
 abbrev pub roots : Project → List ℕ
 roots p = map (λ (row : ℕ). getD (p .entry) row 0) (analysed p)
+
+-- an entry's expected sensitive order: "its expected .. order with all but the sensitive modules left out"
+unfoldable pub expectedSensitiveOf : Project → ℕ → List ℕ
+expectedSensitiveOf p root = keep (sensitive p) (expectedOf p root)
+
+-- the analysed entries' expected sensitive orders, in row order
+unfoldable pub ordersOf : Project → List (List ℕ)
+ordersOf p = map (expectedSensitiveOf p) (roots p)
 
 -- "reached by kind 0 records over normal modules from an analysed entry, the entry itself counted"
 unfoldable pub reached : Project → ℕ → Bool

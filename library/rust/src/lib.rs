@@ -4,15 +4,15 @@
 /// The missing mark.
 pub const MISSING: u32 = u32::MAX;
 
-/// How many lists a table has.
-pub const LISTS: usize = 14;
+/// How many columns a table has.
+pub const COLUMNS: usize = 33;
 
-/// A project: the two settings, the row count of each list, and all columns one after the other.
+/// A project: the two settings, where each column starts, with where the last ends, and all columns one after the other.
 #[derive(Clone, Copy, Debug)]
 pub struct Table<'a> {
   pub runtime: u32,
   pub dynamic: u32,
-  pub counts: &'a [u32],
+  pub bounds: &'a [u32],
   pub columns: &'a [u32],
 }
 
@@ -35,7 +35,7 @@ macro_rules! operations {
   ($($(#[$about:meta])* $safe:ident = $name:ident [$($value:ident)*] [$($list:ident)*] [$($output:ident)*];)*) => {
     unsafe extern "C" {
       $(fn $name(
-        runtime: u32, dynamic: u32, counts: *const u32, _: usize, columns: *const u32, _: usize,
+        runtime: u32, dynamic: u32, bounds: *const u32, _: usize, columns: *const u32, _: usize,
         $($value: u32,)* $($list: *const u32, _: usize,)* $($output: *mut u32, _: usize,)*
       ) -> u64;)*
     }
@@ -47,7 +47,7 @@ macro_rules! operations {
         answer(unsafe {
           $name(
             self.runtime, self.dynamic,
-            self.counts.as_ptr(), self.counts.len(), self.columns.as_ptr(), self.columns.len(),
+            self.bounds.as_ptr(), self.bounds.len(), self.columns.as_ptr(), self.columns.len(),
             $($value,)* $($list.as_ptr(), $list.len(),)* $($output.as_mut_ptr(), $output.len(),)*
           )
         })

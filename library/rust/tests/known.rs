@@ -1,5 +1,8 @@
 //! Each function on document 01's listing, with the answers that it marks.
-use jolmuqter::{MISSING, Refused, Table};
+use jolmuqter::{COLUMNS, MISSING, Refused, Table};
+
+/// How many columns each list has.
+const WIDTHS: [usize; 14] = [7, 3, 2, 2, 2, 2, 2, 3, 2, 1, 2, 2, 2, 1];
 
 /// The rows of each list.
 type Lists = Vec<Vec<Vec<u32>>>;
@@ -22,23 +25,24 @@ fn listing() -> Lists {
   lists
 }
 
-/// Their counts and columns.
-fn flat(lists: &Lists) -> (Vec<u32>, Vec<u32>) {
-  let counts = lists.iter().map(|rows| rows.len() as u32).collect();
-  let mut columns = Vec::new();
-  for rows in lists {
-    for column in 0..rows.first().map_or(0, Vec::len) {
+/// Their bounds and columns.
+fn table(lists: &Lists) -> (Vec<u32>, Vec<u32>) {
+  let (mut bounds, mut columns) = (vec![0], Vec::new());
+  for (rows, width) in lists.iter().zip(WIDTHS) {
+    for column in 0..width {
       columns.extend(rows.iter().map(|row| row[column]));
+      bounds.push(columns.len() as u32);
     }
   }
-  (counts, columns)
+  assert_eq!(bounds.len(), COLUMNS + 1);
+  (bounds, columns)
 }
 
 fn with<T>(change: impl FnOnce(&mut Lists), ask: impl FnOnce(Table) -> T) -> T {
   let mut lists = listing();
   change(&mut lists);
-  let (counts, columns) = flat(&lists);
-  ask(Table { runtime: 0, dynamic: 0, counts: &counts, columns: &columns })
+  let (bounds, columns) = table(&lists);
+  ask(Table { runtime: 0, dynamic: 0, bounds: &bounds, columns: &columns })
 }
 
 fn unchanged(_: &mut Lists) {}
@@ -161,13 +165,30 @@ fn plans_the_whole() {
 }
 
 #[test]
-fn refuses_counts_that_do_not_match() {
+fn refuses_bounds_that_do_not_fit() {
   let mut order = [9; 4];
   let mut ask = |table: Table| table.expected_order(1, &mut order);
-  assert_eq!(with(unchanged, |table| ask(Table { counts: &[], ..table })), Err(Refused(1)));
-  assert_eq!(with(unchanged, |table| ask(Table { counts: &table.counts[..13], ..table })), Err(Refused(1)));
+  assert_eq!(with(unchanged, |table| ask(Table { bounds: &[], ..table })), Err(Refused(1)));
+  assert_eq!(with(unchanged, |table| ask(Table { bounds: &table.bounds[..33], ..table })), Err(Refused(1)));
+  for (bound, value) in [(0, 1), (7, 0), (7, MISSING), (33, 51), (33, 53)] {
+    let mut bounds = with(unchanged, |table| table.bounds.to_vec());
+    bounds[bound] = value;
+    assert_eq!(with(unchanged, |table| ask(Table { bounds: &bounds, ..table })), Err(Refused(1)));
+  }
   assert_eq!(with(unchanged, |table| ask(Table { columns: &[], ..table })), Err(Refused(1)));
   assert_eq!(with(unchanged, |table| ask(Table { columns: &table.columns[1..], ..table })), Err(Refused(1)));
   assert_eq!(with(unchanged, |table| ask(Table { dynamic: MISSING, ..table })), Err(Refused(2)));
   assert_eq!(order, [9; 4]);
+}
+
+#[test]
+fn refuses_columns_of_one_list_that_differ_in_length() {
+  for column in 0..COLUMNS {
+    // The column has a value less, and the next one a value more.
+    let mut bounds = with(unchanged, |table| table.bounds.to_vec());
+    if bounds[column] < bounds[column + 1] && column + 1 < COLUMNS {
+      bounds[column + 1] -= 1;
+      assert_eq!(with(unchanged, |table| Table { bounds: &bounds, ..table }.refusal()), Err(Refused(1)));
+    }
+  }
 }

@@ -109,6 +109,14 @@ impl Project {
   pub fn chunks(&self) -> usize {
     self[column::ORDER].len()
   }
+  /// Where each column starts where all stand one after the other, and where the last ends.
+  pub fn bounds(&self) -> Vec<u32> {
+    let ends = self.columns.iter().scan(0, |end, column| {
+      *end += column.len() as u32;
+      Some(*end)
+    });
+    std::iter::once(0).chain(ends).collect()
+  }
   /// Adds a row to a list.
   pub fn push<const N: usize>(&mut self, first: usize, row: [u32; N]) {
     for (at, value) in row.into_iter().enumerate() {

@@ -1,7 +1,6 @@
 -- What the core functions ask and ensure.
 -- Assumes nothing.
 use mathlib.Core.Path.{_≡_}
-use mathlib.Core.Bool.{cond}
 use mathlib.Core.List.{List, [], _∷_, _++_, flatMap}
 use Prim.Native.Nat.{ℕ, _≤_, _<_}
 use lib.ListN.{length, drop}
@@ -10,8 +9,7 @@ use Rattle.walk.specs.Walk.{everywhere, postOrder}
 use Rattle.tables.specs.Lookups.{Rising}
 use Rattle.tables.specs.Accepted.{Below, BelowOrMissing}
 use Rattle.tables.specs.Refusal.{moduleLimit, chunkLimit, rowLimit}
-use Rattle.tables.specs.Project.{missing}
-use Rattle.tables.specs.Readings.{flagged, rowsOf, valuesOf, membersOf, firstOf}
+use Rattle.tables.specs.Readings.{rowsOf, membersOf}
 use Rattle.load_order.specs.inner.Rows.{Loads}
 use Rattle.visit_steps.specs.inner.Steps.{named, inWay}
 use Rattle.actual_order.specs.Actual.{Executed}
@@ -67,7 +65,3 @@ pub record Written (list old new : List ℕ) (r : ℕ) : Type 0 where
 pub record Listed (e : Executed) (order order′ hosts′ : List ℕ) (r : ℕ) : Type 0 where
   pub listed : Written (e .listed) order order′ r
   pub hosts : hosts′ ≡ e .hosts
-
--- the entry chunk of a root that is an included entry, or the mark
-unfoldable pub analysedChunk : List ℕ → List ℕ → List ℕ → ℕ → ℕ
-analysedChunk included entry entryChunk root = cond (flagged included root) (firstOf (valuesOf entry entryChunk root)) missing

@@ -1,28 +1,24 @@
--- Assumes nothing.
+use denote.Ref.{now}
 use borrow.Author.Needs.{needs}
-use Rattle.jolmuqter.proofs.Codes.{no-places}
+use Rattle.jolmuqter.proofs.OwnRecords.{tested-cut}
 use Rattle.jolmuqter.proofs.jolmuqter_refusal.Statement.{statement}
 use Rattle.jolmuqter.proofs.jolmuqter_refusal.Tie as tie
 
-slice-aggregate-call-on : tie.Need-slice-aggregate-call-on
-slice-aggregate-call-on c = search needs
-
-slice-aggregate-call-on-2 : tie.Need-slice-aggregate-call-on-2
-slice-aggregate-call-on-2 c = search needs
-
-slice-aggregate-call-on-3 : tie.Need-slice-aggregate-call-on-3
-slice-aggregate-call-on-3 c = search needs
-
-call-on-requires : tie.Need-call-on-requires
-call-on-requires c κs = search needs
-
-code-requires : tie.Need-code-requires
-code-requires c κs = search needs
-
 returns : tie.Need-returns
 returns c =
-    let on = c .before .before .before .call-on in
-    record { answer = on .result; code = c .code .ensures; called = rw (no-places (on .last .1 .1 .1 .1 .1 .0) (c .before .before .unused2 .given), no-places (on .last .1 .1 .1 .1 .1 .1 .0) (c .before .spare2 .given)) at (on .ensures) }
+    let tested = c .before .tested in
+    let number = c .before .before .refusal-number in
+    let a = c .before .before .before .before .before .before .before .before .args in
+    record {
+      answer = tested .result;
+      code = c .code .ensures;
+      promised =
+          tested-cut (a .runtime) (a .dynamic) (now (a .bounds)) (now (a .columns)) (number .result) (tested .result)
+          (c .before .before .before .before .before .column .ensures) (c .before .before .before .before .column2 .ensures) (c .before .before .before .column3 .ensures)
+          (number .ensures) (tested .ensures);
+    }
 
 pub jolmuqter-refusal-spec : {M : Type 1} → statement M
-jolmuqter-refusal-spec = tie.close (tie.spec slice-aggregate-call-on slice-aggregate-call-on-2 slice-aggregate-call-on-3 call-on-requires code-requires returns)
+jolmuqter-refusal-spec =
+    tie.close
+    (tie.spec (λ c κs. search needs) (λ c κs. search needs) (λ c κs. search needs) (λ c κs. search needs) (λ c κs. search needs) (λ c κs. search needs) returns)

@@ -11,8 +11,9 @@ use borrow.Author.Tests.{eq-eqb, ne-eqb}
 use Rattle.lists.specs.Words.{any, has, upTo}
 use Rattle.lists.proofs.Laws.{and-join, mem-any, upTo-mem, mark-in, mark-out, getD-in, and-out}
 use Rattle.tables.specs.Project.{missing}
-use Rattle.chunk_cycles.specs.Steps.{labelled, labelledAt}
-use Rattle.chunk_cycles.proofs.Lists.{none-below}
+use Rattle.component_labels.specs.inner.Labelling.{labelled}
+use Rattle.chunk_cycles.specs.inner.OverTable.{labelledAt}
+use Rattle.component_labels.proofs.Lists.{none-below}
 use Rattle.chunk_cycles.proofs.core.meets_labelled.Statement.{statement}
 use Rattle.chunk_cycles.proofs.core.meets_labelled.Tie as tie
 

@@ -8,11 +8,13 @@ use lib.ListN.{length, take, drop, replicate}
 use lib.Seq.{length-take-le, take-at}
 use Rattle.lists.specs.Words.{any, keep, upTo}
 use Rattle.tables.specs.Readings.{valuesOf}
-use Rattle.chunk_cycles.specs.Threads.{Threaded}
-use Rattle.chunk_cycles.specs.Steps.{reachMarks, labelled, labelledAt}
+use Rattle.strong_connection.specs.inner.Graph.{Threaded}
+use Rattle.strong_connection.specs.inner.Marking.{reachMarks}
+use Rattle.component_labels.specs.inner.Labelling.{labelled}
+use Rattle.chunk_cycles.specs.inner.OverTable.{labelledAt}
 use Rattle.lists.proofs.Fronts.{front-room, front-length}
-use Rattle.chunk_cycles.proofs.Threads.{threadable, threaded}
-use Rattle.chunk_cycles.proofs.Components.{reach-test, reach-none}
+use Rattle.strong_connection.proofs.Threads.{threadable, threaded}
+use Rattle.chunk_cycles.proofs.Reaching.{reach-test, reach-none}
 use borrow.Author.Needs.{needs}
 use Rattle.chunk_cycles.proofs.core.reaches_cyclic.Statement.{statement}
 use Rattle.chunk_cycles.proofs.core.reaches_cyclic.Tie as tie

@@ -1,6 +1,6 @@
 -- `expected_order::core::expected_order_for_root` meets its contract: a visit of the root over zeroed marks.
 -- Assumes nothing.
-use mathlib.Core.Path.{_≡_, refl, sym, ap, subst, _∙_}
+use mathlib.Core.Path.{_≡_, sym, ap, subst, _∙_}
 use mathlib.Core.List.{List, [], _∷_, _++_}
 use Prim.Native.Nat.{ℕ, _+_, _≤_, _<_}
 use native.Mathlib.Omega.{arith}
@@ -14,15 +14,10 @@ use Rattle.walk.proofs.Visits.{zeros-replicate}
 use Rattle.tables.specs.Lookups.{FirstRows}
 use Rattle.tables.specs.Readings.{flagged}
 use Rattle.expected_order.specs.Expected.{importsOf}
-use Rattle.expected_order.specs.Visit.{Fit, held}
+use Rattle.expected_visit.specs.Visit.{Fit, held}
 use Rattle.expected_order.proofs.Entries.{external-listed, root-listed}
 use Rattle.expected_order.proofs.core.expected_order_for_root.Statement.{statement}
 use Rattle.expected_order.proofs.core.expected_order_for_root.Tie as tie
-use Rattle.expected_order.proofs.core.expected_order_for_root.Reads as reads
-use Rattle.expected_order.proofs.core.expected_order_for_root.Lts as lts
-use Rattle.tables.proofs.core.first_rows.Reads as first-rows-reads
-use Rattle.expected_order.proofs.core.visit.Reads as visit-reads
-use Rattle.lists.proofs.core.fill.Reads as fill-reads
 
 -- the entry, seen from the first `fill`
 abbrev entry : tie.After-fill → tie.Start

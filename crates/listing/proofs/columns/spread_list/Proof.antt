@@ -1,4 +1,4 @@
-use Prim.Native.Nat.{ℕ, _+_, _-_, _≤_, _<_}
+use Prim.Native.Nat.{_+_, _-_, _≤_, _<_}
 use native.Mathlib.Omega.{arith}
 use denote.Ref.{now}
 use mathlib.Core.Path.{_∙_}
@@ -7,15 +7,15 @@ use Rattle.listing.proofs.columns.spread_list.Statement.{statement}
 use Rattle.listing.proofs.columns.spread_list.Tie as tie
 
 abbrev Inv-loop : tie.InvT-loop
-Inv-loop rows values₀ bounds₀ first w n to j k₀ at₀ values bounds k at = Spreading rows values₀ bounds₀ first w n to j values bounds k at
+Inv-loop rows bounds₀ columns₀ first w n to j k₀ at₀ bounds columns k at = Spreading rows columns₀ bounds₀ first w n to j columns bounds k at
 
 abbrev μ-loop : tie.MeasureT-loop
-μ-loop rows values₀ bounds₀ first w n to j k₀ at₀ values bounds k at = w - k
+μ-loop rows bounds₀ columns₀ first w n to j k₀ at₀ bounds columns k at = w - k
 
 loop-holds : tie.Need-loop-holds Inv-loop μ-loop
 loop-holds c =
     let a = c .before .before .args in
-    spreading (now (a .rows)) (now (a .values)) (now (a .bounds)) (a .first) (a .w) (a .n) (a .to) (a .j)
+    spreading (now (a .rows)) (now (a .columns)) (now (a .bounds)) (a .first) (a .w) (a .n) (a .to) (a .j)
 
 add-copy-column : tie.Need-add-copy-column Inv-loop μ-loop
 add-copy-column c =
@@ -29,16 +29,16 @@ copy-column-requires c κs =
     let s = c .before .before .before .before .before in
     let a = s .args in
     let l = c .before .before .loop in
-    let z = spread-sizes (now (a .rows)) (now (a .values)) (now (a .bounds)) (a .first) (a .w) (a .n) (a .to) (a .j) (l .values) (l .bounds) (l .k) (l .at) (l .inv) in
+    let z = spread-sizes (now (a .rows)) (now (a .columns)) (now (a .bounds)) (a .first) (a .w) (a .n) (a .to) (a .j) (l .columns) (l .bounds) (l .k) (l .at) (l .inv) in
     let t : l .k < a .w = c .before .loop-test .taken in
-    (λ r h. stripe-inside (a .first) (a .w) (a .n) (l .k) r 32768 t h (s .pre .0), s .pre .2, spread-room (now (a .rows)) (now (a .values)) (now (a .bounds)) (a .first) (a .w) (a .n) (a .to) (a .j) (l .values) (l .bounds) (l .k) (l .at) (l .inv) t (s .pre .1), z .0 ∙ s .pre .4)
+    (λ r h. stripe-inside (a .first) (a .w) (a .n) (l .k) r 32768 t h (s .pre .0), s .pre .2, spread-room (now (a .rows)) (now (a .columns)) (now (a .bounds)) (a .first) (a .w) (a .n) (a .to) (a .j) (l .columns) (l .bounds) (l .k) (l .at) (l .inv) t (s .pre .1), z .0 ∙ s .pre .4)
 
 add-at : tie.Need-add-at Inv-loop μ-loop
 add-at c =
     let s = c .before .before .before .before .before .before .before .before in
     let a = s .args in
     let l = c .before .before .before .before .before .loop in
-    let h : l .at + a .n ≤ 32768 = spread-room (now (a .rows)) (now (a .values)) (now (a .bounds)) (a .first) (a .w) (a .n) (a .to) (a .j) (l .values) (l .bounds) (l .k) (l .at) (l .inv) (c .before .before .before .before .loop-test .taken) (s .pre .1) in
+    let h : l .at + a .n ≤ 32768 = spread-room (now (a .rows)) (now (a .columns)) (now (a .bounds)) (a .first) (a .w) (a .n) (a .to) (a .j) (l .columns) (l .bounds) (l .k) (l .at) (l .inv) (c .before .before .before .before .loop-test .taken) (s .pre .1) in
     omega arith
 
 add-k : tie.Need-add-k Inv-loop μ-loop
@@ -47,6 +47,14 @@ add-k c =
     let a = s .args in
     let l = c .before .before .before .before .before .loop in
     omega (arith, c .before .before .before .before .loop-test .taken, s .pre .2)
+
+cast-bounds : tie.Need-cast-bounds Inv-loop μ-loop
+cast-bounds c =
+    let s = c .before .before .before .before .before .before .before .before in
+    let a = s .args in
+    let l = c .before .before .before .before .before .loop in
+    let h : l .at + a .n ≤ 32768 = spread-room (now (a .rows)) (now (a .columns)) (now (a .bounds)) (a .first) (a .w) (a .n) (a .to) (a .j) (l .columns) (l .bounds) (l .k) (l .at) (l .inv) (c .before .before .before .before .loop-test .taken) (s .pre .1) in
+    omega arith
 
 add-bounds : tie.Need-add-bounds Inv-loop μ-loop
 add-bounds c =
@@ -67,7 +75,7 @@ slice-write-bounds c =
     let s = c .before .before .before .before .before .before .before .before in
     let a = s .args in
     let l = c .before .before .before .before .before .loop in
-    let z = spread-sizes (now (a .rows)) (now (a .values)) (now (a .bounds)) (a .first) (a .w) (a .n) (a .to) (a .j) (l .values) (l .bounds) (l .k) (l .at) (l .inv) in
+    let z = spread-sizes (now (a .rows)) (now (a .columns)) (now (a .bounds)) (a .first) (a .w) (a .n) (a .to) (a .j) (l .columns) (l .bounds) (l .k) (l .at) (l .inv) in
     omega (arith, c .before .before .before .before .loop-test .taken, s .pre .3, s .pre .5, z .1)
 
 loop-less : tie.Need-loop-less Inv-loop μ-loop
@@ -82,28 +90,28 @@ loop-again c =
     let s = c .before .before .before .before .before .before .before .before in
     let a = s .args in
     let l = c .before .before .before .before .before .loop in
-    spread-more (now (a .rows)) (now (a .values)) (now (a .bounds)) (a .first) (a .w) (a .n) (a .to) (a .j) (l .values) (l .bounds) (l .k) (l .at) (l .inv) (c .before .before .copy-column .last .1 .1 .1 .1 .0) (c .before .before .before .before .loop-test .taken) (c .before .before .copy-column .ensures)
+    spread-more (now (a .rows)) (now (a .columns)) (now (a .bounds)) (a .first) (a .w) (a .n) (a .to) (a .j) (l .columns) (l .bounds) (l .k) (l .at) (l .inv) (c .before .before .copy-column .last .1 .1 .1 .1 .0) (c .before .before .before .before .loop-test .taken) (c .before .before .copy-column .ensures)
 
 same-length : tie.Need-same-length Inv-loop μ-loop
 same-length c =
     let s = c .before .before .before .before in
     let a = s .args in
     let l = c .before .loop in
-    spread-sizes (now (a .rows)) (now (a .values)) (now (a .bounds)) (a .first) (a .w) (a .n) (a .to) (a .j) (l .values) (l .bounds) (l .k) (l .at) (l .inv) .0
+    spread-sizes (now (a .rows)) (now (a .columns)) (now (a .bounds)) (a .first) (a .w) (a .n) (a .to) (a .j) (l .columns) (l .bounds) (l .k) (l .at) (l .inv) .1
 
 same-length-2 : tie.Need-same-length-2 Inv-loop μ-loop
 same-length-2 c =
     let s = c .before .before .before .before in
     let a = s .args in
     let l = c .before .loop in
-    spread-sizes (now (a .rows)) (now (a .values)) (now (a .bounds)) (a .first) (a .w) (a .n) (a .to) (a .j) (l .values) (l .bounds) (l .k) (l .at) (l .inv) .1
+    spread-sizes (now (a .rows)) (now (a .columns)) (now (a .bounds)) (a .first) (a .w) (a .n) (a .to) (a .j) (l .columns) (l .bounds) (l .k) (l .at) (l .inv) .0
 
 returns : tie.Need-returns Inv-loop μ-loop
 returns c =
     let s = c .before .before .before .before in
     let a = s .args in
     let l = c .before .loop in
-    let e = spread-end (now (a .rows)) (now (a .values)) (now (a .bounds)) (a .first) (a .w) (a .n) (a .to) (a .j) (l .values) (l .bounds) (l .k) (l .at) (l .inv) (c .loop-test .left) in
+    let e = spread-end (now (a .rows)) (now (a .columns)) (now (a .bounds)) (a .first) (a .w) (a .n) (a .to) (a .j) (l .columns) (l .bounds) (l .k) (l .at) (l .inv) (c .loop-test .left) in
     (e .0, (e .1, e .2))
 
 pub spread-list-spec : {M : Type 1} → statement M
@@ -117,6 +125,7 @@ spread-list-spec =
     copy-column-requires
     add-at
     add-k
+    cast-bounds
     add-bounds
     mul-bounds
     slice-write-bounds

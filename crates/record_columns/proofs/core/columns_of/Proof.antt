@@ -47,13 +47,13 @@ use denote.Triple.Table.{entered, cited}
 use denote.Triple.Walked.{says}
 use Rattle.tables.specs.Refusal.{rowLimit}
 use Rattle.record_columns.specs.declared.Record.{Record}
-use Rattle.record_columns.specs.Rows.{noRow, importersOf, kindsOf, targetsOf, copied, table, columnsOf}
+use Rattle.record_columns.specs.Rows.{noRow, importerColumn, kindColumn, targetColumn, copied, padded, columnsOf}
 use Rattle.record_columns.proofs.Record as Row
 use Rattle.record_columns.proofs.core.Columns as Cols
 use Rattle.record_columns.proofs.core.Columns.Laws as Cols′
 use Rattle.record_columns.proofs.Around.{met-by, and-nothing}
 use Rattle.record_columns.proofs.Arrays.{arrVal, arr-typed, zeros-are, zeros-typed, opened, closed, stored}
-use Rattle.record_columns.proofs.Copied.{copied-le, copied-limit, table-long}
+use Rattle.record_columns.proofs.Copied.{copied-le, copied-limit, padded-long}
 use Rattle.record_columns.proofs.count as n·
 use Rattle.record_columns.proofs.count.Symbol as n·-def
 use Rattle.record_columns.proofs.count.Symbol.{name as #record-columns·count}
@@ -140,11 +140,11 @@ module _ {M : Type 1} (𝓤 : URA M) (H : Heap 𝓤) (A : Atoms 𝓤) (W : Given
     goes-thin i g l = qed W (‵ (flft κ q) ∷ ‵ own-records ∷ []) ∵ says ! l $ nothing ! $ move ! (1 ∷ 0 ∷ []) $ join ! $ nothing ! $ owned ! usize (Is usize) (uint-makes 𝓤 H A W w64) i _ (refl, g) $ fjoin ! $ move ! (2 ∷ 0 ∷ []) $ fjoin ! $ move ! (1 ∷ 0 ∷ []) $ done !
 
     -- ---- the end
-    long : (g : Record → ℕ) → length (same-as (table (copied n) (map g ys))) ≡ rowLimit
-    long g = length-map (table (copied n) (map g ys)) (λ (x : ℕ). x) ∙ table-long (copied n) (map g ys) (omega (arith, copied-le n, length-map ys g)) (copied-limit n)
+    long : (g : Record → ℕ) → length (same-as (padded (copied n) (map g ys))) ≡ rowLimit
+    long g = length-map (padded (copied n) (map g ys)) (λ (x : ℕ). x) ∙ padded-long (copied n) (map g ys) (omega (arith, copied-le n, length-map ys g)) (copied-limit n)
 
     abbrev Held : (Record → ℕ) → Type 0
-    Held g = Is (Array u32 rowLimit) (same-as (table (copied n) (map g ys))) (arrVal (same-as (table (copied n) (map g ys))) ∷ [])
+    Held g = Is (Array u32 rowLimit) (same-as (padded (copied n) (map g ys))) (arrVal (same-as (padded (copied n) (map g ys))) ∷ [])
 
     abbrev made : n < 2 ^ 64 → Held (λ (r : Record). r .importer) → Held (λ (r : Record). r .kind) → Held (λ (r : Record). r .target) → Is Cols.the-row (columnsOf ys) (SL.vals Cols.the-type Cols′.the-laws (columnsOf ys))
     made g a b c = SL.owes Cols.the-type Cols′.the-laws (columnsOf ys) ((refl, g), (a, (b, (c, tt))))
@@ -166,8 +166,8 @@ module _ {M : Type 1} (𝓤 : URA M) (H : Heap 𝓤) (A : Atoms 𝓤) (W : Given
     Nearer-wf : WellFounded Nearer
     Nearer-wf = InvImage·wf (λ (i : Upto). copied n - i .0) (Nat·lt-wfRel .wf)
 
-    within : (g : Record → ℕ) (i : ℕ) → i < copied n → i < length (table i (map g ys))
-    within g i l = omega (arith, table-long i (map g ys) (omega (arith, copied-le n, length-map ys g)) (omega (arith, copied-limit n)), copied-limit n)
+    within : (g : Record → ℕ) (i : ℕ) → i < copied n → i < length (padded i (map g ys))
+    within g i l = omega (arith, padded-long i (map g ys) (omega (arith, copied-le n, length-map ys g)) (omega (arith, copied-limit n)), copied-limit n)
 
     module _ (𝓣 : Tables 𝓤 H) (known : Known (𝓣 .C)) (l₀ l₁ l₂ l₃ l₄ l₅ l₆ l₇ l₈ l₉ l₁₀ l₁₁ l₁₂ l₁₃ l₁₄ l₁₅ l₁₆ l₁₇ l₁₈ l₁₉ : ℕ) where
       abbrev C : Calls 𝓤 H
@@ -181,7 +181,7 @@ module _ {M : Type 1} (𝓤 : URA M) (H : Heap 𝓤) (A : Atoms 𝓤) (W : Given
 
       -- where i rows are copied: the elements of the three arrays, the records and their token, and the locals
       abbrev At : Upto → List (Item 𝓤)
-      At i = ‵ (row u32 fullShare (table (i .0) (importersOf ys)) l₂ 0) ∷ ‵ (row u32 fullShare (table (i .0) (kindsOf ys)) l₃ 0) ∷ ‵ (row u32 fullShare (table (i .0) (targetsOf ys)) l₄ 0) ∷ ‵ own-records ∷ ‵ (flft κ q) ∷ ‵ (froom (tyArray (tyInt w32) rowLimit) l₁₉ 0) ∷ ‵ (fdies (tyArray (tyInt w32) rowLimit) l₁₉) ∷ ‵ (froom (tyArray (tyInt w32) rowLimit) l₁₈ 0) ∷ ‵ (fdies (tyArray (tyInt w32) rowLimit) l₁₈) ∷ ‵ (froom (tyArray (tyInt w32) rowLimit) l₁₇ 0) ∷ ‵ (fdies (tyArray (tyInt w32) rowLimit) l₁₇) ∷ ‵ (froom tyPtr l₁₆ 0) ∷ ‵ (fdies tyPtr l₁₆) ∷ ‵ (froom tyPtr l₁₅ 0) ∷ ‵ (fdies tyPtr l₁₅) ∷ ‵ (froom tyPtr l₁₄ 0) ∷ ‵ (fdies tyPtr l₁₄) ∷ ‵ (froom tyPtr l₁₃ 0) ∷ ‵ (fdies tyPtr l₁₃) ∷ ‵ (froom tyPtr l₁₂ 0) ∷ ‵ (fdies tyPtr l₁₂) ∷ ‵ (froom tyPtr l₁₁ 0) ∷ ‵ (fdies tyPtr l₁₁) ∷ ‵ (froom (tyInt w64) l₁₀ 0) ∷ ‵ (fdies (tyInt w64) l₁₀) ∷ ‵ (froom (tyInt w32) l₉ 0) ∷ ‵ (fdies (tyInt w32) l₉) ∷ ‵ (froom tyBool l₈ 0) ∷ ‵ (fdies tyBool l₈) ∷ ‵ (fat fullShare (tyInt w64) l₇ 0 (vint w64 (i .0))) ∷ ‵ (fdies (tyInt w64) l₇) ∷ ‵ (fat fullShare (tyInt w64) l₆ 0 (vint w64 (copied n))) ∷ ‵ (fdies (tyInt w64) l₆) ∷ ‵ (fat fullShare (tyInt w64) l₅ 0 (vint w64 n)) ∷ ‵ (fdies (tyInt w64) l₅) ∷ ‵ (fdies (tyArray (tyInt w32) rowLimit) l₄) ∷ ‵ (fdies (tyArray (tyInt w32) rowLimit) l₃) ∷ ‵ (fdies (tyArray (tyInt w32) rowLimit) l₂) ∷ ‵ (fat fullShare (sliceTy (tyRef (named 0) imm (pointee (Row.the-row .written)))) l₁ 0 (sliceVal (records .ptr) n)) ∷ ‵ (fdies (sliceTy (tyRef (named 0) imm (pointee (Row.the-row .written)))) l₁) ∷ ‵ (froom Cols′.mir l₀ 0) ∷ ‵ (fdies Cols′.mir l₀) ∷ []
+      At i = ‵ (row u32 fullShare (padded (i .0) (importerColumn ys)) l₂ 0) ∷ ‵ (row u32 fullShare (padded (i .0) (kindColumn ys)) l₃ 0) ∷ ‵ (row u32 fullShare (padded (i .0) (targetColumn ys)) l₄ 0) ∷ ‵ own-records ∷ ‵ (flft κ q) ∷ ‵ (froom (tyArray (tyInt w32) rowLimit) l₁₉ 0) ∷ ‵ (fdies (tyArray (tyInt w32) rowLimit) l₁₉) ∷ ‵ (froom (tyArray (tyInt w32) rowLimit) l₁₈ 0) ∷ ‵ (fdies (tyArray (tyInt w32) rowLimit) l₁₈) ∷ ‵ (froom (tyArray (tyInt w32) rowLimit) l₁₇ 0) ∷ ‵ (fdies (tyArray (tyInt w32) rowLimit) l₁₇) ∷ ‵ (froom tyPtr l₁₆ 0) ∷ ‵ (fdies tyPtr l₁₆) ∷ ‵ (froom tyPtr l₁₅ 0) ∷ ‵ (fdies tyPtr l₁₅) ∷ ‵ (froom tyPtr l₁₄ 0) ∷ ‵ (fdies tyPtr l₁₄) ∷ ‵ (froom tyPtr l₁₃ 0) ∷ ‵ (fdies tyPtr l₁₃) ∷ ‵ (froom tyPtr l₁₂ 0) ∷ ‵ (fdies tyPtr l₁₂) ∷ ‵ (froom tyPtr l₁₁ 0) ∷ ‵ (fdies tyPtr l₁₁) ∷ ‵ (froom (tyInt w64) l₁₀ 0) ∷ ‵ (fdies (tyInt w64) l₁₀) ∷ ‵ (froom (tyInt w32) l₉ 0) ∷ ‵ (fdies (tyInt w32) l₉) ∷ ‵ (froom tyBool l₈ 0) ∷ ‵ (fdies tyBool l₈) ∷ ‵ (fat fullShare (tyInt w64) l₇ 0 (vint w64 (i .0))) ∷ ‵ (fdies (tyInt w64) l₇) ∷ ‵ (fat fullShare (tyInt w64) l₆ 0 (vint w64 (copied n))) ∷ ‵ (fdies (tyInt w64) l₆) ∷ ‵ (fat fullShare (tyInt w64) l₅ 0 (vint w64 n)) ∷ ‵ (fdies (tyInt w64) l₅) ∷ ‵ (fdies (tyArray (tyInt w32) rowLimit) l₄) ∷ ‵ (fdies (tyArray (tyInt w32) rowLimit) l₃) ∷ ‵ (fdies (tyArray (tyInt w32) rowLimit) l₂) ∷ ‵ (fat fullShare (sliceTy (tyRef (named 0) imm (pointee (Row.the-row .written)))) l₁ 0 (sliceVal (records .ptr) n)) ∷ ‵ (fdies (sliceTy (tyRef (named 0) imm (pointee (Row.the-row .written)))) l₁) ∷ ‵ (froom Cols′.mir l₀ 0) ∷ ‵ (fdies Cols′.mir l₀) ∷ []
 
       abbrev Turned : Upto → Out → SProp 𝓤
       Turned i = afterTurn 𝓤 H (Below 𝓤 H A Nearer At i) (afterBlock 𝓤 H (afterSeq 𝓤 H (Wp 𝓤 H C Λ En steps.t-8 (atReturn 𝓤 H En Post)) (atReturn 𝓤 H En Post)))
@@ -204,9 +204,9 @@ module _ {M : Type 1} (𝓤 : URA M) (H : Heap 𝓤) (A : Atoms 𝓤) (W : Given
           land ! (from ! (stop !)) (init ! 25 refl (uint-lawful 𝓤 H A W w32 .typed r₃ _ is₃ .0)) $ rewrite ! 25 (λ (v : Val). ‵ (fat fullShare (tyInt w32) l₉ 0 v)) (ap only (is₃ .0) ∙ ap (λ (k : ℕ). vint w32 k) e₃) refl $
           assigns ! (bin ! (load ! (from ! (stop !)) (look ! 29 refl)) (lit ! tt) (record { fits = scaled })) (from ! (stop !)) (init ! 23 refl (tt, record { fits = scaled })) $ assigns ! (addr ! (from ! (stop !))) (from ! (stop !)) (init ! 21 refl (tt, tt)) $
           assigns ! (bin ! (load ! (from ! (stop !)) (look ! 21 refl)) (load ! (from ! (stop !)) (look ! 23 refl)) tt) (from ! (stop !)) (init ! 19 refl (tt, tt)) $ rewrite ! 19 (λ (p : ℕ). ‵ (fat fullShare tyPtr l₁₂ 0 (vptr l₂ p))) (sym (place-is 4 0 (i .0))) refl $
-          move ! (2 ∷ []) $ elem-out ! u32 (Is u32) (shows 𝓤 H A u32) (uint-vals w32) (uint-tells w32) fullShare (table (i .0) (importersOf ys)) (i .0) 0 l₂ 0 (within (λ (r : Record). r .importer) (i .0) less) (λ _.
+          move ! (2 ∷ []) $ elem-out ! u32 (Is u32) (shows 𝓤 H A u32) (uint-vals w32) (uint-tells w32) fullShare (padded (i .0) (importerColumn ys)) (i .0) 0 l₂ 0 (within (λ (r : Record). r .importer) (i .0) less) (λ _.
           assigns ! (of-opd ! (load ! (from ! (stop !)) (look ! 27 refl))) (from ! (hop ! (look ! 21 refl) (stop !))) (store ! 0 refl (tt, record { fits = (small r₃ (getD ys (i .0) noRow .importer) u₃ is₃ e₃) })) $ move ! (1 ∷ []) $ drop ! $ owned ! u32 (Is u32) (uint-makes 𝓤 H A W w32) (getD ys (i .0) noRow .importer) _ (refl, (small r₃ (getD ys (i .0) noRow .importer) u₃ is₃ e₃)) $ move ! (1 ∷ []) $
-          elem-put ! u32 fullShare (table (i .0) (importersOf ys)) (i .0) (getD ys (i .0) noRow .importer) (vint w32 (getD ys (i .0) noRow .importer) ∷ []) l₂ 0 (within (λ (r : Record). r .importer) (i .0) less) $ rewrite ! 0 (λ (l : List ℕ). ‵ (row u32 fullShare l l₂ 0)) (stored (λ (r : Record). r .importer) ys (i .0) noRow in-list (omega (arith, copied-limit n))) refl $
+          elem-put ! u32 fullShare (padded (i .0) (importerColumn ys)) (i .0) (getD ys (i .0) noRow .importer) (vint w32 (getD ys (i .0) noRow .importer) ∷ []) l₂ 0 (within (λ (r : Record). r .importer) (i .0) less) $ rewrite ! 0 (λ (l : List ℕ). ‵ (row u32 fullShare l l₂ 0)) (stored (λ (r : Record). r .importer) ys (i .0) noRow in-list (omega (arith, copied-limit n))) refl $
           -- the kind
           move ! (2 ∷ []) $ use1 W (‵ own-records ⊛ ‵ own-records) (shr-slice-copy 𝓤 H A W (named 0) κ Row.the-row .twice records (slice-vals records)) $ split ! $ move ! (3 ∷ 0 ∷ []) $ use2 W (raw (Thin-kind .pre (to-thin (i .0)))) (goes-thin (i .0) i-fits in-list) $
           calls-at ! (fmOf 𝓤 H (W .laws) 𝓣) Thin-kind (known .3) (to-thin (i .0)) (and-then ! (load ! (from ! (stop !)) (look ! 38 refl)) (and-then ! (load ! (from ! (stop !)) (look ! 29 refl)) (no-more !))) (λ u₄.
@@ -216,9 +216,9 @@ module _ {M : Type 1} (𝓤 : URA M) (H : Heap 𝓤) (A : Atoms 𝓤) (W : Given
           land ! (from ! (stop !)) (store ! 25 refl (uint-lawful 𝓤 H A W w32 .typed r₄ _ is₄ .0)) $ rewrite ! 25 (λ (v : Val). ‵ (fat fullShare (tyInt w32) l₉ 0 v)) (ap only (is₄ .0) ∙ ap (λ (k : ℕ). vint w32 k) e₄) refl $
           assigns ! (bin ! (load ! (from ! (stop !)) (look ! 29 refl)) (lit ! tt) (record { fits = scaled })) (from ! (stop !)) (store ! 23 refl (tt, record { fits = scaled })) $ assigns ! (addr ! (from ! (stop !))) (from ! (stop !)) (init ! 17 refl (tt, tt)) $
           assigns ! (bin ! (load ! (from ! (stop !)) (look ! 17 refl)) (load ! (from ! (stop !)) (look ! 23 refl)) tt) (from ! (stop !)) (init ! 15 refl (tt, tt)) $ rewrite ! 15 (λ (p : ℕ). ‵ (fat fullShare tyPtr l₁₄ 0 (vptr l₃ p))) (sym (place-is 4 0 (i .0))) refl $
-          move ! (3 ∷ []) $ elem-out ! u32 (Is u32) (shows 𝓤 H A u32) (uint-vals w32) (uint-tells w32) fullShare (table (i .0) (kindsOf ys)) (i .0) 0 l₃ 0 (within (λ (r : Record). r .kind) (i .0) less) (λ _.
+          move ! (3 ∷ []) $ elem-out ! u32 (Is u32) (shows 𝓤 H A u32) (uint-vals w32) (uint-tells w32) fullShare (padded (i .0) (kindColumn ys)) (i .0) 0 l₃ 0 (within (λ (r : Record). r .kind) (i .0) less) (λ _.
           assigns ! (of-opd ! (load ! (from ! (stop !)) (look ! 27 refl))) (from ! (hop ! (look ! 17 refl) (stop !))) (store ! 0 refl (tt, record { fits = (small r₄ (getD ys (i .0) noRow .kind) u₄ is₄ e₄) })) $ move ! (1 ∷ []) $ drop ! $ owned ! u32 (Is u32) (uint-makes 𝓤 H A W w32) (getD ys (i .0) noRow .kind) _ (refl, (small r₄ (getD ys (i .0) noRow .kind) u₄ is₄ e₄)) $ move ! (1 ∷ []) $
-          elem-put ! u32 fullShare (table (i .0) (kindsOf ys)) (i .0) (getD ys (i .0) noRow .kind) (vint w32 (getD ys (i .0) noRow .kind) ∷ []) l₃ 0 (within (λ (r : Record). r .kind) (i .0) less) $ rewrite ! 0 (λ (l : List ℕ). ‵ (row u32 fullShare l l₃ 0)) (stored (λ (r : Record). r .kind) ys (i .0) noRow in-list (omega (arith, copied-limit n))) refl $
+          elem-put ! u32 fullShare (padded (i .0) (kindColumn ys)) (i .0) (getD ys (i .0) noRow .kind) (vint w32 (getD ys (i .0) noRow .kind) ∷ []) l₃ 0 (within (λ (r : Record). r .kind) (i .0) less) $ rewrite ! 0 (λ (l : List ℕ). ‵ (row u32 fullShare l l₃ 0)) (stored (λ (r : Record). r .kind) ys (i .0) noRow in-list (omega (arith, copied-limit n))) refl $
           -- the target
           move ! (2 ∷ []) $ use1 W (‵ own-records ⊛ ‵ own-records) (shr-slice-copy 𝓤 H A W (named 0) κ Row.the-row .twice records (slice-vals records)) $ split ! $ move ! (3 ∷ 0 ∷ []) $ use2 W (raw (Thin-target .pre (to-thin (i .0)))) (goes-thin (i .0) i-fits in-list) $
           calls-at ! (fmOf 𝓤 H (W .laws) 𝓣) Thin-target (known .4) (to-thin (i .0)) (and-then ! (load ! (from ! (stop !)) (look ! 38 refl)) (and-then ! (load ! (from ! (stop !)) (look ! 29 refl)) (no-more !))) (λ u₅.
@@ -228,9 +228,9 @@ module _ {M : Type 1} (𝓤 : URA M) (H : Heap 𝓤) (A : Atoms 𝓤) (W : Given
           land ! (from ! (stop !)) (store ! 25 refl (uint-lawful 𝓤 H A W w32 .typed r₅ _ is₅ .0)) $ rewrite ! 25 (λ (v : Val). ‵ (fat fullShare (tyInt w32) l₉ 0 v)) (ap only (is₅ .0) ∙ ap (λ (k : ℕ). vint w32 k) e₅) refl $
           assigns ! (bin ! (load ! (from ! (stop !)) (look ! 29 refl)) (lit ! tt) (record { fits = scaled })) (from ! (stop !)) (store ! 23 refl (tt, record { fits = scaled })) $ assigns ! (addr ! (from ! (stop !))) (from ! (stop !)) (init ! 13 refl (tt, tt)) $
           assigns ! (bin ! (load ! (from ! (stop !)) (look ! 13 refl)) (load ! (from ! (stop !)) (look ! 23 refl)) tt) (from ! (stop !)) (init ! 11 refl (tt, tt)) $ rewrite ! 11 (λ (p : ℕ). ‵ (fat fullShare tyPtr l₁₆ 0 (vptr l₄ p))) (sym (place-is 4 0 (i .0))) refl $
-          move ! (4 ∷ []) $ elem-out ! u32 (Is u32) (shows 𝓤 H A u32) (uint-vals w32) (uint-tells w32) fullShare (table (i .0) (targetsOf ys)) (i .0) 0 l₄ 0 (within (λ (r : Record). r .target) (i .0) less) (λ _.
+          move ! (4 ∷ []) $ elem-out ! u32 (Is u32) (shows 𝓤 H A u32) (uint-vals w32) (uint-tells w32) fullShare (padded (i .0) (targetColumn ys)) (i .0) 0 l₄ 0 (within (λ (r : Record). r .target) (i .0) less) (λ _.
           assigns ! (of-opd ! (load ! (from ! (stop !)) (look ! 27 refl))) (from ! (hop ! (look ! 13 refl) (stop !))) (store ! 0 refl (tt, record { fits = (small r₅ (getD ys (i .0) noRow .target) u₅ is₅ e₅) })) $ move ! (1 ∷ []) $ drop ! $ owned ! u32 (Is u32) (uint-makes 𝓤 H A W w32) (getD ys (i .0) noRow .target) _ (refl, (small r₅ (getD ys (i .0) noRow .target) u₅ is₅ e₅)) $ move ! (1 ∷ []) $
-          elem-put ! u32 fullShare (table (i .0) (targetsOf ys)) (i .0) (getD ys (i .0) noRow .target) (vint w32 (getD ys (i .0) noRow .target) ∷ []) l₄ 0 (within (λ (r : Record). r .target) (i .0) less) $ rewrite ! 0 (λ (l : List ℕ). ‵ (row u32 fullShare l l₄ 0)) (stored (λ (r : Record). r .target) ys (i .0) noRow in-list (omega (arith, copied-limit n))) refl $
+          elem-put ! u32 fullShare (padded (i .0) (targetColumn ys)) (i .0) (getD ys (i .0) noRow .target) (vint w32 (getD ys (i .0) noRow .target) ∷ []) l₄ 0 (within (λ (r : Record). r .target) (i .0) less) $ rewrite ! 0 (λ (l : List ℕ). ‵ (row u32 fullShare l l₄ 0)) (stored (λ (r : Record). r .target) ys (i .0) noRow in-list (omega (arith, copied-limit n))) refl $
           assigns-last ! (bin ! (load ! (from ! (stop !)) (look ! 29 refl)) (lit ! tt) (record { fits = next-fits })) (from ! (stop !)) (store ! 29 refl (tt, record { fits = next-fits })) $
           forget ! 11 refl $ forget ! 13 refl $ forget ! 15 refl $ forget ! 17 refl $ forget ! 19 refl $ forget ! 21 refl $ forget ! 23 refl $ forget ! 25 refl $ forget ! 27 refl $
           keep ! (4 ∷ 3 ∷ 0 ∷ 2 ∷ 1 ∷ 5 ∷ 6 ∷ 7 ∷ 8 ∷ 9 ∷ 10 ∷ 11 ∷ 12 ∷ 13 ∷ 14 ∷ 15 ∷ 16 ∷ 17 ∷ 18 ∷ 19 ∷ 20 ∷ 21 ∷ 22 ∷ 23 ∷ 24 ∷ 25 ∷ 26 ∷ 27 ∷ 28 ∷ 29 ∷ 30 ∷ 31 ∷ 32 ∷ 33 ∷ 34 ∷ 35 ∷ 36 ∷ 37 ∷ 38 ∷ 39 ∷ 40 ∷ 41 ∷ []) $ again ! Nearer At i (i .0 + 1, omega arith) (omega arith)))))))))))))))))))
@@ -238,15 +238,15 @@ module _ {M : Type 1} (𝓤 : URA M) (H : Heap 𝓤) (A : Atoms 𝓤) (W : Given
           let past : copied n ≤ i .0 = ltb-false (i .0) (copied n) e in
           let all : i .0 ≡ copied n = omega (arith, i .1) in
           assigns ! (bin ! (load ! (from ! (stop !)) (look ! 29 refl)) (load ! (from ! (stop !)) (look ! 31 refl)) tt) (from ! (stop !)) (init ! 27 refl (tt, tt)) $ rewrite ! 27 (λ (t : Bool). ‵ (fat fullShare tyBool l₈ 0 (vbool t))) e refl $ leaves-loop ! (load ! (from ! (stop !)) (look ! 27 refl)) $ exec ! C Λ En steps.t-8 (atRet En Post) $
-          rewrite ! 0 (λ (k : ℕ). ‵ (row u32 fullShare (table k (importersOf ys)) l₂ 0)) all refl $ rewrite ! 0 (λ (l : List ℕ). ‵ (row u32 fullShare l l₂ 0)) (sym (map-id (table (copied n) (importersOf ys)))) refl $
-          move ! (0 ∷ []) $ use1 W (‵ (fat fullShare (tyArray (tyInt w32) rowLimit) l₂ 0 (arrVal (same-as (table (copied n) (importersOf ys))))) ⊛ raw (fact 𝓤 (Is (Array u32 rowLimit) (same-as (table (copied n) (importersOf ys))) (arrVal (same-as (table (copied n) (importersOf ys))) ∷ [])))) (closed 𝓤 H A W rowLimit l₂ (same-as (table (copied n) (importersOf ys))) (long (λ (r : Record). r .importer))) $ split ! $ move ! (1 ∷ []) $ heard ! _ (λ is₃.
-          rewrite ! 1 (λ (k : ℕ). ‵ (row u32 fullShare (table k (kindsOf ys)) l₃ 0)) all refl $ rewrite ! 1 (λ (l : List ℕ). ‵ (row u32 fullShare l l₃ 0)) (sym (map-id (table (copied n) (kindsOf ys)))) refl $
-          move ! (1 ∷ []) $ use1 W (‵ (fat fullShare (tyArray (tyInt w32) rowLimit) l₃ 0 (arrVal (same-as (table (copied n) (kindsOf ys))))) ⊛ raw (fact 𝓤 (Is (Array u32 rowLimit) (same-as (table (copied n) (kindsOf ys))) (arrVal (same-as (table (copied n) (kindsOf ys))) ∷ [])))) (closed 𝓤 H A W rowLimit l₃ (same-as (table (copied n) (kindsOf ys))) (long (λ (r : Record). r .kind))) $ split ! $ move ! (1 ∷ []) $ heard ! _ (λ is₄.
-          rewrite ! 2 (λ (k : ℕ). ‵ (row u32 fullShare (table k (targetsOf ys)) l₄ 0)) all refl $ rewrite ! 2 (λ (l : List ℕ). ‵ (row u32 fullShare l l₄ 0)) (sym (map-id (table (copied n) (targetsOf ys)))) refl $
-          move ! (2 ∷ []) $ use1 W (‵ (fat fullShare (tyArray (tyInt w32) rowLimit) l₄ 0 (arrVal (same-as (table (copied n) (targetsOf ys))))) ⊛ raw (fact 𝓤 (Is (Array u32 rowLimit) (same-as (table (copied n) (targetsOf ys))) (arrVal (same-as (table (copied n) (targetsOf ys))) ∷ [])))) (closed 𝓤 H A W rowLimit l₄ (same-as (table (copied n) (targetsOf ys))) (long (λ (r : Record). r .target))) $ split ! $ move ! (1 ∷ []) $ heard ! _ (λ is₅.
-          assigns ! (of-opd ! (load ! (from ! (stop !)) (look ! 2 refl))) (from ! (stop !)) (init ! 9 refl (arr-typed 𝓤 H A W rowLimit (same-as (table (copied n) (importersOf ys))) is₃)) $
-          assigns ! (of-opd ! (load ! (from ! (stop !)) (look ! 1 refl))) (from ! (stop !)) (init ! 7 refl (arr-typed 𝓤 H A W rowLimit (same-as (table (copied n) (kindsOf ys))) is₄)) $
-          assigns ! (of-opd ! (load ! (from ! (stop !)) (look ! 0 refl))) (from ! (stop !)) (init ! 5 refl (arr-typed 𝓤 H A W rowLimit (same-as (table (copied n) (targetsOf ys))) is₅)) $
+          rewrite ! 0 (λ (k : ℕ). ‵ (row u32 fullShare (padded k (importerColumn ys)) l₂ 0)) all refl $ rewrite ! 0 (λ (l : List ℕ). ‵ (row u32 fullShare l l₂ 0)) (sym (map-id (padded (copied n) (importerColumn ys)))) refl $
+          move ! (0 ∷ []) $ use1 W (‵ (fat fullShare (tyArray (tyInt w32) rowLimit) l₂ 0 (arrVal (same-as (padded (copied n) (importerColumn ys))))) ⊛ raw (fact 𝓤 (Is (Array u32 rowLimit) (same-as (padded (copied n) (importerColumn ys))) (arrVal (same-as (padded (copied n) (importerColumn ys))) ∷ [])))) (closed 𝓤 H A W rowLimit l₂ (same-as (padded (copied n) (importerColumn ys))) (long (λ (r : Record). r .importer))) $ split ! $ move ! (1 ∷ []) $ heard ! _ (λ is₃.
+          rewrite ! 1 (λ (k : ℕ). ‵ (row u32 fullShare (padded k (kindColumn ys)) l₃ 0)) all refl $ rewrite ! 1 (λ (l : List ℕ). ‵ (row u32 fullShare l l₃ 0)) (sym (map-id (padded (copied n) (kindColumn ys)))) refl $
+          move ! (1 ∷ []) $ use1 W (‵ (fat fullShare (tyArray (tyInt w32) rowLimit) l₃ 0 (arrVal (same-as (padded (copied n) (kindColumn ys))))) ⊛ raw (fact 𝓤 (Is (Array u32 rowLimit) (same-as (padded (copied n) (kindColumn ys))) (arrVal (same-as (padded (copied n) (kindColumn ys))) ∷ [])))) (closed 𝓤 H A W rowLimit l₃ (same-as (padded (copied n) (kindColumn ys))) (long (λ (r : Record). r .kind))) $ split ! $ move ! (1 ∷ []) $ heard ! _ (λ is₄.
+          rewrite ! 2 (λ (k : ℕ). ‵ (row u32 fullShare (padded k (targetColumn ys)) l₄ 0)) all refl $ rewrite ! 2 (λ (l : List ℕ). ‵ (row u32 fullShare l l₄ 0)) (sym (map-id (padded (copied n) (targetColumn ys)))) refl $
+          move ! (2 ∷ []) $ use1 W (‵ (fat fullShare (tyArray (tyInt w32) rowLimit) l₄ 0 (arrVal (same-as (padded (copied n) (targetColumn ys))))) ⊛ raw (fact 𝓤 (Is (Array u32 rowLimit) (same-as (padded (copied n) (targetColumn ys))) (arrVal (same-as (padded (copied n) (targetColumn ys))) ∷ [])))) (closed 𝓤 H A W rowLimit l₄ (same-as (padded (copied n) (targetColumn ys))) (long (λ (r : Record). r .target))) $ split ! $ move ! (1 ∷ []) $ heard ! _ (λ is₅.
+          assigns ! (of-opd ! (load ! (from ! (stop !)) (look ! 2 refl))) (from ! (stop !)) (init ! 9 refl (arr-typed 𝓤 H A W rowLimit (same-as (padded (copied n) (importerColumn ys))) is₃)) $
+          assigns ! (of-opd ! (load ! (from ! (stop !)) (look ! 1 refl))) (from ! (stop !)) (init ! 7 refl (arr-typed 𝓤 H A W rowLimit (same-as (padded (copied n) (kindColumn ys))) is₄)) $
+          assigns ! (of-opd ! (load ! (from ! (stop !)) (look ! 0 refl))) (from ! (stop !)) (init ! 5 refl (arr-typed 𝓤 H A W rowLimit (same-as (padded (copied n) (targetColumn ys))) is₅)) $
           assigns ! (agg ! (and-then ! (load ! (from ! (stop !)) (look ! 33 refl)) (and-then ! (load ! (from ! (stop !)) (look ! 9 refl)) (and-then ! (load ! (from ! (stop !)) (look ! 7 refl)) (and-then ! (load ! (from ! (stop !)) (look ! 5 refl)) (no-more !)))))) (from ! (stop !)) (init ! 40 refl (SL.lawful Cols.the-type Cols′.the-laws 𝓤 H A W .typed (columnsOf ys) _ (made (room .0) is₃ is₄ is₅) .0)) $
           returns ! (look ! 40 refl) $ forget ! 5 refl $ forget ! 7 refl $ forget ! 9 refl $ forget ! 27 refl $ forget ! 29 refl $ forget ! 31 refl $ forget ! 33 refl $ forget ! 0 refl $ forget ! 1 refl $ forget ! 2 refl $ forget ! 38 refl $ forget ! 40 refl $
           move ! (40 ∷ 41 ∷ []) $ free1 ! $ move ! (38 ∷ 39 ∷ []) $ free1 ! $ move ! (2 ∷ 37 ∷ []) $ free1 ! $ move ! (1 ∷ 35 ∷ []) $ free1 ! $ move ! (0 ∷ 33 ∷ []) $ free1 ! $ move ! (30 ∷ 31 ∷ []) $ free1 ! $ move ! (28 ∷ 29 ∷ []) $ free1 ! $ move ! (26 ∷ 27 ∷ []) $ free1 ! $ move ! (24 ∷ 25 ∷ []) $ free1 ! $ move ! (22 ∷ 23 ∷ []) $ free1 ! $ move ! (20 ∷ 21 ∷ []) $ free1 ! $ move ! (18 ∷ 19 ∷ []) $ free1 ! $ move ! (16 ∷ 17 ∷ []) $ free1 ! $ move ! (14 ∷ 15 ∷ []) $ free1 ! $ move ! (12 ∷ 13 ∷ []) $ free1 ! $ move ! (10 ∷ 11 ∷ []) $ free1 ! $ move ! (8 ∷ 9 ∷ []) $ free1 ! $ move ! (6 ∷ 7 ∷ []) $ free1 ! $ move ! (4 ∷ 5 ∷ []) $ free1 ! $ move ! (2 ∷ 3 ∷ []) $ free1 ! $ free0 ! $ keep ! (1 ∷ []) $ by ! (exits (made (room .0) is₃ is₄ is₅)))))
@@ -271,7 +271,7 @@ module _ {M : Type 1} (𝓤 : URA M) (H : Heap 𝓤) (A : Atoms 𝓤) (W : Given
         split ! $ drop ! $ move ! (0 ∷ []) $ facts ! usize (Is usize) (shows 𝓤 H A usize) r₂ (u₂ ∷ []) (λ is₂.
         land ! (from ! (stop !)) (init ! 28 refl (uint-lawful 𝓤 H A W w64 .typed r₂ _ is₂ .0)) $ rewrite ! 28 (λ (v : Val). ‵ (fat fullShare (tyInt w64) l₆ 0 v)) (ap only (is₂ .0) ∙ ap (λ (k : ℕ). vint w64 k) e₂) refl $
         assigns ! (of-opd ! (lit ! tt)) (from ! (stop !)) (init ! 26 refl (tt, record { fits = lit< tt })) $
-        move ! (36 ∷ []) $ use1 W (‵ (row u32 fullShare (table 0 (importersOf ys)) l₂ 0)) (opened 𝓤 H A W rowLimit l₂ (replicate rowLimit 0) _ (zeros-are rowLimit)) $ move ! (35 ∷ []) $ use1 W (‵ (row u32 fullShare (table 0 (kindsOf ys)) l₃ 0)) (opened 𝓤 H A W rowLimit l₃ (replicate rowLimit 0) _ (zeros-are rowLimit)) $ move ! (34 ∷ []) $ use1 W (‵ (row u32 fullShare (table 0 (targetsOf ys)) l₄ 0)) (opened 𝓤 H A W rowLimit l₄ (replicate rowLimit 0) _ (zeros-are rowLimit)) $
+        move ! (36 ∷ []) $ use1 W (‵ (row u32 fullShare (padded 0 (importerColumn ys)) l₂ 0)) (opened 𝓤 H A W rowLimit l₂ (replicate rowLimit 0) _ (zeros-are rowLimit)) $ move ! (35 ∷ []) $ use1 W (‵ (row u32 fullShare (padded 0 (kindColumn ys)) l₃ 0)) (opened 𝓤 H A W rowLimit l₃ (replicate rowLimit 0) _ (zeros-are rowLimit)) $ move ! (34 ∷ []) $ use1 W (‵ (row u32 fullShare (padded 0 (targetColumn ys)) l₄ 0)) (opened 𝓤 H A W rowLimit l₄ (replicate rowLimit 0) _ (zeros-are rowLimit)) $
         keep ! (2 ∷ 1 ∷ 0 ∷ 4 ∷ 3 ∷ 5 ∷ 6 ∷ 7 ∷ 8 ∷ 9 ∷ 10 ∷ 11 ∷ 12 ∷ 13 ∷ 14 ∷ 15 ∷ 16 ∷ 17 ∷ 18 ∷ 19 ∷ 20 ∷ 21 ∷ 22 ∷ 23 ∷ 24 ∷ 25 ∷ 26 ∷ 27 ∷ 28 ∷ 29 ∷ 30 ∷ 31 ∷ 32 ∷ 33 ∷ 34 ∷ 35 ∷ 36 ∷ 37 ∷ 38 ∷ 39 ∷ 40 ∷ 41 ∷ []) $ first ! $ blocks ! $ loops ! 𝓣 Nearer Nearer-wf (At 𝓣 known l₀ l₁ l₂ l₃ l₄ l₅ l₆ l₇ l₈ l₉ l₁₀ l₁₁ l₁₂ l₁₃ l₁₄ l₁₅ l₁₆ l₁₇ l₁₈ l₁₉) (λ i. turns 𝓣 known l₀ l₁ l₂ l₃ l₄ l₅ l₆ l₇ l₈ l₉ l₁₀ l₁₁ l₁₂ l₁₃ l₁₄ l₁₅ l₁₆ l₁₇ l₁₈ l₁₉ i (ltb (i .0) (copied n)) refl) (0, zero-le)))))))))))))))))))))))))))))))
 
   meets : (𝓣 : Tables 𝓤 H) → Known (𝓣 .C) → Meets 𝓤 H A f.signature (WpFn 𝓤 H (𝓣 .C) (𝓣 .Λ) code.function) (f.spec 𝓤 H A at-mem run)

@@ -1,24 +1,19 @@
--- `refusal::agree::rows_rise` meets its contract.
+-- `refusal::agree::rows_rise` meets its contract: column by column.
 -- Assumes nothing.
+use mathlib.Core.Path.{ap, _∙_}
+use Rattle.tables.specs.Refusal.{rises, rowsRise}
+use Rattle.table.specs.Table.{table, read}
+use Rattle.column_tests.proofs.Chain.{and-4}
 use borrow.Author.Needs.{needs}
-use Rattle.refusal.proofs.Chain.{and-4}
 use Rattle.refusal.proofs.agree.rows_rise.Statement.{statement}
 use Rattle.refusal.proofs.agree.rows_rise.Tie as tie
 
-is-rising-requires : tie.Need-is-rising-requires
-is-rising-requires c κs = search needs
-
-is-rising-requires-2 : tie.Need-is-rising-requires-2
-is-rising-requires-2 c κs = search needs
-
-is-rising-requires-3 : tie.Need-is-rising-requires-3
-is-rising-requires-3 c κs = search needs
-
-is-rising-requires-4 : tie.Need-is-rising-requires-4
-is-rising-requires-4 c κs = search needs
-
 returns : tie.Need-returns
-returns c = and-4 (c .before .before .before .is-rising .ensures) (c .before .before .is-rising2 .ensures) (c .before .is-rising3 .ensures) (c .is-rising4 .ensures)
+unfolding table read rowsRise
+returns c =
+    and-4 (c .before .before .before .before .before .before .is-rising .ensures) (c .before .before .before .before .is-rising2 .ensures ∙ ap rises (c .before .before .before .before .before .column .ensures)) (c .before .before .is-rising3 .ensures ∙ ap rises (c .before .before .before .column2 .ensures)) (c .is-rising4 .ensures ∙ ap rises (c .before .column3 .ensures))
 
 pub rows-rise-spec : {M : Type 1} → statement M
-rows-rise-spec = tie.close (tie.spec is-rising-requires is-rising-requires-2 is-rising-requires-3 is-rising-requires-4 returns)
+rows-rise-spec =
+    tie.close
+    (tie.spec (λ c κs. search needs) (λ c κs. search needs) (λ c κs. search needs) (λ c κs. search needs) (λ c κs. search needs) (λ c κs. search needs) (λ c κs. search needs) returns)

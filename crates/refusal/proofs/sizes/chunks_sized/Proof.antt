@@ -1,27 +1,16 @@
--- `refusal::sizes::chunks_sized` meets its contract.
+-- `refusal::sizes::chunks_sized` meets its contract: list by list.
 -- Assumes nothing.
+use Rattle.table.specs.Table.{table}
+use Rattle.column_tests.proofs.Chain.{and-5}
 use borrow.Author.Needs.{needs}
-use Rattle.refusal.proofs.Chain.{and-5}
 use Rattle.refusal.proofs.sizes.chunks_sized.Statement.{statement}
 use Rattle.refusal.proofs.sizes.chunks_sized.Tie as tie
 
-one-sized-requires : tie.Need-one-sized-requires
-one-sized-requires c κs = search needs
-
-two-sized-requires : tie.Need-two-sized-requires
-two-sized-requires c κs = search needs
-
-two-sized-requires-2 : tie.Need-two-sized-requires-2
-two-sized-requires-2 c κs = search needs
-
-two-sized-requires-3 : tie.Need-two-sized-requires-3
-two-sized-requires-3 c κs = search needs
-
-one-sized-requires-2 : tie.Need-one-sized-requires-2
-one-sized-requires-2 c κs = search needs
-
 returns : tie.Need-returns
-returns c = and-5 (c .before .before .before .before .one-sized .ensures) (c .before .before .before .two-sized .ensures) (c .before .before .two-sized2 .ensures) (c .before .two-sized3 .ensures) (c .one-sized2 .ensures)
+unfolding table
+returns c = and-5 (c .before .before .before .before .one-at .ensures) (c .before .before .before .two-at .ensures) (c .before .before .two-at2 .ensures) (c .before .two-at3 .ensures) (c .one-at2 .ensures)
 
 pub chunks-sized-spec : {M : Type 1} → statement M
-chunks-sized-spec = tie.close (tie.spec one-sized-requires two-sized-requires two-sized-requires-2 two-sized-requires-3 one-sized-requires-2 returns)
+chunks-sized-spec =
+    tie.close
+    (tie.spec (λ c κs. search needs) (λ c κs. search needs) (λ c κs. search needs) (λ c κs. search needs) (λ c κs. search needs) returns)

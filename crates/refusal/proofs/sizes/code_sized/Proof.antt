@@ -1,24 +1,27 @@
--- `refusal::sizes::code_sized` meets its contract.
+-- `refusal::sizes::code_sized` meets its contract: list by list.
 -- Assumes nothing.
+use mathlib.Core.Path.{_≡_}
+use mathlib.Core.Bool.{not, _&&_}
+use mathlib.Core.List.{[], _∷_}
+use lib.ListN.{length}
+use Rattle.lists.specs.Words.{isZero}
+use Rattle.tables.specs.Refusal.{moduleLimit, sized}
+use Rattle.table.specs.Table.{table, read}
+use Rattle.table.proofs.Cut.{given7}
+use Rattle.column_tests.proofs.Chain.{and-4}
 use borrow.Author.Needs.{needs}
-use Rattle.refusal.proofs.Chain.{and-4}
 use Rattle.refusal.proofs.sizes.code_sized.Statement.{statement}
 use Rattle.refusal.proofs.sizes.code_sized.Tie as tie
 
-modules-sized-requires : tie.Need-modules-sized-requires
-modules-sized-requires c κs = search needs
-
-three-sized-requires : tie.Need-three-sized-requires
-three-sized-requires c κs = search needs
-
-two-sized-requires : tie.Need-two-sized-requires
-two-sized-requires c κs = search needs
-
-two-sized-requires-2 : tie.Need-two-sized-requires-2
-two-sized-requires-2 c κs = search needs
-
 returns : tie.Need-returns
-returns c = and-4 (c .before .before .before .modules-sized .ensures) (c .before .before .three-sized .ensures) (c .before .two-sized .ensures) (c .two-sized2 .ensures)
+unfolding table read
+returns c =
+    let m = c .before .before .before .modules-sized in
+    and-4
+    (given7 (λ normal included sensitive reads exports wrap chunk. m .result ≡ (not (isZero (length normal)) && sized moduleLimit normal (included ∷ sensitive ∷ reads ∷ exports ∷ wrap ∷ chunk ∷ []))) (c .before .before .before .before .before .before .before .before .before .before .column .ensures) (c .before .before .before .before .before .before .before .before .before .column2 .ensures) (c .before .before .before .before .before .before .before .before .column3 .ensures) (c .before .before .before .before .before .before .before .column4 .ensures) (c .before .before .before .before .before .before .column5 .ensures) (c .before .before .before .before .before .column6 .ensures) (c .before .before .before .before .column7 .ensures) (m .ensures))
+    (c .before .before .three-sized .ensures) (c .before .two-at .ensures) (c .two-at2 .ensures)
 
 pub code-sized-spec : {M : Type 1} → statement M
-code-sized-spec = tie.close (tie.spec modules-sized-requires three-sized-requires two-sized-requires two-sized-requires-2 returns)
+code-sized-spec =
+    tie.close
+    (tie.spec (λ c κs. search needs) (λ c κs. search needs) (λ c κs. search needs) (λ c κs. search needs) (λ c κs. search needs) (λ c κs. search needs) (λ c κs. search needs) (λ c κs. search needs) (λ c κs. search needs) (λ c κs. search needs) (λ c κs. search needs) returns)

@@ -2,7 +2,7 @@
 -- Assumes nothing.
 use mathlib.Core.Path.{sym}
 use Rattle.tables.specs.Refusal.{sized}
-use Rattle.refusal.proofs.Chain.{and-true}
+use Rattle.column_tests.proofs.Chain.{and-true}
 use Rattle.refusal.proofs.sizes.one_sized.Statement.{statement}
 use Rattle.refusal.proofs.sizes.one_sized.Tie as tie
 

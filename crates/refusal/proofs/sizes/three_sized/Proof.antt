@@ -1,17 +1,14 @@
 -- `refusal::sizes::three_sized` meets its contract.
 -- Assumes nothing.
 use mathlib.Core.Path.{refl, sym, _∙_}
-use Rattle.refusal.proofs.Chain.{and-2}
+use Rattle.column_tests.proofs.Chain.{and-2}
 use Rattle.refusal.proofs.Lengths.{three-column}
 use borrow.Author.Needs.{needs}
 use Rattle.refusal.proofs.sizes.three_sized.Statement.{statement}
 use Rattle.refusal.proofs.sizes.three_sized.Tie as tie
 
-two-sized-requires : tie.Need-two-sized-requires
-two-sized-requires c κs = search needs
-
 returns : tie.Need-returns
 returns c = and-2 (c .two-sized .ensures) refl ∙ sym (three-column _ _ _ _)
 
 pub three-sized-spec : {M : Type 1} → statement M
-three-sized-spec = tie.close (tie.spec two-sized-requires returns)
+three-sized-spec = tie.close (tie.spec (λ c κs. search needs) returns)

@@ -1,7 +1,7 @@
 -- `refusal::sizes::two_sized` meets its contract.
 -- Assumes nothing.
 use Rattle.tables.specs.Refusal.{sized}
-use Rattle.refusal.proofs.Chain.{cond-id}
+use Rattle.column_tests.proofs.Chain.{cond-id}
 use Rattle.refusal.proofs.sizes.two_sized.Statement.{statement}
 use Rattle.refusal.proofs.sizes.two_sized.Tie as tie
 

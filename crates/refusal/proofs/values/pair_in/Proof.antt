@@ -1,18 +1,12 @@
 -- `refusal::values::pair_in` meets its contract.
 -- Assumes nothing.
 use borrow.Author.Needs.{needs}
-use Rattle.refusal.proofs.Chain.{and-2}
+use Rattle.column_tests.proofs.Chain.{and-2}
 use Rattle.refusal.proofs.values.pair_in.Statement.{statement}
 use Rattle.refusal.proofs.values.pair_in.Tie as tie
-
-all-below-requires : tie.Need-all-below-requires
-all-below-requires c κs = search needs
-
-all-below-requires-2 : tie.Need-all-below-requires-2
-all-below-requires-2 c κs = search needs
 
 returns : tie.Need-returns
 returns c = and-2 (c .before .all-below .ensures) (c .all-below2 .ensures)
 
 pub pair-in-spec : {M : Type 1} → statement M
-pair-in-spec = tie.close (tie.spec all-below-requires all-below-requires-2 returns)
+pair-in-spec = tie.close (tie.spec (λ c κs. search needs) (λ c κs. search needs) returns)

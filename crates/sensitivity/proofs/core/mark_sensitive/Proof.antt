@@ -6,6 +6,7 @@ use Prim.Native.Nat.{ℕ, _+_, _≤_, _<_}
 use native.Mathlib.Omega.{arith}
 use lib.ListN.{length, getD, take, replicate}
 use lib.Seq.{length-take-le, take-at}
+use Rattle.tables.specs.Refusal.{rowLimit}
 use Rattle.tables.specs.Lookups.{FirstRows}
 use Rattle.tables.specs.Accepted.{Below}
 use Rattle.tables.specs.Threads.{Threads}
@@ -27,7 +28,7 @@ abbrev statements : tie.After-nexts → ℕ
 statements c = length (entry c .args .statement-included .now)
 
 abbrev room : List ℕ
-room = replicate 16384 0
+room = replicate rowLimit 0
 
 heads-part : (c : tie.After-heads) → let s = c .before .before .before .before .before .before .before .before .before .before .before .before in
     length (take (length (s .args .statement-included .now)) room) ≡ length (s .args .statement-included .now)

@@ -14,7 +14,8 @@ use Rattle.tables.specs.Project.{missing}
 use Rattle.tables.specs.Lookups.{FirstRows}
 use Rattle.tables.specs.Accepted.{Below}
 use Rattle.sort_modules.specs.Sort.{staticsOf}
-use Rattle.sort_modules.specs.Visit.{Fit, Numbered, number, held, Room}
+use Rattle.sort_steps.specs.Steps.{Numbered, number}
+use Rattle.sort_visit.specs.Visit.{Fit, held, Room}
 use Rattle.sort_modules.proofs.Numbers.{walk-sorted}
 use Rattle.sort_modules.proofs.core.sort.Statement.{statement}
 use Rattle.sort_modules.proofs.core.sort.Tie as tie

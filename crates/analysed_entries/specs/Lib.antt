@@ -1,0 +1,2 @@
+-- Which entries are analysed, as functions find them.
+pub mod inner

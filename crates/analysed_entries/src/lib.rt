@@ -1,0 +1,2 @@
+// The analysed entries of a table.
+pub mod core;

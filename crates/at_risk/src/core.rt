@@ -1,0 +1,351 @@
+// For crates above, on tested tables: the risk of an entry of a table, a root with its entry chunk.
+ghost use mathlib.Core.Path.{_≡_};
+ghost use lib.ListN.{length};
+ghost use Rattle.lists.specs.Words.{has};
+ghost use Rattle.tables.specs.Project.{Project};
+ghost use Rattle.tables.specs.Accepted.{Accepted};
+ghost use Rattle.table.specs.Table.{table, read};
+ghost use Rattle.load_order.specs.inner.OverTable.{Arranged};
+ghost use Rattle.analysed_entries.specs.inner.Entries.{Entry};
+ghost use Rattle.actual_order.specs.Actual.{actualOf, hostsOf};
+ghost use Rattle.chunk_cycles.specs.Cycles.{labelsOf, reachesCycleOf};
+ghost use Rattle.chunk_cycles.specs.inner.OverTable.{Reaching};
+ghost use Rattle.sensitivity.specs.Marks.{sensitive};
+ghost use Rattle.eligibility.specs.Eligible.{eligible, eligibleMarks};
+ghost use Rattle.risk_of_orders.specs.Risk.{orderRisk, cycleRisk};
+ghost use Rattle.risk_of_orders.specs.inner.Steps.{join};
+ghost use Rattle.at_risk.specs.Entry.{riskOfEntry};
+ghost use Rattle.at_risk.specs.inner.OverTable.{Sets, Placed, Entered, RiskMarked};
+use actual_order::core::list_actual;
+use chunk_cycles::core::label_table;
+use chunk_cycles::core::reaches_table;
+use eligibility::of_table::mark_table_eligible;
+use expected_order::core::list_expected;
+use lists::core::count_marked;
+use lists::core::fill;
+use load_order::core::arrange_table;
+use risk_of_orders::core::add_cycle_risk;
+use risk_of_orders::core::add_order_risk;
+use sensitivity::core::mark_table_sensitive;
+use table::CHUNK_LIMIT;
+use table::IMPORTS;
+use table::MODULE_LIMIT;
+use table::ORDER;
+use table::ROW_LIMIT;
+use table::rows;
+
+// Adds the order risk of an entry whose expected order is given to a set. `loads` has each chunk's imported chunks in load order.
+fn add_entry_order_risk<'a>(
+    runtime: u32,
+    dynamic: u32,
+    bounds: &'a [u32],
+    columns: &'a [u32],
+    importers: &'a [u32],
+    kinds: &'a [u32],
+    targets: &'a [u32],
+    dependencies: &'a [u32],
+    members: &'a [u32],
+    loads: &'a [u32],
+    sensitives: &'a [u32],
+    eligibles: &'a [u32],
+    expected: &'a [u32],
+    out: &mut [u32],
+    root: u32,
+    chunk: u32,
+)
+    ghost { Project }
+    requires project { λ p. ⌜ read (table runtime dynamic (now bounds) (now columns)) (now importers) (now kinds) (now targets) (now dependencies) (now members) ≡ p ⌝ }
+    requires loads { λ p. ⌜ Arranged p (now loads) ⌝ }
+    requires sets { λ p. ⌜ Sets p (now sensitives) (now eligibles) ⌝ }
+    requires entry { λ p. ⌜ Entry p root chunk ⌝ }
+    requires placed { λ p. ⌜ Placed p (now expected) (length (now out)) ⌝ }
+    ensures { λ p _. ⌜ now (out .exit) ≡ join (now (out .entry)) (orderRisk (sensitive p) (eligible p) (now (expected .entry)) (actualOf p root) (hostsOf p root)) ⌝ }
+{
+    let n = out.len();
+    let mut actual = [0u32; MODULE_LIMIT];
+    let mut hosts = [0u32; MODULE_LIMIT];
+    let count = list_actual(
+        runtime,
+        dynamic,
+        bounds,
+        columns,
+        importers,
+        kinds,
+        targets,
+        dependencies,
+        members,
+        loads,
+        &mut actual,
+        &mut hosts[..n],
+        root,
+        chunk,
+    );
+    add_order_risk(
+        expected,
+        &actual[..count],
+        &hosts[..n],
+        sensitives,
+        eligibles,
+        out,
+    );
+}
+
+// Adds the cycle risk of an entry whose expected order is given to a set, by the chunks' labels.
+fn add_entry_cycle_risk<'a>(
+    runtime: u32,
+    dynamic: u32,
+    bounds: &'a [u32],
+    columns: &'a [u32],
+    importers: &'a [u32],
+    kinds: &'a [u32],
+    targets: &'a [u32],
+    dependencies: &'a [u32],
+    members: &'a [u32],
+    labels: &'a [u32],
+    eligibles: &'a [u32],
+    expected: &'a [u32],
+    out: &mut [u32],
+    chunk: u32,
+)
+    ghost { Project }
+    requires project { λ p. ⌜ read (table runtime dynamic (now bounds) (now columns)) (now importers) (now kinds) (now targets) (now dependencies) (now members) ≡ p ⌝ }
+    requires labels { λ p. ⌜ Reaching p (now labels) chunk ⌝ }
+    requires eligibles { λ p. ⌜ now eligibles ≡ eligibleMarks p ⌝ }
+    requires placed { λ p. ⌜ Placed p (now expected) (length (now out)) ⌝ }
+    ensures { λ p _. ⌜ now (out .exit) ≡ join (now (out .entry)) (cycleRisk (eligible p) (now (expected .entry)) (reachesCycleOf p chunk)) ⌝ }
+{
+    let reaches_cycle = reaches_table(
+        runtime,
+        dynamic,
+        bounds,
+        columns,
+        importers,
+        kinds,
+        targets,
+        dependencies,
+        members,
+        labels,
+        chunk,
+    );
+    add_cycle_risk(expected, eligibles, out, reaches_cycle);
+}
+
+// Adds the risk of an entry to a set. `loads` has each chunk's imported chunks in load order, `labels` the chunks' labels, `sensitives` and `eligibles`
+// the marks of those modules.
+pub fn add_entry_risk<'a>(
+    runtime: u32,
+    dynamic: u32,
+    bounds: &'a [u32],
+    columns: &'a [u32],
+    importers: &'a [u32],
+    kinds: &'a [u32],
+    targets: &'a [u32],
+    dependencies: &'a [u32],
+    members: &'a [u32],
+    loads: &'a [u32],
+    labels: &'a [u32],
+    sensitives: &'a [u32],
+    eligibles: &'a [u32],
+    out: &mut [u32],
+    root: u32,
+    chunk: u32,
+)
+    ghost { Project }
+    requires project { λ p. ⌜ read (table runtime dynamic (now bounds) (now columns)) (now importers) (now kinds) (now targets) (now dependencies) (now members) ≡ p ⌝ }
+    requires loads { λ p. ⌜ Arranged p (now loads) ⌝ }
+    requires labels { λ p. ⌜ now labels ≡ labelsOf p ⌝ }
+    requires sets { λ p. ⌜ Sets p (now sensitives) (now eligibles) ⌝ }
+    requires entry { λ p. ⌜ Entered p root chunk (length (now out)) ⌝ }
+    ensures { λ p _. ⌜ now (out .exit) ≡ join (now (out .entry)) (has (riskOfEntry p root)) ⌝ }
+{
+    let n = out.len();
+    let mut marks = [0u32; MODULE_LIMIT];
+    let mut expected = [0u32; MODULE_LIMIT];
+    let count = list_expected(
+        runtime,
+        dynamic,
+        bounds,
+        columns,
+        importers,
+        kinds,
+        targets,
+        dependencies,
+        members,
+        &mut marks[..n],
+        &mut expected,
+        root,
+    );
+    add_entry_order_risk(
+        runtime,
+        dynamic,
+        bounds,
+        columns,
+        importers,
+        kinds,
+        targets,
+        dependencies,
+        members,
+        loads,
+        sensitives,
+        eligibles,
+        &expected[..count],
+        out,
+        root,
+        chunk,
+    );
+    add_entry_cycle_risk(
+        runtime,
+        dynamic,
+        bounds,
+        columns,
+        importers,
+        kinds,
+        targets,
+        dependencies,
+        members,
+        labels,
+        eligibles,
+        &expected[..count],
+        out,
+        chunk,
+    );
+}
+
+// Adds the risk of an entry to a set, by the marks of the sensitive and of the eligible modules.
+fn add_marked_risk<'a>(
+    runtime: u32,
+    dynamic: u32,
+    bounds: &'a [u32],
+    columns: &'a [u32],
+    importers: &'a [u32],
+    kinds: &'a [u32],
+    targets: &'a [u32],
+    dependencies: &'a [u32],
+    members: &'a [u32],
+    sensitives: &'a [u32],
+    eligibles: &'a [u32],
+    out: &mut [u32],
+    root: u32,
+    chunk: u32,
+)
+    ghost { Project }
+    requires project { λ p. ⌜ read (table runtime dynamic (now bounds) (now columns)) (now importers) (now kinds) (now targets) (now dependencies) (now members) ≡ p ⌝ }
+    requires sets { λ p. ⌜ Sets p (now sensitives) (now eligibles) ⌝ }
+    requires entry { λ p. ⌜ Entered p root chunk (length (now out)) ⌝ }
+    ensures { λ p _. ⌜ now (out .exit) ≡ join (now (out .entry)) (has (riskOfEntry p root)) ⌝ }
+{
+    let count = rows(bounds, columns, IMPORTS);
+    let chunks = rows(bounds, columns, ORDER);
+    let mut loads = [0u32; ROW_LIMIT];
+    arrange_table(
+        runtime,
+        dynamic,
+        bounds,
+        columns,
+        importers,
+        kinds,
+        targets,
+        dependencies,
+        members,
+        &mut loads[..count],
+    );
+    let mut labels = [0u32; CHUNK_LIMIT];
+    label_table(
+        runtime,
+        dynamic,
+        bounds,
+        columns,
+        importers,
+        kinds,
+        targets,
+        dependencies,
+        members,
+        &mut labels[..chunks],
+    );
+    add_entry_risk(
+        runtime,
+        dynamic,
+        bounds,
+        columns,
+        importers,
+        kinds,
+        targets,
+        dependencies,
+        members,
+        &loads[..count],
+        &labels[..chunks],
+        sensitives,
+        eligibles,
+        out,
+        root,
+        chunk,
+    );
+}
+
+// The risk of an entry, as marks. How many are marked.
+pub fn mark_risk<'a>(
+    runtime: u32,
+    dynamic: u32,
+    bounds: &'a [u32],
+    columns: &'a [u32],
+    importers: &'a [u32],
+    kinds: &'a [u32],
+    targets: &'a [u32],
+    dependencies: &'a [u32],
+    members: &'a [u32],
+    out: &mut [u32],
+    root: u32,
+    chunk: u32,
+) -> usize
+    ghost { Project }
+    requires project { λ p. ⌜ read (table runtime dynamic (now bounds) (now columns)) (now importers) (now kinds) (now targets) (now dependencies) (now members) ≡ p ⌝ }
+    requires accepted { λ p. ⌜ Accepted p ⌝ }
+    requires entry { λ p. ⌜ Entered p root chunk (length (now out)) ⌝ }
+    ensures { λ p r. ⌜ RiskMarked p root (now (out .exit)) r ⌝ }
+{
+    let n = out.len();
+    let mut sensitives = [0u32; MODULE_LIMIT];
+    mark_table_sensitive(
+        runtime,
+        dynamic,
+        bounds,
+        columns,
+        importers,
+        kinds,
+        targets,
+        dependencies,
+        members,
+        &mut sensitives[..n],
+    );
+    let mut eligibles = [0u32; MODULE_LIMIT];
+    mark_table_eligible(
+        runtime,
+        dynamic,
+        bounds,
+        columns,
+        importers,
+        kinds,
+        targets,
+        dependencies,
+        members,
+        &mut eligibles[..n],
+    );
+    fill(out, 0);
+    add_marked_risk(
+        runtime,
+        dynamic,
+        bounds,
+        columns,
+        importers,
+        kinds,
+        targets,
+        dependencies,
+        members,
+        &sensitives[..n],
+        &eligibles[..n],
+        out,
+        root,
+        chunk,
+    );
+    count_marked(out)
+}

@@ -1,0 +1,2 @@
+-- How chunks are labelled.
+pub mod inner

@@ -1,0 +1,3 @@
+-- `Marking`: rule (ii) by marks. `OfProject`: at a project.
+pub mod Marking
+pub mod OfProject

@@ -1,0 +1,2 @@
+-- Rule (ii).
+pub mod inner

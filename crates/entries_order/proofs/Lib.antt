@@ -1,0 +1,2 @@
+-- `Parts`: each entry's part of the list.
+pub mod Parts

@@ -1,0 +1,2 @@
+-- The expected order of many entries walked together.
+pub mod OfEntries

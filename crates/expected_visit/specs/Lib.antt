@@ -1,0 +1,2 @@
+-- What the visit asks, and the state of its walk.
+pub mod Visit

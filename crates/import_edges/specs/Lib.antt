@@ -1,0 +1,2 @@
+-- The import records as edges.
+pub mod inner

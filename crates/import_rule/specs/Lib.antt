@@ -1,0 +1,2 @@
+-- Rule (iii).
+pub mod inner

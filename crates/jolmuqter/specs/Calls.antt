@@ -1,0 +1,38 @@
+-- What a call on a project that was lent promises.
+-- Assumes nothing.
+use mathlib.Core.Path.{_≡_}
+use mathlib.Core.List.{List}
+use Prim.Native.Nat.{ℕ}
+use Rattle.tables.specs.declared.Answer.{Answer}
+use Rattle.table.specs.Table.{Lent, answer}
+use Rattle.sort_modules.specs.Promise.{SortModules}
+use Rattle.expected_order.specs.Promise.{ExpectedOrder}
+use Rattle.actual_order.specs.Promise.{ActualOrder}
+use Rattle.chunk_cycles.specs.Promise.{LabelsPromise, ReachPromise}
+use Rattle.at_risk.specs.Entry.{EntryRisk}
+use Rattle.wrap_plan.specs.Planned.{PlanFromSeeds}
+use Rattle.order_analysis.specs.Whole.{WholeAnalysis}
+
+-- an operation with its argument
+pub data Call : Type 0 where
+  Sort : Call
+  Expected : ℕ → Call
+  Actual : ℕ → Call
+  Labels : Call
+  Reach : ℕ → Call
+  Risk : ℕ → Call
+  Plan : List ℕ → Call
+  Whole : Call
+  Refusal : Call
+
+-- each operation's own promise, of the outputs that it has
+abbrev pub Promise : Call → Lent → List ℕ → List ℕ → Answer → List ℕ → List ℕ → Type 0
+Promise Sort t first second r first′ second′ = SortModules t first second r first′ second′
+Promise (Expected root) t first second r first′ second′ = ExpectedOrder t root first r first′
+Promise (Actual root) t first second r first′ second′ = ActualOrder t root first second r first′ second′
+Promise Labels t first second r first′ second′ = LabelsPromise t first r first′
+Promise (Reach chunk) t first second r first′ second′ = ReachPromise t chunk r
+Promise (Risk root) t first second r first′ second′ = EntryRisk t root first r first′
+Promise (Plan seeds) t first second r first′ second′ = PlanFromSeeds t seeds first r first′
+Promise Whole t first second r first′ second′ = WholeAnalysis t first r first′
+Promise Refusal t first second r first′ second′ = r ≡ answer (t .number) 0

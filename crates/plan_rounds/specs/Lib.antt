@@ -1,0 +1,2 @@
+-- Closing a plan by rounds.
+pub mod inner

@@ -1,0 +1,2 @@
+-- The analysed entries' roots, and what they reach.
+pub mod inner

@@ -1,0 +1,2 @@
+-- Rule (iv).
+pub mod inner

@@ -1,0 +1,321 @@
+// Document 01's listing, its two import records lent as a slice of records to each record form. The table's own record columns hold what no project may: they aren't read.
+use io::print_decimal;
+use libc::STDOUT_FILENO;
+use record_columns::Record;
+use records::actual_records;
+use records::analyze_records;
+use records::expected_records;
+use records::label_records;
+use records::plan_records;
+use records::reach_records;
+use records::risk_records;
+use records::sort_records;
+use tables::Answer;
+
+// Module numbers and sorted list, of rows that are lent.
+fn sort_of<'a>(
+    runtime: u32,
+    dynamic: u32,
+    bounds: &'a [u32],
+    columns: &'a [u32],
+    rows: [Record; 2],
+    numbers: &mut [u32],
+    sorted: &mut [u32],
+) -> Answer {
+    sort_records(runtime, dynamic, bounds, columns, &rows, numbers, sorted)
+}
+
+// Expected order of an entry, of rows that are lent.
+fn expected_of<'a>(
+    runtime: u32,
+    dynamic: u32,
+    bounds: &'a [u32],
+    columns: &'a [u32],
+    rows: [Record; 2],
+    root: u32,
+    expected: &mut [u32],
+) -> Answer {
+    expected_records(runtime, dynamic, bounds, columns, &rows, root, expected)
+}
+
+// Actual order and hosts of an entry, of rows that are lent.
+fn actual_of<'a>(
+    runtime: u32,
+    dynamic: u32,
+    bounds: &'a [u32],
+    columns: &'a [u32],
+    rows: [Record; 2],
+    root: u32,
+    order: &mut [u32],
+    hosts: &mut [u32],
+) -> Answer {
+    actual_records(runtime, dynamic, bounds, columns, &rows, root, order, hosts)
+}
+
+// Labels of the chunks, of rows that are lent.
+fn label_of<'a>(
+    runtime: u32,
+    dynamic: u32,
+    bounds: &'a [u32],
+    columns: &'a [u32],
+    rows: [Record; 2],
+    labels: &mut [u32],
+) -> Answer {
+    label_records(runtime, dynamic, bounds, columns, &rows, labels)
+}
+
+// Whether a chunk reaches a cyclic one, of rows that are lent.
+fn reach_of<'a>(
+    runtime: u32,
+    dynamic: u32,
+    bounds: &'a [u32],
+    columns: &'a [u32],
+    rows: [Record; 2],
+    chunk: u32,
+) -> Answer {
+    reach_records(runtime, dynamic, bounds, columns, &rows, chunk)
+}
+
+// Risk of an entry, of rows that are lent.
+fn risk_of<'a>(
+    runtime: u32,
+    dynamic: u32,
+    bounds: &'a [u32],
+    columns: &'a [u32],
+    rows: [Record; 2],
+    root: u32,
+    marks: &mut [u32],
+) -> Answer {
+    risk_records(runtime, dynamic, bounds, columns, &rows, root, marks)
+}
+
+// Plan from seeds, of rows that are lent.
+fn plan_of<'a>(
+    runtime: u32,
+    dynamic: u32,
+    bounds: &'a [u32],
+    columns: &'a [u32],
+    rows: [Record; 2],
+    seeds: &[u32],
+    marks: &mut [u32],
+) -> Answer {
+    plan_records(runtime, dynamic, bounds, columns, &rows, seeds, marks)
+}
+
+// Whole analysis, of rows that are lent.
+fn analyze_of<'a>(
+    runtime: u32,
+    dynamic: u32,
+    bounds: &'a [u32],
+    columns: &'a [u32],
+    rows: [Record; 2],
+    marks: &mut [u32],
+) -> Answer {
+    analyze_records(runtime, dynamic, bounds, columns, &rows, marks)
+}
+
+fn wide(x: u32) -> u64 {
+    x as u64
+}
+
+// Prints a space and a number.
+fn print(number: u64) {
+    io::write_all(STDOUT_FILENO, b" ");
+    print_decimal(STDOUT_FILENO, number);
+}
+
+// Prints a word and an answer.
+fn print_answer(word: &[u8], answer: Answer) {
+    io::write_all(STDOUT_FILENO, word);
+    match answer {
+        Answer::Counted(count) => print(count as u64),
+        Answer::Refused(number) => {
+            io::write_all(STDOUT_FILENO, b" refused");
+            print(wide(number));
+        }
+    }
+}
+
+// Prints four numbers and ends the line.
+fn print_numbers(numbers: [u32; 4]) {
+    print(wide(numbers[0]));
+    print(wide(numbers[1]));
+    print(wide(numbers[2]));
+    print(wide(numbers[3]));
+    io::write_all(STDOUT_FILENO, b"\n");
+}
+
+// The sort and the two orders of entry 1.
+fn orders<'a>(bounds: &'a [u32], columns: &'a [u32], rows: [Record; 2]) {
+    let mut numbers = [7u32; 4];
+    let mut sorted = [7u32; 4];
+    let answer = sort_of(0, 0, bounds, columns, rows, &mut numbers, &mut sorted);
+    print_answer(b"sort", answer);
+    print_numbers(numbers);
+    print_answer(b"sorted", answer);
+    print_numbers(sorted);
+    let mut expected = [7u32; 4];
+    print_answer(
+        b"expected",
+        expected_of(0, 0, bounds, columns, rows, 1, &mut expected),
+    );
+    print_numbers(expected);
+    let mut order = [7u32; 4];
+    let mut hosts = [7u32; 4];
+    let answer = actual_of(0, 0, bounds, columns, rows, 1, &mut order, &mut hosts);
+    print_answer(b"actual", answer);
+    print_numbers(order);
+    print_answer(b"hosts", answer);
+    print_numbers(hosts);
+}
+
+// Labels, and whether chunk 0 reaches a cyclic one.
+fn cycles<'a>(bounds: &'a [u32], columns: &'a [u32], rows: [Record; 2]) {
+    let mut labels = [7u32; 4];
+    print_answer(
+        b"labels",
+        label_of(0, 0, bounds, columns, rows, &mut labels),
+    );
+    print_numbers(labels);
+    print_answer(b"reach", reach_of(0, 0, bounds, columns, rows, 0));
+    io::write_all(STDOUT_FILENO, b"\n");
+}
+
+// The risk of entry 1, the plan from module 2, and the whole analysis.
+fn plans<'a>(bounds: &'a [u32], columns: &'a [u32], rows: [Record; 2]) {
+    let mut risk = [7u32; 4];
+    print_answer(b"risk", risk_of(0, 0, bounds, columns, rows, 1, &mut risk));
+    print_numbers(risk);
+    let seeds = [2u32];
+    let mut plan = [7u32; 4];
+    print_answer(
+        b"plan",
+        plan_of(0, 0, bounds, columns, rows, &seeds, &mut plan),
+    );
+    print_numbers(plan);
+    let mut whole = [7u32; 4];
+    print_answer(
+        b"analysis",
+        analyze_of(0, 0, bounds, columns, rows, &mut whole),
+    );
+    print_numbers(whole);
+}
+
+fn main() {
+    let bounds = [
+        0u32,
+        4,
+        8,
+        12,
+        16,
+        20,
+        24,
+        28,
+        30,
+        31,
+        31,
+        33,
+        35,
+        35,
+        35,
+        35,
+        35,
+        35,
+        35,
+        35,
+        35,
+        35,
+        35,
+        35,
+        35,
+        35,
+        37,
+        41,
+        45,
+        46,
+        47,
+        48,
+        49,
+        49,
+    ];
+    let columns = [
+        1u32,
+        1,
+        1,
+        1,
+        1,
+        1,
+        1,
+        1,
+        0,
+        1,
+        1,
+        1,
+        0,
+        0,
+        0,
+        0,
+        1,
+        1,
+        1,
+        1,
+        0,
+        0,
+        0,
+        0,
+        1,
+        0,
+        0,
+        1,
+        9,
+        9,
+        9,
+        1,
+        1,
+        2,
+        3,
+        1,
+        0,
+        0,
+        0,
+        1,
+        1,
+        2,
+        1,
+        0,
+        3,
+        0,
+        1,
+        1,
+        0,
+    ];
+    let rows = [
+        Record {
+            importer: 1,
+            kind: 0,
+            target: 2,
+        },
+        Record {
+            importer: 1,
+            kind: 0,
+            target: 3,
+        },
+    ];
+    orders(&bounds, &columns, rows);
+    cycles(&bounds, &columns, rows);
+    plans(&bounds, &columns, rows);
+    // a first column that falls is 3
+    let fallen = [
+        Record {
+            importer: 2,
+            kind: 0,
+            target: 3,
+        },
+        Record {
+            importer: 1,
+            kind: 0,
+            target: 2,
+        },
+    ];
+    orders(&bounds, &columns, fallen);
+}

@@ -1,0 +1,45 @@
+// Actual order and hosts of an entry, over the columns of a list of records.
+ghost use mathlib.Core.Path.{_≡_};
+ghost use mathlib.Core.List.{List};
+ghost use Rattle.table.specs.Table.{lentWith};
+ghost use Rattle.actual_order.specs.Promise.{ActualOrder};
+ghost use Rattle.record_columns.specs.declared.Record.{Record};
+ghost use Rattle.record_columns.specs.Rows.{columnsOf, importerColumn, kindColumn, targetColumn};
+use actual_order::actual_order_with_records;
+use record_columns::core::Columns;
+use table::ROW_LIMIT;
+use tables::Answer;
+
+// The records are refused if they are over their limit.
+pub fn actual_columns<'a>(
+    runtime: u32,
+    dynamic: u32,
+    bounds: &'a [u32],
+    columns: &'a [u32],
+    made: Columns,
+    root: u32,
+    order: &mut [u32],
+    hosts: &mut [u32],
+) -> Answer
+    ensures { λ r. ⌜ ((records : List Record) → made ≡ columnsOf records → ActualOrder (lentWith runtime dynamic (now (bounds .entry)) (now (columns .entry)) (importerColumn records) (kindColumn records) (targetColumn records)) root (now (order .entry)) (now (hosts .entry)) r (now (order .exit)) (now (hosts .exit))) ⌝ }
+{
+    let rows = made.rows;
+    if ROW_LIMIT < rows {
+        return Answer::Refused(1);
+    }
+    let importers = made.importers;
+    let kinds = made.kinds;
+    let targets = made.targets;
+    actual_order_with_records(
+        runtime,
+        dynamic,
+        bounds,
+        columns,
+        &importers[..rows],
+        &kinds[..rows],
+        &targets[..rows],
+        root,
+        order,
+        hosts,
+    )
+}

@@ -1,0 +1,3 @@
+-- The risk of an entry over its two orders.
+pub mod Risk
+pub mod inner

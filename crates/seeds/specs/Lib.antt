@@ -1,0 +1,2 @@
+-- Lent seeds.
+pub mod Seeds

@@ -1,0 +1,2 @@
+-- What a record row leads to in the sort.
+pub mod Rows

@@ -1,0 +1,2 @@
+-- What the steps of a visit ask and ensure.
+pub mod Steps

@@ -1,0 +1,2 @@
+-- What visits keep.
+mod Carried

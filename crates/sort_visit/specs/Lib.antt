@@ -1,0 +1,2 @@
+-- What the visits ask, and the state of their walk.
+pub mod Visit

@@ -1,0 +1,2 @@
+-- Rule (i).
+pub mod inner

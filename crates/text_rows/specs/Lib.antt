@@ -1,0 +1,2 @@
+-- The lists of a text, row by row.
+pub mod inner
