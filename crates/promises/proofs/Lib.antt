@@ -5,6 +5,8 @@ pub mod Computing
 pub mod Cases
 pub mod Witnesses
 pub mod Needed
+pub mod LateWitnesses
+pub mod Late
 pub mod LoadWalks
 pub mod LoadRows
 pub mod Load

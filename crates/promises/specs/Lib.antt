@@ -9,3 +9,5 @@ pub mod Needed
 pub mod Load
 pub mod LoadNeeded
 pub mod LoadEvaluation
+pub mod Late
+pub mod LateWitnesses
