@@ -12,3 +12,5 @@ pub mod LoadRows
 pub mod Load
 pub mod LoadNeeded
 pub mod LoadEvaluation
+pub mod OwnTerms
+pub mod OfCalls

@@ -11,3 +11,5 @@ pub mod LoadNeeded
 pub mod LoadEvaluation
 pub mod Late
 pub mod LateWitnesses
+pub mod OwnTerms
+pub mod OfCalls

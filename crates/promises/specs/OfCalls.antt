@@ -1,0 +1,51 @@
+-- Demand 1 over all operations: what each one's promise gives is the outcome that its definitions compute, and a refusal changes nothing.
+-- Assumes nothing.
+use mathlib.Core.Path.{_≡_}
+use mathlib.Core.List.{List, [], _∷_}
+use Prim.Native.Nat.{ℕ}
+use Rattle.tables.specs.Answers.{numberOf, countOf}
+use Rattle.tables.specs.declared.Answer.{Answer}
+use Rattle.tables.specs.declared.Answer.the-variants.{Counted}
+use Rattle.table.specs.Table.{Lent}
+use Rattle.sort_modules.specs.Promise.{SortModules}
+use Rattle.expected_order.specs.Promise.{ExpectedOrder}
+use Rattle.actual_order.specs.Promise.{ActualOrder}
+use Rattle.chunk_cycles.specs.Promise.{LabelsPromise, ReachPromise}
+use Rattle.at_risk.specs.Entry.{EntryRisk}
+use Rattle.wrap_plan.specs.Planned.{PlanFromSeeds}
+use Rattle.order_analysis.specs.Whole.{WholeAnalysis}
+use Rattle.promises.specs.Calls.{Call, sort, expectedOrder, actualOrder, chunkLabels, chunkReach, riskOfAnEntry, planFromSeeds, wholeAnalysis, Outcome, outcomeOf}
+
+-- a call's answer and the slices that it leaves are the outcome, and an answer without a number is a count
+pub record Gives (t : Lent) (call : Call) (r : Answer) (left : List (List ℕ)) : Type 0 where
+  pub outcome : outcomeOf t call ≡ record { number = numberOf r; count = countOf r; slices = left }
+  pub accepted : numberOf r ≡ 0 → r ≡ Counted (countOf r)
+
+-- what each operation promises gives the outcome that the marked cases compute
+pub record PromisesGiveOutcomes : Type 0 where
+  pub ofSort : (t : Lent) (numbers sorted numbers′ sorted′ : List ℕ) (r : Answer) → SortModules t numbers sorted r numbers′ sorted′
+      → Gives t (sort numbers sorted) r (numbers′ ∷ sorted′ ∷ [])
+  pub ofExpectedOrder : (t : Lent) (root : ℕ) (order order′ : List ℕ) (r : Answer) → ExpectedOrder t root order r order′ → Gives t (expectedOrder root order) r (order′ ∷ [])
+  pub ofActualOrder : (t : Lent) (root : ℕ) (order hosts order′ hosts′ : List ℕ) (r : Answer) → ActualOrder t root order hosts r order′ hosts′
+      → Gives t (actualOrder root order hosts) r (order′ ∷ hosts′ ∷ [])
+  pub ofLabels : (t : Lent) (labels labels′ : List ℕ) (r : Answer) → LabelsPromise t labels r labels′ → Gives t (chunkLabels labels) r (labels′ ∷ [])
+  pub ofReach : (t : Lent) (chunk : ℕ) (r : Answer) → ReachPromise t chunk r → Gives t (chunkReach chunk) r []
+  pub ofRisk : (t : Lent) (root : ℕ) (marks marks′ : List ℕ) (r : Answer) → EntryRisk t root marks r marks′ → Gives t (riskOfAnEntry root marks) r (marks′ ∷ [])
+  pub ofPlan : (t : Lent) (seeds marks marks′ : List ℕ) (r : Answer) → PlanFromSeeds t seeds marks r marks′ → Gives t (planFromSeeds seeds marks) r (marks′ ∷ [])
+  pub ofWholeAnalysis : (t : Lent) (marks marks′ : List ℕ) (r : Answer) → WholeAnalysis t marks r marks′ → Gives t (wholeAnalysis marks) r (marks′ ∷ [])
+
+-- the slices that a call is lent
+abbrev pub slicesOf : Call → List (List ℕ)
+slicesOf (sort numbers sorted) = numbers ∷ sorted ∷ []
+slicesOf (expectedOrder root order) = order ∷ []
+slicesOf (actualOrder root order hosts) = order ∷ hosts ∷ []
+slicesOf (chunkLabels labels) = labels ∷ []
+slicesOf (chunkReach chunk) = []
+slicesOf (riskOfAnEntry root marks) = marks ∷ []
+slicesOf (planFromSeeds seeds marks) = marks ∷ []
+slicesOf (wholeAnalysis marks) = marks ∷ []
+
+-- "Refusals give count 0 and change no lent slice."
+unfoldable pub RefusalsChangeNothing : Type 0
+RefusalsChangeNothing =
+    (t : Lent) (call : Call) → (outcomeOf t call .number ≡ 0 → ⊥) → (outcomeOf t call .count ≡ 0) × (outcomeOf t call .slices ≡ slicesOf call)
