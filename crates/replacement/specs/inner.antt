@@ -1,0 +1,2 @@
+-- What the passes ask and ensure.
+pub mod Passes
