@@ -21,18 +21,20 @@ use Rattle.tables.specs.declared.Target.the-variants.{Missing, External, Normal
 use Rattle.tables.proofs.Rows.{run-ordered, rows-of-run}
 use Rattle.tables.proofs.Targets.{normal-in}
 use Rattle.load_order.proofs.Arranging.{mem-rows}
-use Rattle.triggers.specs.inner.Columns.{wayOf, runs, rowTrigger}
+use Rattle.triggers.specs.inner.Columns.{wayOf, runs, rowTrigger, ways, triggers}
 use Rattle.triggers.proofs.Columns.{way-external}
 use Rattle.visit_steps.specs.inner.Steps.{Spans, named, leads, inWay}
 use Rattle.visit_steps.proofs.Leading.{keep-flat}
 use Rattle.actual_order.specs.Actual.{executes, triggered, unwrapped, eagerMembers}
-use Rattle.actual_order.specs.inner.InTurn.{chunkOrder, hostsInTurn}
-use Rattle.actual_order.specs.inner.Cores.{namedBy, turns}
 
 pub flat-same : (f g : ℕ → List ℕ) (xs : List ℕ) → ((x : ℕ) → List·Memᴰ x xs → f x ≡ g x) → flatMap f xs ≡ flatMap g xs
 unfolding flatMap
 flat-same f g [] h = refl
 flat-same f g (x ∷ xs) h = ap (λ (l : List ℕ). l ++ flatMap f xs) (h x (List·Memᴰ·head refl)) ∙ ap (λ (l : List ℕ). g x ++ l) (flat-same f g xs (λ y m. h y (List·Memᴰ·tail m)))
+
+-- what the rows of an owner name, the mark left out
+unfoldable pub namedBy : List ℕ → List ℕ → ℕ → List ℕ
+namedBy owner column m = flatMap (named column) (rowsOf owner m)
 
 -- the first rows of a column of owners
 module _ {owner starts : List ℕ} (first : FirstRows owner starts) where
@@ -63,13 +65,6 @@ named-values n owner column m k e b =
     one : (row : ℕ) → row < length column → named column row ≡ getD column row 0 ∷ []
     one row l = rw (ne-eqb (getD column row 0) missing (λ q. absurd (omega (arith, b row l))))
 
--- the ways in which n modules execute, and what record rows trigger
-abbrev pub ways : List ℕ → List ℕ → List ℕ → ℕ → List ℕ
-ways normal included wrap n = map (wayOf normal included wrap) (upTo n)
-
-abbrev pub triggers : List ℕ → List ℕ → List ℕ → ℕ → List ℕ → List ℕ → List ℕ → List ℕ
-triggers normal included wrap n owner kind target = map (rowTrigger normal (ways normal included wrap n) kind target) (upTo (length owner))
-
 module _ (normal included wrap : List ℕ) (n : ℕ) (size : length normal ≡ n) where
   abbrev ws : List ℕ
   ws = ways normal included wrap n
@@ -93,8 +88,8 @@ module _ (normal included wrap : List ℕ) (n : ℕ) (size : length normal ≡ n
       go false true = refl
       go false false = refl
 
-  way-two : (m : ℕ) → inWay 2 ws m ≡ (wrapped wrap m && executes normal included m)
-  way-two m = ap (λ (w : ℕ). eqb w 2) (way-at m) ∙ go (executes normal included m) (wrapped wrap m)
+  two : (m : ℕ) → eqb (wayOf normal included wrap m) 2 ≡ (wrapped wrap m && executes normal included m)
+  two m = go (executes normal included m) (wrapped wrap m)
     where
       go : (e w : Bool) → eqb (cond e (cond w 2 1) 0) 2 ≡ (w && e)
       go true true = refl
@@ -102,24 +97,14 @@ module _ (normal included wrap : List ℕ) (n : ℕ) (size : length normal ≡ n
       go false true = refl
       go false false = refl
 
-  keep-one : (xs : List ℕ) → keep (inWay 1 ws) xs ≡ keep (executes normal included) (keep (unwrapped wrap) xs)
+  pub keep-one : (xs : List ℕ) → keep (inWay 1 (ways normal included wrap n)) xs ≡ keep (executes normal included) (keep (unwrapped wrap) xs)
   keep-one xs = keep-cong (inWay 1 ws) _ xs (λ x h. way-one x) ∙ sym (keep-keep (executes normal included) (unwrapped wrap) xs)
 
-  keep-two : (xs : List ℕ) → keep (inWay 2 ws) xs ≡ keep (executes normal included) (keep (wrapped wrap) xs)
-  keep-two xs = keep-cong (inWay 2 ws) _ xs (λ x h. way-two x) ∙ sym (keep-keep (executes normal included) (wrapped wrap) xs)
+  pub keep-two : (xs : List ℕ) → keep (inWay 2 (ways normal included wrap n)) xs ≡ keep (executes normal included) (keep (wrapped wrap) xs)
+  keep-two xs = keep-cong (inWay 2 ws) _ xs (λ x h. ap (λ (w : ℕ). eqb w 2) (way-at x) ∙ two x) ∙ sym (keep-keep (executes normal included) (wrapped wrap) xs)
 
-  -- the hosts in turn are those that execute
-  pub turns-kept : (memberChunk member : List ℕ) (loads : ℕ → List ℕ) (chunks root chunk : ℕ)
-      → turns (ways normal included wrap n) memberChunk member loads chunks root chunk ≡ keep (executes normal included) (hostsInTurn wrap memberChunk member loads chunks root chunk)
-  unfolding turns hostsInTurn chunkOrder eagerMembers
-  turns-kept memberChunk member loads chunks root chunk =
-      let cs : List ℕ = postOrder loads everywhere chunks (chunk ∷ []) in
-      let eager : ℕ → List ℕ = λ (c : ℕ). keep (unwrapped wrap) (membersOf memberChunk member c) in
-      ap (λ (l : List ℕ). l ++ keep (inWay 2 ws) (root ∷ []))
-      (flat-same (λ (c : ℕ). keep (inWay 1 ws) (membersOf memberChunk member c)) (λ (c : ℕ). keep (executes normal included) (eager c)) cs (λ c h. keep-one (membersOf memberChunk member c))
-      ∙ sym (keep-flat (executes normal included) eager cs))
-      ∙ ap (λ (l : List ℕ). keep (executes normal included) (flatMap eager cs) ++ l) (keep-two (root ∷ []))
-      ∙ sym (keep-append (executes normal included) (flatMap eager cs) (keep (wrapped wrap) (root ∷ [])))
+  runs-kept : (xs : List ℕ) → runs normal included wrap xs ≡ keep (executes normal included) (keep (wrapped wrap) xs)
+  runs-kept xs = keep-cong (λ (t : ℕ). eqb (wayOf normal included wrap t) 2) _ xs (λ x h. two x) ∙ sym (keep-keep (executes normal included) (wrapped wrap) xs)
 
   -- what a row triggers
   module _ (kind target : List ℕ) (row : ℕ) where
@@ -134,7 +119,7 @@ module _ (normal included wrap : List ℕ) (n : ℕ) (size : length normal ≡ n
 
     -- by its kind, whether its target is missing, and whether that is normal
     by-row : (b p q : Bool) → eqb t missing ≡ p → isNormal normal t ≡ q
-        → one (firstOf (runs ws (cond b (normalTarget (pickTarget p Missing (pickTarget q (Normal t) (External t)))) [])))
+        → one (firstOf (runs normal included wrap (cond b (normalTarget (pickTarget p Missing (pickTarget q (Normal t) (External t)))) [])))
         ≡ keep (executes normal included) (keep (wrapped wrap) (cond b (anyTarget (pickTarget p Missing (pickTarget q (Normal t) (External t)))) []))
     by-row false p q e f = none
     by-row true true q e f = none
@@ -143,43 +128,43 @@ module _ (normal included wrap : List ℕ) (n : ℕ) (size : length normal ≡ n
         out : (w : Bool) → cond (w && executes normal included t) (t ∷ []) [] ≡ []
         out true = rw f
         out false = refl
-    by-row true false true e f = listed (inWay 2 ws t) ∙ keep-two (t ∷ [])
+    by-row true false true e f = listed (eqb (wayOf normal included wrap t) 2) ∙ runs-kept (t ∷ [])
       where
         listed : (c : Bool) → one (firstOf (cond c (t ∷ []) [])) ≡ cond c (t ∷ []) []
         listed true = rw e
         listed false = none
 
-    pub row-names : one (rowTrigger normal ws kind target row) ≡ keep (executes normal included) (keep (wrapped wrap) (rowTargets isEager anyTarget normal kind target row))
+    pub row-names : one (rowTrigger normal included wrap kind target row) ≡ keep (executes normal included) (keep (wrapped wrap) (rowTargets isEager anyTarget normal kind target row))
     unfolding resolved
     row-names = by-row (isEager (getD kind row 0)) (eqb t missing) (isNormal normal t) refl refl
 
-    by-row-in : (b p q : Bool) → isNormal normal t ≡ q → let x = firstOf (runs ws (cond b (normalTarget (pickTarget p Missing (pickTarget q (Normal t) (External t)))) [])) in (x < n) ⊎ (x ≡ missing)
+    by-row-in : (b p q : Bool) → isNormal normal t ≡ q → let x = firstOf (runs normal included wrap (cond b (normalTarget (pickTarget p Missing (pickTarget q (Normal t) (External t)))) [])) in (x < n) ⊎ (x ≡ missing)
     by-row-in false p q f = inr refl
     by-row-in true true q f = inr refl
     by-row-in true false false f = inr refl
-    by-row-in true false true f = kept (inWay 2 ws t)
+    by-row-in true false true f = kept (eqb (wayOf normal included wrap t) 2)
       where
         kept : (c : Bool) → (firstOf (cond c (t ∷ []) []) < n) ⊎ (firstOf (cond c (t ∷ []) []) ≡ missing)
         kept true = inl (omega (arith, size, normal-in normal t f))
         kept false = inr refl
 
-    pub row-inside : (rowTrigger normal ws kind target row < n) ⊎ (rowTrigger normal ws kind target row ≡ missing)
+    pub row-inside : (rowTrigger normal included wrap kind target row < n) ⊎ (rowTrigger normal included wrap kind target row ≡ missing)
     unfolding resolved
     row-inside = by-row-in (isEager (getD kind row 0)) (eqb t missing) (isNormal normal t) refl
 
   -- what record rows trigger
   module _ (owner kind target : List ℕ) where
     abbrev trs : List ℕ
-    trs = triggers normal included wrap n owner kind target
+    trs = triggers normal included wrap kind target (length owner)
 
-    trigger-at : (row : ℕ) → row < length owner → getD trs row 0 ≡ rowTrigger normal ws kind target row
-    trigger-at row l = getD-map-upTo (rowTrigger normal ws kind target) (length owner) row 0 l
+    trigger-at : (row : ℕ) → row < length owner → getD trs row 0 ≡ rowTrigger normal included wrap kind target row
+    trigger-at row l = getD-map-upTo (rowTrigger normal included wrap kind target) (length owner) row 0 l
 
-    pub triggers-inside : BelowOrMissing n (triggers normal included wrap n owner kind target)
-    triggers-inside i l = subst (λ (x : ℕ). (x < n) ⊎ (x ≡ missing)) (sym (trigger-at i (omega (arith, length-map-upTo (rowTrigger normal ws kind target) (length owner))))) (row-inside kind target i)
+    pub triggers-inside : BelowOrMissing n (triggers normal included wrap kind target (length owner))
+    triggers-inside i l = subst (λ (x : ℕ). (x < n) ⊎ (x ≡ missing)) (sym (trigger-at i (omega (arith, length-map-upTo (rowTrigger normal included wrap kind target) (length owner))))) (row-inside kind target i)
 
     -- the rows of a module name those that it triggers and that execute
-    pub triggers-named : (m : ℕ) → namedBy owner (triggers normal included wrap n owner kind target) m ≡ keep (executes normal included) (triggered normal wrap owner kind target m)
+    pub triggers-named : (m : ℕ) → namedBy owner (triggers normal included wrap kind target (length owner)) m ≡ keep (executes normal included) (triggered normal wrap owner kind target m)
     unfolding namedBy triggered targetsOf
     triggers-named m =
         let gate : ℕ → Bool = executes normal included in

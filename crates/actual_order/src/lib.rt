@@ -2,7 +2,7 @@
 ghost use Rattle.table.specs.Table.{lent, lentWith};
 ghost use Rattle.actual_order.specs.Promise.{ActualOrder};
 use analysed_entries::core::find_entry;
-use core::arrange_and_list;
+use core::prepare_and_list;
 use refusal::refusal_number;
 use table::DEPENDENCY;
 use table::MEMBER;
@@ -61,7 +61,7 @@ pub fn actual_order_with_records<'a>(
     if hosts.len() < modules {
         return Answer::Refused(6);
     }
-    let count = arrange_and_list(
+    let count = prepare_and_list(
         runtime,
         dynamic,
         bounds,

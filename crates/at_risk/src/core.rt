@@ -5,7 +5,7 @@ ghost use Rattle.lists.specs.Words.{has};
 ghost use Rattle.tables.specs.Project.{Project};
 ghost use Rattle.tables.specs.Accepted.{Accepted};
 ghost use Rattle.table.specs.Table.{table, read};
-ghost use Rattle.load_order.specs.inner.OverTable.{Arranged};
+ghost use Rattle.visit_columns.specs.inner.OverTable.{Prepared};
 ghost use Rattle.analysed_entries.specs.inner.Entries.{Entry};
 ghost use Rattle.actual_order.specs.Actual.{actualOf, hostsOf};
 ghost use Rattle.chunk_cycles.specs.Cycles.{labelsOf, reachesCycleOf};
@@ -23,18 +23,17 @@ use eligibility::of_table::mark_table_eligible;
 use expected_order::core::list_expected;
 use lists::core::count_marked;
 use lists::core::fill;
-use load_order::core::arrange_table;
 use risk_of_orders::core::add_cycle_risk;
 use risk_of_orders::core::add_order_risk;
 use sensitivity::core::mark_table_sensitive;
 use table::CHUNK_LIMIT;
-use table::IMPORTS;
 use table::MODULE_LIMIT;
 use table::ORDER;
-use table::ROW_LIMIT;
 use table::rows;
+use visit_columns::core::PREPARED;
+use visit_columns::core::prepare_table;
 
-// Adds the order risk of an entry whose expected order is given to a set. `loads` has each chunk's imported chunks in load order.
+// Adds the order risk of an entry whose expected order is given to a set. `prepared` has the columns that the visits read.
 fn add_entry_order_risk<'a>(
     runtime: u32,
     dynamic: u32,
@@ -45,7 +44,7 @@ fn add_entry_order_risk<'a>(
     targets: &'a [u32],
     dependencies: &'a [u32],
     members: &'a [u32],
-    loads: &'a [u32],
+    prepared: &'a [u32],
     sensitives: &'a [u32],
     eligibles: &'a [u32],
     expected: &'a [u32],
@@ -55,7 +54,7 @@ fn add_entry_order_risk<'a>(
 )
     ghost { Project }
     requires project { λ p. ⌜ read (table runtime dynamic (now bounds) (now columns)) (now importers) (now kinds) (now targets) (now dependencies) (now members) ≡ p ⌝ }
-    requires loads { λ p. ⌜ Arranged p (now loads) ⌝ }
+    requires prepared { λ p. ⌜ Prepared p (now prepared) ⌝ }
     requires sets { λ p. ⌜ Sets p (now sensitives) (now eligibles) ⌝ }
     requires entry { λ p. ⌜ Entry p root chunk ⌝ }
     requires placed { λ p. ⌜ Placed p (now expected) (length (now out)) ⌝ }
@@ -74,7 +73,7 @@ fn add_entry_order_risk<'a>(
         targets,
         dependencies,
         members,
-        loads,
+        prepared,
         &mut actual,
         &mut hosts[..n],
         root,
@@ -130,8 +129,8 @@ fn add_entry_cycle_risk<'a>(
     add_cycle_risk(expected, eligibles, out, reaches_cycle);
 }
 
-// Adds the risk of an entry to a set. `loads` has each chunk's imported chunks in load order, `labels` the chunks' labels, `sensitives` and `eligibles`
-// the marks of those modules.
+// Adds the risk of an entry to a set. `prepared` has the columns that the visits read, `labels` the chunks' labels, `sensitives` and `eligibles` the marks of
+// those modules.
 pub fn add_entry_risk<'a>(
     runtime: u32,
     dynamic: u32,
@@ -142,7 +141,7 @@ pub fn add_entry_risk<'a>(
     targets: &'a [u32],
     dependencies: &'a [u32],
     members: &'a [u32],
-    loads: &'a [u32],
+    prepared: &'a [u32],
     labels: &'a [u32],
     sensitives: &'a [u32],
     eligibles: &'a [u32],
@@ -152,7 +151,7 @@ pub fn add_entry_risk<'a>(
 )
     ghost { Project }
     requires project { λ p. ⌜ read (table runtime dynamic (now bounds) (now columns)) (now importers) (now kinds) (now targets) (now dependencies) (now members) ≡ p ⌝ }
-    requires loads { λ p. ⌜ Arranged p (now loads) ⌝ }
+    requires prepared { λ p. ⌜ Prepared p (now prepared) ⌝ }
     requires labels { λ p. ⌜ now labels ≡ labelsOf p ⌝ }
     requires sets { λ p. ⌜ Sets p (now sensitives) (now eligibles) ⌝ }
     requires entry { λ p. ⌜ Entered p root chunk (length (now out)) ⌝ }
@@ -185,7 +184,7 @@ pub fn add_entry_risk<'a>(
         targets,
         dependencies,
         members,
-        loads,
+        prepared,
         sensitives,
         eligibles,
         &expected[..count],
@@ -234,10 +233,9 @@ fn add_marked_risk<'a>(
     requires entry { λ p. ⌜ Entered p root chunk (length (now out)) ⌝ }
     ensures { λ p _. ⌜ now (out .exit) ≡ join (now (out .entry)) (has (riskOfEntry p root)) ⌝ }
 {
-    let count = rows(bounds, columns, IMPORTS);
     let chunks = rows(bounds, columns, ORDER);
-    let mut loads = [0u32; ROW_LIMIT];
-    arrange_table(
+    let mut prepared = [0u32; PREPARED];
+    prepare_table(
         runtime,
         dynamic,
         bounds,
@@ -247,7 +245,7 @@ fn add_marked_risk<'a>(
         targets,
         dependencies,
         members,
-        &mut loads[..count],
+        &mut prepared,
     );
     let mut labels = [0u32; CHUNK_LIMIT];
     label_table(
@@ -272,7 +270,7 @@ fn add_marked_risk<'a>(
         targets,
         dependencies,
         members,
-        &loads[..count],
+        &prepared,
         &labels[..chunks],
         sensitives,
         eligibles,

@@ -9,26 +9,26 @@ ghost use Rattle.table.specs.Places.{Places};
 ghost use Rattle.risk_of_orders.specs.inner.Steps.{join};
 ghost use Rattle.wrap_rules.specs.Plan.{roots as rootsOf};
 ghost use Rattle.order_analysis.specs.Whole.{wholePlan};
-ghost use Rattle.order_analysis.specs.inner.Analysis.{risksOf, Prepared};
+ghost use Rattle.order_analysis.specs.inner.Analysis.{risksOf, Made};
 use analysed_entries::core::find_entry;
 use at_risk::core::add_entry_risk;
 use chunk_cycles::core::label_table;
 use eligibility::of_table::mark_table_eligible;
 use lists::core::count_marked;
 use lists::core::fill;
-use load_order::core::arrange_table;
 use plan_rounds::core::build_order_wrap_plan;
 use reached_modules::core::list_table_roots;
 use seeds::core::mark_table_seeds;
 use sensitivity::core::mark_table_sensitive;
 use table::CHUNK_LIMIT;
-use table::IMPORTS;
 use table::MODULE_LIMIT;
 use table::ORDER;
 use table::ROW_LIMIT;
 use table::rows;
+use visit_columns::core::PREPARED;
+use visit_columns::core::prepare_table;
 
-// Adds the risk of each root to a set. `loads` has each chunk's imported chunks in load order, `labels` the chunks' labels, `sensitives` and `eligibles`
+// Adds the risk of each root to a set. `prepared` has the columns that the visits read, `labels` the chunks' labels, `sensitives` and `eligibles`
 // the marks of those modules.
 fn add_risks<'a>(
     runtime: u32,
@@ -41,7 +41,7 @@ fn add_risks<'a>(
     dependencies: &'a [u32],
     members: &'a [u32],
     roots: &'a [u32],
-    loads: &'a [u32],
+    prepared: &'a [u32],
     labels: &'a [u32],
     sensitives: &'a [u32],
     eligibles: &'a [u32],
@@ -50,7 +50,7 @@ fn add_risks<'a>(
     ghost { Project }
     requires project { λ p. ⌜ read (table runtime dynamic (now bounds) (now columns)) (now importers) (now kinds) (now targets) (now dependencies) (now members) ≡ p ⌝ }
     requires roots { λ p. ⌜ now roots ≡ rootsOf p ⌝ }
-    requires made { λ p. ⌜ Prepared p (now labels) (now loads) (now sensitives) (now eligibles) (length (now out)) ⌝ }
+    requires made { λ p. ⌜ Made p (now labels) (now prepared) (now sensitives) (now eligibles) (length (now out)) ⌝ }
     ensures { λ p _. ⌜ now (out .exit) ≡ join (now (out .entry)) (risksOf p) ⌝ }
 {
     let count = roots.len();
@@ -78,7 +78,7 @@ fn add_risks<'a>(
             targets,
             dependencies,
             members,
-            loads,
+            prepared,
             labels,
             sensitives,
             eligibles,
@@ -100,7 +100,7 @@ fn mark_risks<'a>(
     targets: &'a [u32],
     dependencies: &'a [u32],
     members: &'a [u32],
-    loads: &'a [u32],
+    prepared: &'a [u32],
     labels: &'a [u32],
     sensitives: &'a [u32],
     eligibles: &'a [u32],
@@ -108,7 +108,7 @@ fn mark_risks<'a>(
 )
     ghost { Project }
     requires project { λ p. ⌜ read (table runtime dynamic (now bounds) (now columns)) (now importers) (now kinds) (now targets) (now dependencies) (now members) ≡ p ⌝ }
-    requires made { λ p. ⌜ Prepared p (now labels) (now loads) (now sensitives) (now eligibles) (length (now out)) ⌝ }
+    requires made { λ p. ⌜ Made p (now labels) (now prepared) (now sensitives) (now eligibles) (length (now out)) ⌝ }
     ensures { λ p _. ⌜ now (out .exit) ≡ marksOf (risksOf p) (modules p) ⌝ }
 {
     let mut roots = [0u32; ROW_LIMIT];
@@ -136,7 +136,7 @@ fn mark_risks<'a>(
         dependencies,
         members,
         &roots[..count],
-        loads,
+        prepared,
         labels,
         sensitives,
         eligibles,
@@ -155,7 +155,7 @@ fn plan_risks<'a>(
     targets: &'a [u32],
     dependencies: &'a [u32],
     members: &'a [u32],
-    loads: &'a [u32],
+    prepared: &'a [u32],
     labels: &'a [u32],
     sensitives: &'a [u32],
     eligibles: &'a [u32],
@@ -163,7 +163,7 @@ fn plan_risks<'a>(
 )
     ghost { Project }
     requires project { λ p. ⌜ read (table runtime dynamic (now bounds) (now columns)) (now importers) (now kinds) (now targets) (now dependencies) (now members) ≡ p ⌝ }
-    requires made { λ p. ⌜ Prepared p (now labels) (now loads) (now sensitives) (now eligibles) (length (now plan)) ⌝ }
+    requires made { λ p. ⌜ Made p (now labels) (now prepared) (now sensitives) (now eligibles) (length (now plan)) ⌝ }
     ensures { λ p _. ⌜ now (plan .exit) ≡ wholePlan p ⌝ }
 {
     mark_risks(
@@ -176,7 +176,7 @@ fn plan_risks<'a>(
         targets,
         dependencies,
         members,
-        loads,
+        prepared,
         labels,
         sensitives,
         eligibles,
@@ -233,7 +233,6 @@ pub fn analyze<'a>(
 {
     let n = plan.len();
     let chunks = rows(bounds, columns, ORDER);
-    let count = rows(bounds, columns, IMPORTS);
     let mut labels = [0u32; CHUNK_LIMIT];
     label_table(
         runtime,
@@ -247,8 +246,8 @@ pub fn analyze<'a>(
         members,
         &mut labels[..chunks],
     );
-    let mut loads = [0u32; ROW_LIMIT];
-    arrange_table(
+    let mut prepared = [0u32; PREPARED];
+    prepare_table(
         runtime,
         dynamic,
         bounds,
@@ -258,7 +257,7 @@ pub fn analyze<'a>(
         targets,
         dependencies,
         members,
-        &mut loads[..count],
+        &mut prepared,
     );
     let mut sensitives = [0u32; MODULE_LIMIT];
     mark_table_sensitive(
@@ -296,7 +295,7 @@ pub fn analyze<'a>(
         targets,
         dependencies,
         members,
-        &loads[..count],
+        &prepared,
         &labels[..chunks],
         &sensitives[..n],
         &eligibles[..n],

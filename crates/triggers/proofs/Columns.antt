@@ -1,6 +1,7 @@
 -- The cases of the two columns, and a column written place by place.
 -- Assumes nothing.
-use mathlib.Core.Path.{_≡_, refl, sym, _∙_}
+use mathlib.Core.Path.{_≡_, refl, sym, ap, _∙_}
+use mathlib.Core.Bool.{Bool, cond}
 use mathlib.Core.List.{List, [], _∷_, map}
 use Prim.Native.Nat.{ℕ, _+_, _≤_, _<_}
 use native.Mathlib.Omega.{arith}
@@ -28,20 +29,21 @@ module _ (normal included wrap : List ℕ) (m : ℕ) where
   pub way-wrapped : getD normal m 0 ≡ 1 → getD included m 0 ≡ 1 → (getD wrap m 0 ≡ 0 → ⊥) → wayOf normal included wrap m ≡ 2
   way-wrapped n i w = rw (eq-eqb (getD normal m 0) 1 n, eq-eqb (getD included m 0) 1 i, ne-eqb (getD wrap m 0) 0 w)
 
-module _ (normal ways kind target : List ℕ) (row : ℕ) where
+module _ (normal included wrap kind target : List ℕ) (row : ℕ) where
   -- another kind triggers nothing
-  pub trigger-kind : 1 < getD kind row 0 → rowTrigger normal ways kind target row ≡ missing
+  pub trigger-kind : 1 < getD kind row 0 → rowTrigger normal included wrap kind target row ≡ missing
   trigger-kind l = rw (le-ltb (getD kind row 0) 2 (omega arith))
 
   -- kind 0 or 1 triggers its normal target, if that executes where it is triggered
-  pub trigger-eager : (found : Target) → getD kind row 0 ≤ 1 → resolved normal target row ≡ found → rowTrigger normal ways kind target row ≡ firstOf (runs ways (normalTarget found))
+  pub trigger-eager : (found : Target) → getD kind row 0 ≤ 1 → resolved normal target row ≡ found → rowTrigger normal included wrap kind target row ≡ firstOf (runs normal included wrap (normalTarget found))
   trigger-eager found l e = rw (lt-ltb (getD kind row 0) 2 (omega arith), e)
 
-pub run-one : (ways : List ℕ) (t : ℕ) → getD ways t 0 ≡ 2 → runs ways (t ∷ []) ≡ t ∷ []
-run-one ways t e = rw (eq-eqb (getD ways t 0) 2 e)
+module _ (normal included wrap : List ℕ) (t : ℕ) where
+  pub run-one : wayOf normal included wrap t ≡ 2 → runs normal included wrap (t ∷ []) ≡ t ∷ []
+  run-one e = ap (λ (b : Bool). cond b (t ∷ []) []) (eq-eqb (wayOf normal included wrap t) 2 e)
 
-pub run-none : (ways : List ℕ) (t : ℕ) → (getD ways t 0 ≡ 2 → ⊥) → runs ways (t ∷ []) ≡ []
-run-none ways t n = rw (ne-eqb (getD ways t 0) 2 n)
+  pub run-none : (wayOf normal included wrap t ≡ 2 → ⊥) → runs normal included wrap (t ∷ []) ≡ []
+  run-none n = ap (λ (b : Bool). cond b (t ∷ []) []) (ne-eqb (wayOf normal included wrap t) 2 n)
 
 -- the places below i are written, by a function of the place
 pub record Written (f : ℕ → ℕ) (old : List ℕ) (i : ℕ) (now : List ℕ) : Type 0 where

@@ -1,2 +1,2 @@
--- `Columns`: the cases of the two columns.
+-- `Columns`: the cases of the two columns, and a column written place by place.
 pub mod Columns

@@ -41,15 +41,16 @@ pub fn write_ways<'a>(normal: &'a [u32], included: &'a [u32], wrap: &'a [u32], w
 // Which module a record row triggers: its target, if its kind is 0 or 1 and the target executes and its wrap is not 0. Else the mark.
 fn trigger_of<'a>(
     normal: &'a [u32],
-    ways: &'a [u32],
+    included: &'a [u32],
+    wrap: &'a [u32],
     record_kind: &'a [u32],
     record_target: &'a [u32],
     row: usize,
 ) -> u32
     requires kind { ⌜ row < length (now «record_kind») ⌝ }
     requires target { ⌜ row < length (now «record_target») ⌝ }
-    requires modules { ⌜ length (now ways) ≡ length (now normal) ⌝ }
-    ensures { λ r. ⌜ r ≡ rowTrigger (now (normal .entry)) (now (ways .entry)) (now («record_kind» .entry)) (now («record_target» .entry)) row ⌝ }
+    requires modules { ⌜ (length (now included) ≡ length (now normal)) × (length (now wrap) ≡ length (now normal)) ⌝ }
+    ensures { λ r. ⌜ r ≡ rowTrigger (now (normal .entry)) (now (included .entry)) (now (wrap .entry)) (now («record_kind» .entry)) (now («record_target» .entry)) row ⌝ }
 {
     if 1 < record_kind[row] {
         return ModuleIdx::MISSING;
@@ -58,7 +59,7 @@ fn trigger_of<'a>(
     let Target::Normal(t) = found else {
         return ModuleIdx::MISSING;
     };
-    if ways[t as usize] != 2 {
+    if way_of(normal, included, wrap, t as usize) != 2 {
         return ModuleIdx::MISSING;
     }
     t
@@ -67,19 +68,20 @@ fn trigger_of<'a>(
 // Which module each record row triggers, or the mark, a place a row.
 pub fn write_triggers<'a>(
     normal: &'a [u32],
-    ways: &'a [u32],
+    included: &'a [u32],
+    wrap: &'a [u32],
     record_kind: &'a [u32],
     record_target: &'a [u32],
     triggers: &mut [u32],
 )
     requires kinds { ⌜ length (now «record_kind») ≡ length (now triggers) ⌝ }
     requires targets { ⌜ length (now «record_target») ≡ length (now triggers) ⌝ }
-    requires modules { ⌜ length (now ways) ≡ length (now normal) ⌝ }
-    ensures { λ _. ⌜ now (triggers .exit) ≡ map (rowTrigger (now (normal .entry)) (now (ways .entry)) (now («record_kind» .entry)) (now («record_target» .entry))) (upTo (length (now (triggers .entry)))) ⌝ }
+    requires modules { ⌜ (length (now included) ≡ length (now normal)) × (length (now wrap) ≡ length (now normal)) ⌝ }
+    ensures { λ _. ⌜ now (triggers .exit) ≡ map (rowTrigger (now (normal .entry)) (now (included .entry)) (now (wrap .entry)) (now («record_kind» .entry)) (now («record_target» .entry))) (upTo (length (now (triggers .entry)))) ⌝ }
 {
     let mut row = 0;
     while row < triggers.len() {
-        triggers[row] = trigger_of(normal, ways, record_kind, record_target, row);
+        triggers[row] = trigger_of(normal, included, wrap, record_kind, record_target, row);
         row += 1;
     }
 }

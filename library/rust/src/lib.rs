@@ -1,5 +1,5 @@
 //! The order planner's operations for Rust, over `target/staticlib/libjolmuqter.a`. `../jolmuqter.h` says what each argument and answer is.
-//! A call uses less than 2 MB of stack.
+//! A call uses less than 2 MiB of stack.
 
 /// The missing mark.
 pub const MISSING: u32 = u32::MAX;

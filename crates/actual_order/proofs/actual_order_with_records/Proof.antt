@@ -89,11 +89,11 @@ returns-4 c =
     let n = counted (c .before .before) in
     hosts-refused (lents e) (e .args .root) (e .args .order .now) (e .args .hosts .now) (accepts k) (here (c .before .before .before) .0) (omega (arith, n, c .before .if3 .left)) (omega (arith, n, c .if4 .taken))
 
-slice-aggregate-arrange-and-list : tie.Need-slice-aggregate-arrange-and-list
-slice-aggregate-arrange-and-list c = sym (part (c .before .before))
+slice-aggregate-prepare-and-list : tie.Need-slice-aggregate-prepare-and-list
+slice-aggregate-prepare-and-list c = sym (part (c .before .before))
 
-arrange-and-list-requires : tie.Need-arrange-and-list-requires
-arrange-and-list-requires c κs =
+prepare-and-list-requires : tie.Need-prepare-and-list-requires
+prepare-and-list-requires c κs =
     let k = c .before .before .before .before .before .before .before in
     let a = entry k .args in
     let n = c .before .before .before .before in
@@ -106,7 +106,7 @@ returns-5 c =
     let e = entry k in
     let a = e .args in
     let n = c .before .before .before .before .before .before .before .before .before in
-    let done = c .before .before .before .before .arrange-and-list in
+    let done = c .before .before .before .before .prepare-and-list in
     let out = done .last .1 .1 .1 .1 .1 .1 .1 .1 .1 in
     let order : List ℕ = out .0 in
     let hosts : List ℕ = out .1 .0 in
@@ -117,4 +117,4 @@ returns-5 c =
 pub actual-order-with-records-spec : {M : Type 1} → statement M
 actual-order-with-records-spec =
     tie.close
-    (tie.spec (λ c κs. search needs) returns (λ c κs. search needs) (λ c κs. search needs) find-entry-requires returns-2 (λ c κs. search needs) returns-3 returns-4 (λ c. search needs) slice-aggregate-arrange-and-list arrange-and-list-requires (λ c. search needs) (λ c. search needs) returns-5)
+    (tie.spec (λ c κs. search needs) returns (λ c κs. search needs) (λ c κs. search needs) find-entry-requires returns-2 (λ c κs. search needs) returns-3 returns-4 (λ c. search needs) slice-aggregate-prepare-and-list prepare-and-list-requires (λ c. search needs) (λ c. search needs) returns-5)

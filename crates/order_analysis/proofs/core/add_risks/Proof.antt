@@ -23,12 +23,12 @@ abbrev put : Project → ℕ → ℕ → Bool
 put p root = has (riskOfEntry p root)
 
 abbrev Inv-loop : tie.InvT-loop
-Inv-loop runtime dynamic bounds columns importers kinds targets dependencies members roots loads labels sensitives eligibles out₀ count k₀ out k =
+Inv-loop runtime dynamic bounds columns importers kinds targets dependencies members roots prepared labels sensitives eligibles out₀ count k₀ out k =
     (count ≡ length roots) × (k ≤ count) × (length out ≡ length out₀)
     × (out ≡ join out₀ (ofFirst (put (read (table runtime dynamic bounds columns) importers kinds targets dependencies members)) roots out₀ k))
 
 abbrev μ-loop : tie.MeasureT-loop
-μ-loop runtime dynamic bounds columns importers kinds targets dependencies members roots loads labels sensitives eligibles out₀ count k₀ out k = count - k
+μ-loop runtime dynamic bounds columns importers kinds targets dependencies members roots prepared labels sensitives eligibles out₀ count k₀ out k = count - k
 
 abbrev Start : Type 0
 Start = tie.Start Inv-loop μ-loop
@@ -65,7 +65,7 @@ add-entry-risk-requires c κs =
     let t = c .before in
     let l = c .before .before .before .before in
     let m = entry l .pre .1 in
-    (m .load, (m .basis .label, (record { accepted = m .basis .accepted; sensitiveSet = m .basis .sensitiveSet; eligibleSet = m .basis .eligibleSet }, record { entry = found t; size = l .loop .inv .2 ∙ m .size })))
+    (m .columns, (m .basis .label, (record { accepted = m .basis .accepted; sensitiveSet = m .basis .sensitiveSet; eligibleSet = m .basis .eligibleSet }, record { entry = found t; size = l .loop .inv .2 ∙ m .size })))
 
 add-k : tie.Need-add-k Inv-loop μ-loop
 add-k c = let t = c .before .before .before .before .before .before .loop-test .taken in let i = c .before .before .before .before .before .before .before .loop .inv in let g = c .before .before .before .before .before .before .before .before .before .before .before .before .before .before .before .before .before .before .before .before .before .good in search needs

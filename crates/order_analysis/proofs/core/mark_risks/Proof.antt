@@ -12,7 +12,7 @@ use Rattle.table.specs.Table.{table, read}
 use Rattle.risk_of_orders.specs.inner.Steps.{join}
 use Rattle.risk_of_orders.proofs.Joins.{join-zero}
 use Rattle.reached_modules.proofs.Choosing.{written-room, written-read}
-use Rattle.order_analysis.specs.inner.Analysis.{risksOf, Prepared}
+use Rattle.order_analysis.specs.inner.Analysis.{risksOf, Made}
 use Rattle.order_analysis.proofs.core.mark_risks.Statement.{statement}
 use Rattle.order_analysis.proofs.core.mark_risks.Tie as tie
 
@@ -32,7 +32,7 @@ add-risks-requires : tie.Need-add-risks-requires
 add-risks-requires c κs =
     let e = c .before .before .before .before .before .before .before .before .before .before .before .before .before .before .before .before .before .before .before .before .before in
     let a = e .args in
-    (written-read (c .before .before .before .before .before .before .before .list-table-roots .ensures), subst (Prepared (of e) (a .labels .now) (a .loads .now) (a .sensitives .now) (a .eligibles .now)) (sym (c .before .before .before .before .fill .kept .0)) (e .pre))
+    (written-read (c .before .before .before .before .before .before .before .list-table-roots .ensures), subst (Made (of e) (a .labels .now) (a .prepared .now) (a .sensitives .now) (a .eligibles .now)) (sym (c .before .before .before .before .fill .kept .0)) (e .pre))
 
 returns : tie.Need-returns
 returns c =

@@ -10,22 +10,22 @@ use Rattle.triggers.proofs.core.write_triggers.Statement.{statement}
 use Rattle.triggers.proofs.core.write_triggers.Tie as tie
 
 abbrev Inv-loop : tie.InvT-loop
-Inv-loop normal ways record-kind record-target triggers₀ row₀ triggers row = Written (rowTrigger normal ways record-kind record-target) triggers₀ row triggers
+Inv-loop normal included wrap record-kind record-target triggers₀ row₀ triggers row = Written (rowTrigger normal included wrap record-kind record-target) triggers₀ row triggers
 
 abbrev μ-loop : tie.MeasureT-loop
-μ-loop normal ways record-kind record-target triggers₀ row₀ triggers row = length triggers - row
+μ-loop normal included wrap record-kind record-target triggers₀ row₀ triggers row = length triggers - row
 
 abbrev Loop : Type 0
 Loop = tie.At-loop Inv-loop μ-loop
 
 abbrev entry : Loop → tie.Start Inv-loop μ-loop
-entry l = l .before .before .before .before .before .before
+entry l = l .before .before .before .before .before .before .before
 
 abbrev trigger : Loop → ℕ → ℕ
-trigger l = let a = entry l .args in rowTrigger (a .normal .now) (a .ways .now) (a .record-kind .now) (a .record-target .now)
+trigger l = let a = entry l .args in rowTrigger (a .normal .now) (a .included .now) (a .wrap .now) (a .record-kind .now) (a .record-target .now)
 
 loop-holds : tie.Need-loop-holds Inv-loop μ-loop
-loop-holds c = let a = c .before .before .before .before .before .args in written-start (rowTrigger (a .normal .now) (a .ways .now) (a .record-kind .now) (a .record-target .now)) (a .triggers .now)
+loop-holds c = let a = c .before .before .before .before .before .before .args in written-start (rowTrigger (a .normal .now) (a .included .now) (a .wrap .now) (a .record-kind .now) (a .record-target .now)) (a .triggers .now)
 
 trigger-of-requires : tie.Need-trigger-of-requires Inv-loop μ-loop
 trigger-of-requires c κs =

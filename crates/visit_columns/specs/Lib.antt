@@ -1,0 +1,2 @@
+-- The columns that the visits read.
+pub mod inner
