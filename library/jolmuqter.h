@@ -73,8 +73,13 @@ uint64_t jolmuqter_labels(JOLMUQTER_TABLE, uint32_t *labels, size_t labels_len);
 /* Count: 1 if the chunk reaches a cyclic one, itself counted, else 0. */
 uint64_t jolmuqter_chunk_reach(JOLMUQTER_TABLE, uint32_t chunk);
 
-/* risk: 0 or 1 for each module, of an analysed entry. Count: that of ones. */
-uint64_t jolmuqter_risk(JOLMUQTER_TABLE, uint32_t root, uint32_t *risk, size_t risk_len);
+/* risk: 0 or 1 for each module, of an analysed entry: the modules that stand in just one of its orders or run early, and the hosts that stand in
+ * for those that can't be wrapped. Reordering scripts lessens it. Count: that of ones. */
+uint64_t jolmuqter_order_risk(JOLMUQTER_TABLE, uint32_t root, uint32_t *risk, size_t risk_len);
+
+/* risk: 0 or 1 for each module, of an analysed entry: all eligible modules of its expected order if its chunk reaches a cyclic one, else none.
+ * Packing chunks anew lessens it. A module may be in both risks; the whole analysis takes the two together. Count: that of ones. */
+uint64_t jolmuqter_cycle_risk(JOLMUQTER_TABLE, uint32_t root, uint32_t *risk, size_t risk_len);
 
 /* plan: 0 or 1 for each module, from these seeds (the table's seed rows aren't used). Count: that of ones. */
 uint64_t jolmuqter_plan_from_seeds(JOLMUQTER_TABLE, const uint32_t *seeds, size_t seeds_len, uint32_t *plan, size_t plan_len);

@@ -75,7 +75,7 @@ impl<'p> Ready<'p> {
         "chunk reach",
         in_turns(|| timed(|| original.bare_reach(chunk)), || self.ours(&Call::Reach(chunk))),
       ),
-      ("risk", in_turns(|| timed(|| original.bare_risk(root)), || self.ours(&Call::Risk(root)))),
+      ("both risks", in_turns(|| timed(|| original.bare_risk(root)), || self.ours(&Call::Risk(root)))),
       (
         "plan from the seed rows",
         in_turns(

@@ -323,7 +323,7 @@ fn risky(modules: &[[u32; 3]], records: &[[u32; 3]], order: &[u32], members: &[[
 
 /// The listing; a case for each wrong turn, for each side of "in just one order", for a host and for a use; what is refused.
 fn risks() -> Vec<Case> {
-  let ask = |root: u32, places: usize| (Call::Risk(root), vec![places]);
+  let ask = |root: u32, places: usize| crate::judge::risks(root).map(|call| (call, vec![places])).to_vec();
   let (runtime, plain, sensitive) = ([1, 0, 0], [1, 0, 0], [1, 1, 0]);
   let wrapped = |row: [u32; 3]| [row[0], row[1], 1];
   let mut cyclic = listing();
@@ -336,8 +336,8 @@ fn risks() -> Vec<Case> {
     p
   };
   let cases: [(&str, Project, Vec<Asked>); 9] = [
-    ("the listing", listing(), vec![ask(1, 6), ask(1, 3), ask(1, 4), ask(4, 6), ask(2, 6)]),
-    ("edge 1 to 0 added", cyclic, vec![ask(1, 6)]),
+    ("the listing", listing(), [ask(1, 6), ask(1, 3), ask(1, 4), ask(4, 6), ask(2, 6)].concat()),
+    ("edge 1 to 0 added", cyclic, ask(1, 6)),
     (
       "expected 2 3 4 1, actual 3 4 2 1: module 4 comes after 3 in both, and before 2 in one",
       risky(
@@ -347,22 +347,22 @@ fn risks() -> Vec<Case> {
         &[[0, 2], [0, 1], [1, 3], [1, 4]],
         &[[0, 1]],
       ),
-      vec![ask(1, 6)],
+      ask(1, 6),
     ),
     (
       "module 3 is expected by way of 2, which isn't included",
       risky(&[runtime, sensitive, [0, 0, 0], sensitive], &[[1, 0, 2], [2, 0, 3]], &[0], &[[0, 3], [0, 1]], &[]),
-      vec![ask(1, 6)],
+      ask(1, 6),
     ),
     (
       "module 2 is required: it is in the actual order only",
       risky(&[runtime, sensitive, sensitive], &[[1, 1, 2]], &[0], &[[0, 1], [0, 2]], &[]),
-      vec![ask(1, 6)],
+      ask(1, 6),
     ),
     (
       "module 2 is in the expected order only",
       risky(&[runtime, sensitive, sensitive], &[[1, 0, 2]], &[0], &[[0, 1]], &[]),
-      vec![ask(1, 6)],
+      ask(1, 6),
     ),
     (
       "module 3 has a wrap, and is run early by 4, which stands in for it",
@@ -373,10 +373,10 @@ fn risks() -> Vec<Case> {
         &[[0, 2], [0, 1], [1, 4]],
         &[[0, 1]],
       ),
-      vec![ask(1, 6)],
+      ask(1, 6),
     ),
-    ("module 2 is sensitive by a use in its second statement", using(&[[1, 1], [0, 1]]), vec![ask(1, 6)]),
-    ("the use is in a statement that isn't included", using(&[[0, 1]]), vec![ask(1, 6)]),
+    ("module 2 is sensitive by a use in its second statement", using(&[[1, 1], [0, 1]]), ask(1, 6)),
+    ("the use is in a statement that isn't included", using(&[[0, 1]]), ask(1, 6)),
   ];
   cases.into_iter().map(|(name, p, calls)| case(format!("risk: {name}"), &p, calls)).collect()
 }

@@ -196,8 +196,13 @@ fn rooms(p: &Project, call: &Call, thorough: bool) -> Vec<Vec<usize>> {
   rooms
 }
 
+/// Each kind of risk, and both joined.
+pub fn risks(root: u32) -> [Call; 3] {
+  [Call::OrderRisk(root), Call::CycleRisk(root), Call::Risk(root)]
+}
+
 /// A call of each operation.
-pub fn one_call_each() -> [Call; 9] {
+pub fn one_call_each() -> [Call; 11] {
   [
     Call::Sort,
     Call::Expected(1),
@@ -208,6 +213,8 @@ pub fn one_call_each() -> [Call; 9] {
     Call::PlanFrom(vec![1]),
     Call::Whole,
     Call::Refusal,
+    Call::OrderRisk(1),
+    Call::CycleRisk(1),
   ]
 }
 
@@ -244,11 +251,13 @@ fn against_original(
   for entry in entries {
     let root = entry.root;
     check(&|| format!("expected {root}"), model.expected(root), entry.expected);
+    check(&|| format!("cycle {root}"), members(&model.cycle_risk(root)), entry.cycle);
     if !tied {
       let (order, hosts) = model.actual(root);
       check(&|| format!("actual {root}"), order, entry.actual);
       check(&|| format!("hosts {root}"), hosts, entry.hosts);
-      check(&|| format!("risk {root}"), members(&model.risk(root)), entry.risk);
+      check(&|| format!("early {root}"), members(&model.order_risk(root)), entry.early);
+      check(&|| format!("both risks of {root}"), members(&model.risk(root)), entry.risk);
     }
   }
   if !tied {
@@ -275,7 +284,8 @@ fn calls(p: &Project, model: Option<&Model>) -> Vec<Call> {
   let mut calls = vec![Call::Sort, Call::Labels, Call::Whole, Call::Refusal];
   if model.is_none() {
     for root in [0, n, MARK] {
-      calls.extend([Call::Expected(root), Call::Actual(root), Call::Risk(root)]);
+      calls.extend([Call::Expected(root), Call::Actual(root)]);
+      calls.extend(risks(root));
     }
     calls.extend([Call::Reach(0), Call::Reach(c)]);
     calls.extend([Call::PlanFrom(vec![]), Call::PlanFrom(vec![0]), Call::PlanFrom(vec![n])]);
@@ -287,7 +297,8 @@ fn calls(p: &Project, model: Option<&Model>) -> Vec<Call> {
   let mut entries: Vec<u32> = p[ENTRY].iter().copied().take(16).collect();
   entries.extend([0, n - 1, n, MARK]);
   for root in entries {
-    calls.extend([Call::Actual(root), Call::Risk(root)]);
+    calls.push(Call::Actual(root));
+    calls.extend(risks(root));
   }
   for chunk in (0..c.min(64)).chain([c.saturating_sub(1), c, MARK]) {
     calls.push(Call::Reach(chunk));

@@ -3,6 +3,15 @@ use jolmuqter::{Refused, Table};
 
 use crate::{lent::Lent, model::Call};
 
+/// Both kinds of risk, joined.
+fn joined(table: &Table, root: u32, risk: &mut [u32]) -> Result<usize, Refused> {
+  let mut cycle = risk.to_vec();
+  table.order_risk(root, risk)?;
+  table.cycle_risk(root, &mut cycle)?;
+  risk.iter_mut().zip(cycle).filter(|(_, mark)| *mark == 1).for_each(|(at, mark)| *at = mark);
+  Ok(risk.iter().filter(|&&mark| mark == 1).count())
+}
+
 /// The library's answer to a call, as a count or the number of a refusal.
 pub fn call(lent: &Lent, call: &Call, outputs: &mut [Vec<u32>]) -> Result<usize, u32> {
   let Lent { runtime, dynamic, bounds, columns } = lent;
@@ -13,10 +22,12 @@ pub fn call(lent: &Lent, call: &Call, outputs: &mut [Vec<u32>]) -> Result<usize,
     (Call::Actual(root), [order, hosts]) => table.actual_order(*root, order, hosts),
     (Call::Labels, [labels]) => table.labels(labels),
     (Call::Reach(chunk), []) => table.chunk_reach(*chunk),
-    (Call::Risk(root), [risk]) => table.risk(*root, risk),
+    (Call::Risk(root), [risk]) => joined(&table, *root, risk),
     (Call::PlanFrom(seeds), [plan]) => table.plan_from_seeds(seeds, plan),
     (Call::Whole, [plan]) => table.plan(plan),
     (Call::Refusal, []) => table.refusal(),
+    (Call::OrderRisk(root), [risk]) => table.order_risk(*root, risk),
+    (Call::CycleRisk(root), [risk]) => table.cycle_risk(*root, risk),
     _ => unreachable!("outputs that {call:?} doesn't have"),
   };
   answer.map_err(|Refused(number)| number)

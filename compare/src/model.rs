@@ -1,4 +1,4 @@
-//! Document 01's eight operations, with ties as C-13 has them, written from their words and not from the Rust. Plain and slow on purpose.
+//! Document 01's operations, with ties as C-13 has them and the risk in two kinds as C-17 has it, written from their words and not from the Rust. Plain and slow on purpose.
 //! A project that it is made of passes tests 1 to 4.
 use project::{MARK, Project, column::*};
 
@@ -12,11 +12,14 @@ pub enum Call {
   Actual(u32),
   Labels,
   Reach(u32),
+  /// Both kinds of risk, joined by the caller.
   Risk(u32),
   PlanFrom(Vec<u32>),
   Whole,
   /// The tests 1 to 4 alone.
   Refusal,
+  OrderRisk(u32),
+  CycleRisk(u32),
 }
 
 /// What an accepted call gives: its count, and each output from place 0.
@@ -432,10 +435,9 @@ impl<'a> Model<'a> {
     (0..expected.len()).filter(is_early).map(|at| expected[at]).collect()
   }
 
-  /// The modules at risk of an analysed entry.
-  pub fn risk(&self, root: u32) -> Set {
-    let whole_expected = self.expected(root);
-    let expected = self.only_sensitive(&whole_expected);
+  /// "from differing and early modules with the hosts that stand in for them"
+  pub fn order_risk(&self, root: u32) -> Set {
+    let expected = self.only_sensitive(&self.expected(root));
     let (actual, hosts) = self.actual(root);
     let actual = self.only_sensitive(&actual);
     let mut places = vec![None; self.count()];
@@ -466,13 +468,24 @@ impl<'a> Model<'a> {
         risk[host as usize] = true;
       }
     }
+    risk
+  }
+
+  /// "all eligible expected modules if its chunk reaches a cyclic one"
+  pub fn cycle_risk(&self, root: u32) -> Set {
+    let mut risk = vec![false; self.count()];
     if self.reaches(self.entry_chunk(root)) && !self.is(Wrong::CycleStepLeftOut) {
-      for m in whole_expected {
+      for m in self.expected(root) {
         let spared = self.is(Wrong::CycleStepSensitiveOnly) && !self.sensitive[m as usize];
-        risk[m as usize] |= self.eligible[m as usize] && !spared;
+        risk[m as usize] = self.eligible[m as usize] && !spared;
       }
     }
     risk
+  }
+
+  /// The modules at risk of an analysed entry, by either kind.
+  pub fn risk(&self, root: u32) -> Set {
+    self.order_risk(root).into_iter().zip(self.cycle_risk(root)).map(|(early, cycle)| early || cycle).collect()
   }
 
   // ------------------------------------------------------------ plan
@@ -717,6 +730,8 @@ impl<'a> Model<'a> {
         Given { count: usize::from(self.reaches(*chunk)), outputs: Vec::new() }
       }
       Call::Risk(root) => marks(self.risk(*root)),
+      Call::OrderRisk(root) => marks(self.order_risk(*root)),
+      Call::CycleRisk(root) => marks(self.cycle_risk(*root)),
       Call::PlanFrom(seeds) => marks(self.plan_from(seeds)),
       Call::Whole => marks(self.plan()),
       Call::Refusal => Given { count: 0, outputs: Vec::new() },

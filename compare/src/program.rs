@@ -28,7 +28,8 @@ pub fn right(text: &[u8]) -> String {
   for entry in model.analysed() {
     line(&mut out, &format!("expected {entry}"), &model.expected(entry));
     line(&mut out, &format!("actual {entry}"), &model.actual(entry).0);
-    line(&mut out, &format!("risk {entry}"), &members(&model.risk(entry)));
+    line(&mut out, &format!("early {entry}"), &members(&model.order_risk(entry)));
+    line(&mut out, &format!("cycle {entry}"), &members(&model.cycle_risk(entry)));
   }
   line(&mut out, "plan", &members(&model.plan()));
   out

@@ -139,7 +139,9 @@ fn fitting(p: &Project, call: &Call) -> bool {
   match call {
     Call::Sort | Call::Labels | Call::Whole | Call::Refusal => true,
     Call::Expected(root) => module(*root),
-    Call::Actual(root) | Call::Risk(root) => module(*root) && analysed(p, *root),
+    Call::Actual(root) | Call::Risk(root) | Call::OrderRisk(root) | Call::CycleRisk(root) => {
+      module(*root) && analysed(p, *root)
+    }
     Call::Reach(chunk) => (*chunk as usize) < p.chunks(),
     Call::PlanFrom(seeds) => seeds.len() <= 16_384 && seeds.iter().all(|&seed| module(seed)),
   }

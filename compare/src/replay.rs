@@ -11,7 +11,7 @@ use project::{COLUMNS, LISTS, MARK, Project, column::*};
 
 use crate::{
   edges,
-  judge::{Judge, one_call_each, outputs},
+  judge::{Judge, one_call_each, outputs, risks},
   lent::Lent,
   model::{Call, Given, Model, members, set_of},
   refusal::{self, Values, limit, values},
@@ -41,7 +41,8 @@ pub fn told(p: &Project, wrong: Wrong) -> bool {
     turned.expected(entry.root) != entry.expected
       || order != entry.actual
       || hosts != entry.hosts
-      || members(&turned.risk(entry.root)) != entry.risk
+      || members(&turned.order_risk(entry.root)) != entry.early
+      || members(&turned.cycle_risk(entry.root)) != entry.cycle
   };
   numbers != original.numbers()
     || sorted != original.sorted()
@@ -91,7 +92,8 @@ fn every_call(p: &Project) -> Vec<Asked> {
     calls.extend([Call::Expected(module), Call::PlanFrom(vec![module])]);
   }
   for &root in &p[ENTRY] {
-    calls.extend([Call::Actual(root), Call::Risk(root)]);
+    calls.push(Call::Actual(root));
+    calls.extend(risks(root));
   }
   calls.extend((0..p.chunks() as u32).map(Call::Reach));
   calls.into_iter().map(|call| roomy(p, call)).collect()
@@ -268,7 +270,8 @@ fn arguments() -> Case {
   let (n, c) = (project.modules() as u32, project.chunks() as u32);
   let mut calls = every_call(&project);
   for root in [0, 2, 3, n, MARK] {
-    calls.extend([Call::Actual(root), Call::Risk(root)].map(|call| roomy(&project, call)));
+    calls.push(roomy(&project, Call::Actual(root)));
+    calls.extend(risks(root).map(|call| roomy(&project, call)));
   }
   for call in [
     Call::Expected(n),
@@ -380,6 +383,8 @@ fn put_call(out: &mut String, asked: &Asked, number: u32, given: Option<Given>) 
     Call::PlanFrom(_) => (6, 0),
     Call::Whole => (7, 0),
     Call::Refusal => (8, 0),
+    Call::OrderRisk(root) => (9, *root),
+    Call::CycleRisk(root) => (10, *root),
   };
   let refused = u32::from(number != 0);
   put(out, [operation, argument, refused, given.as_ref().map_or(number, |given| given.count as u32)]);
@@ -424,12 +429,14 @@ fn of_the_original(p: &Project, original: &Original, call: &Call) -> Option<Give
     Call::PlanFrom(seeds) => marks(original.plan_from(seeds)),
     Call::Whole => marks(original.plan()),
     Call::Refusal => return None,
+    Call::OrderRisk(root) => marks(entry(*root).early),
+    Call::CycleRisk(root) => marks(entry(*root).cycle),
   })
 }
 
 /// Whether the original says what a call gives: with ties it leaves open what the load order decides.
 fn said(p: &Project, call: &Call) -> bool {
-  !p.tied() || !matches!(call, Call::Actual(_) | Call::Risk(_) | Call::Whole)
+  !p.tied() || !matches!(call, Call::Actual(_) | Call::Risk(_) | Call::OrderRisk(_) | Call::Whole)
 }
 
 /// The first accepted call of a case whose answer the original doesn't give.

@@ -3,7 +3,6 @@ ghost use mathlib.Core.Path.{_≡_};
 ghost use lib.ListN.{length};
 ghost use Rattle.lists.specs.Words.{has};
 ghost use Rattle.tables.specs.Project.{Project};
-ghost use Rattle.tables.specs.Accepted.{Accepted};
 ghost use Rattle.table.specs.Table.{table, read};
 ghost use Rattle.visit_columns.specs.inner.OverTable.{Prepared};
 ghost use Rattle.analysed_entries.specs.inner.Entries.{Entry};
@@ -15,26 +14,16 @@ ghost use Rattle.eligibility.specs.Eligible.{eligible, eligibleMarks};
 ghost use Rattle.risk_of_orders.specs.Risk.{orderRisk, cycleRisk};
 ghost use Rattle.risk_of_orders.specs.inner.Steps.{join};
 ghost use Rattle.at_risk.specs.Entry.{riskOfEntry};
-ghost use Rattle.at_risk.specs.inner.OverTable.{Sets, Placed, Entered, RiskMarked};
+ghost use Rattle.at_risk.specs.inner.OverTable.{Sets, Placed, Entered};
 use actual_order::core::list_actual;
-use chunk_cycles::core::label_table;
 use chunk_cycles::core::reaches_table;
-use eligibility::of_table::mark_table_eligible;
 use expected_order::core::list_expected;
-use lists::core::count_marked;
-use lists::core::fill;
 use risk_of_orders::core::add_cycle_risk;
 use risk_of_orders::core::add_order_risk;
-use sensitivity::core::mark_table_sensitive;
-use table::CHUNK_LIMIT;
 use table::MODULE_LIMIT;
-use table::ORDER;
-use table::rows;
-use visit_columns::core::PREPARED;
-use visit_columns::core::prepare_table;
 
 // Adds the order risk of an entry whose expected order is given to a set. `prepared` has the columns that the visits read.
-fn add_entry_order_risk<'a>(
+pub fn add_entry_order_risk<'a>(
     runtime: u32,
     dynamic: u32,
     bounds: &'a [u32],
@@ -90,7 +79,7 @@ fn add_entry_order_risk<'a>(
 }
 
 // Adds the cycle risk of an entry whose expected order is given to a set, by the chunks' labels.
-fn add_entry_cycle_risk<'a>(
+pub fn add_entry_cycle_risk<'a>(
     runtime: u32,
     dynamic: u32,
     bounds: &'a [u32],
@@ -208,142 +197,4 @@ pub fn add_entry_risk<'a>(
         out,
         chunk,
     );
-}
-
-// Adds the risk of an entry to a set, by the marks of the sensitive and of the eligible modules.
-fn add_marked_risk<'a>(
-    runtime: u32,
-    dynamic: u32,
-    bounds: &'a [u32],
-    columns: &'a [u32],
-    importers: &'a [u32],
-    kinds: &'a [u32],
-    targets: &'a [u32],
-    dependencies: &'a [u32],
-    members: &'a [u32],
-    sensitives: &'a [u32],
-    eligibles: &'a [u32],
-    out: &mut [u32],
-    root: u32,
-    chunk: u32,
-)
-    ghost { Project }
-    requires project { λ p. ⌜ read (table runtime dynamic (now bounds) (now columns)) (now importers) (now kinds) (now targets) (now dependencies) (now members) ≡ p ⌝ }
-    requires sets { λ p. ⌜ Sets p (now sensitives) (now eligibles) ⌝ }
-    requires entry { λ p. ⌜ Entered p root chunk (length (now out)) ⌝ }
-    ensures { λ p _. ⌜ now (out .exit) ≡ join (now (out .entry)) (has (riskOfEntry p root)) ⌝ }
-{
-    let chunks = rows(bounds, columns, ORDER);
-    let mut prepared = [0u32; PREPARED];
-    prepare_table(
-        runtime,
-        dynamic,
-        bounds,
-        columns,
-        importers,
-        kinds,
-        targets,
-        dependencies,
-        members,
-        &mut prepared,
-    );
-    let mut labels = [0u32; CHUNK_LIMIT];
-    label_table(
-        runtime,
-        dynamic,
-        bounds,
-        columns,
-        importers,
-        kinds,
-        targets,
-        dependencies,
-        members,
-        &mut labels[..chunks],
-    );
-    add_entry_risk(
-        runtime,
-        dynamic,
-        bounds,
-        columns,
-        importers,
-        kinds,
-        targets,
-        dependencies,
-        members,
-        &prepared,
-        &labels[..chunks],
-        sensitives,
-        eligibles,
-        out,
-        root,
-        chunk,
-    );
-}
-
-// The risk of an entry, as marks. How many are marked.
-pub fn mark_risk<'a>(
-    runtime: u32,
-    dynamic: u32,
-    bounds: &'a [u32],
-    columns: &'a [u32],
-    importers: &'a [u32],
-    kinds: &'a [u32],
-    targets: &'a [u32],
-    dependencies: &'a [u32],
-    members: &'a [u32],
-    out: &mut [u32],
-    root: u32,
-    chunk: u32,
-) -> usize
-    ghost { Project }
-    requires project { λ p. ⌜ read (table runtime dynamic (now bounds) (now columns)) (now importers) (now kinds) (now targets) (now dependencies) (now members) ≡ p ⌝ }
-    requires accepted { λ p. ⌜ Accepted p ⌝ }
-    requires entry { λ p. ⌜ Entered p root chunk (length (now out)) ⌝ }
-    ensures { λ p r. ⌜ RiskMarked p root (now (out .exit)) r ⌝ }
-{
-    let n = out.len();
-    let mut sensitives = [0u32; MODULE_LIMIT];
-    mark_table_sensitive(
-        runtime,
-        dynamic,
-        bounds,
-        columns,
-        importers,
-        kinds,
-        targets,
-        dependencies,
-        members,
-        &mut sensitives[..n],
-    );
-    let mut eligibles = [0u32; MODULE_LIMIT];
-    mark_table_eligible(
-        runtime,
-        dynamic,
-        bounds,
-        columns,
-        importers,
-        kinds,
-        targets,
-        dependencies,
-        members,
-        &mut eligibles[..n],
-    );
-    fill(out, 0);
-    add_marked_risk(
-        runtime,
-        dynamic,
-        bounds,
-        columns,
-        importers,
-        kinds,
-        targets,
-        dependencies,
-        members,
-        &sensitives[..n],
-        &eligibles[..n],
-        out,
-        root,
-        chunk,
-    );
-    count_marked(out)
 }

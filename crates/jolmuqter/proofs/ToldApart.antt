@@ -28,14 +28,14 @@ use Rattle.actual_order.specs.Actual.{actualOf}
 use Rattle.actual_order.proofs.OfProject.{actual-length}
 use Rattle.strong_connection.specs.Cycles.{cyclic}
 use Rattle.chunk_cycles.specs.Cycles.{importedBy, cyclicOf, reachesCycleOf}
-use Rattle.at_risk.specs.Entry.{riskOfEntry}
-use Rattle.at_risk.proofs.Joined.{length-risk}
+use Rattle.at_risk.specs.Entry.{orderRiskOfEntry, cycleRiskOfEntry}
+use Rattle.at_risk.proofs.Joined.{length-order-risk, length-cycle-risk}
 use Rattle.seeds.specs.Seeds.{seedsFit}
 use Rattle.wrap_plan.specs.Planned.{planOf}
 use Rattle.wrap_plan.proofs.Promise.{length-plan}
 use Rattle.order_analysis.specs.Whole.{wholePlan}
 use Rattle.order_analysis.proofs.Promise.{length-whole}
-use Rattle.jolmuqter.specs.Calls.{Call, Sort, Expected, Actual, Labels, Reach, Risk, Plan, Whole, Refusal, Promise}
+use Rattle.jolmuqter.specs.Calls.{Call, Sort, Expected, Actual, Labels, Reach, OrderRisk, CycleRisk, Plan, Whole, Refusal, Promise}
 use Rattle.jolmuqter.specs.Exported.{coded}
 use Rattle.jolmuqter.specs.ToldApart.{AcceptedWith, RefusedWith, AnswersAreToldApart, BelowExactlyIfAccepted}
 
@@ -113,7 +113,8 @@ module _ (runtime dynamic : ℕ) (bounds columns : List ℕ) where
     by-promise (Actual root) h = by-number (isAnalysed p root) (leb (modules p) (length first) && leb (modules p) (length second)) (length (actualOf p root)) (λ ok. omega (arith, actual-length p root, ok .sizes .normal)) (h .answered)
     by-promise Labels h = by-number true (leb (chunks p) (length first)) (length (cyclicOf p)) (λ ok. omega (arith, cyclic-few p, ok .sizes .order)) (h .answered)
     by-promise (Reach c) h = by-number (ltb c (chunks p)) true (bit (reachesCycleOf p c)) (λ ok. omega (arith, bit-few (reachesCycleOf p c))) (h .answered)
-    by-promise (Risk root) h = by-number (isAnalysed p root) (leb (modules p) (length first)) (ones (riskOfEntry p root)) (λ ok. omega (arith, ones-zeros (riskOfEntry p root), length-risk p root, ok .sizes .normal)) (h .answered)
+    by-promise (OrderRisk root) h = by-number (isAnalysed p root) (leb (modules p) (length first)) (ones (orderRiskOfEntry p root)) (λ ok. omega (arith, ones-zeros (orderRiskOfEntry p root), length-order-risk p root, ok .sizes .normal)) (h .answered)
+    by-promise (CycleRisk root) h = by-number (isAnalysed p root) (leb (modules p) (length first)) (ones (cycleRiskOfEntry p root)) (λ ok. omega (arith, ones-zeros (cycleRiskOfEntry p root), length-cycle-risk p root, ok .sizes .normal)) (h .answered)
     by-promise (Plan seeds) h = by-number (seedsFit (modules p) seeds) (leb (modules p) (length first)) (ones (planOf p seeds)) (λ ok. omega (arith, ones-zeros (planOf p seeds), length-plan p seeds, ok .sizes .normal)) (h .answered)
     by-promise Whole h = by-number true (leb (modules p) (length first)) (ones (wholePlan p)) (λ ok. omega (arith, ones-zeros (wholePlan p), length-whole p, ok .sizes .normal)) (h .answered)
     by-promise Refusal h = by-number true true 0 (λ ok. omega arith) (h ∙ tests-alone (lent runtime dynamic bounds columns .number))

@@ -9,7 +9,7 @@ use Rattle.sort_modules.specs.Promise.{SortModules}
 use Rattle.expected_order.specs.Promise.{ExpectedOrder}
 use Rattle.actual_order.specs.Promise.{ActualOrder}
 use Rattle.chunk_cycles.specs.Promise.{LabelsPromise, ReachPromise}
-use Rattle.at_risk.specs.Entry.{EntryRisk}
+use Rattle.at_risk.specs.Entry.{EntryOrderRisk, EntryCycleRisk}
 use Rattle.wrap_plan.specs.Planned.{PlanFromSeeds}
 use Rattle.order_analysis.specs.Whole.{WholeAnalysis}
 
@@ -20,7 +20,8 @@ pub data Call : Type 0 where
   Actual : ℕ → Call
   Labels : Call
   Reach : ℕ → Call
-  Risk : ℕ → Call
+  OrderRisk : ℕ → Call
+  CycleRisk : ℕ → Call
   Plan : List ℕ → Call
   Whole : Call
   Refusal : Call
@@ -32,7 +33,8 @@ Promise (Expected root) t first second r first′ second′ = ExpectedOrder t ro
 Promise (Actual root) t first second r first′ second′ = ActualOrder t root first second r first′ second′
 Promise Labels t first second r first′ second′ = LabelsPromise t first r first′
 Promise (Reach chunk) t first second r first′ second′ = ReachPromise t chunk r
-Promise (Risk root) t first second r first′ second′ = EntryRisk t root first r first′
+Promise (OrderRisk root) t first second r first′ second′ = EntryOrderRisk t root first r first′
+Promise (CycleRisk root) t first second r first′ second′ = EntryCycleRisk t root first r first′
 Promise (Plan seeds) t first second r first′ second′ = PlanFromSeeds t seeds first r first′
 Promise Whole t first second r first′ second′ = WholeAnalysis t first r first′
 Promise Refusal t first second r first′ second′ = r ≡ answer (t .number) 0

@@ -2,7 +2,7 @@
 ghost use mathlib.Core.Path.{_≡_};
 ghost use mathlib.Core.List.{[]};
 ghost use Rattle.table.specs.Table.{lent, answer};
-ghost use Rattle.jolmuqter.specs.Calls.{Sort, Expected, Actual, Labels, Reach, Risk, Plan, Whole, Refusal};
+ghost use Rattle.jolmuqter.specs.Calls.{Sort, Expected, Actual, Labels, Reach, OrderRisk, CycleRisk, Plan, Whole, Refusal};
 ghost use Rattle.jolmuqter.specs.Exported.{coded, Exported};
 use refusal::refusal_number;
 use table::RECORD_KIND;
@@ -95,9 +95,9 @@ pub extern "C" fn jolmuqter_chunk_reach<'a>(
     code(chunk_cycles::chunk_reach(runtime, dynamic, bounds, columns, chunk))
 }
 
-// The modules at risk of an analysed entry.
+// The order risk of an analysed entry.
 #[no_mangle]
-pub extern "C" fn jolmuqter_risk<'a>(
+pub extern "C" fn jolmuqter_order_risk<'a>(
     runtime: u32,
     dynamic: u32,
     bounds: &'a [u32],
@@ -105,9 +105,24 @@ pub extern "C" fn jolmuqter_risk<'a>(
     root: u32,
     risk: &mut [u32],
 ) -> u64
-    ensures { λ r. ⌜ Exported (Risk root) (lent runtime dynamic (now (bounds .entry)) (now (columns .entry))) (now (risk .entry)) [] r (now (risk .exit)) [] ⌝ }
+    ensures { λ r. ⌜ Exported (OrderRisk root) (lent runtime dynamic (now (bounds .entry)) (now (columns .entry))) (now (risk .entry)) [] r (now (risk .exit)) [] ⌝ }
 {
-    code(at_risk::risk(runtime, dynamic, bounds, columns, root, risk))
+    code(order_risk::order_risk(runtime, dynamic, bounds, columns, root, risk))
+}
+
+// The cycle risk of an analysed entry.
+#[no_mangle]
+pub extern "C" fn jolmuqter_cycle_risk<'a>(
+    runtime: u32,
+    dynamic: u32,
+    bounds: &'a [u32],
+    columns: &'a [u32],
+    root: u32,
+    risk: &mut [u32],
+) -> u64
+    ensures { λ r. ⌜ Exported (CycleRisk root) (lent runtime dynamic (now (bounds .entry)) (now (columns .entry))) (now (risk .entry)) [] r (now (risk .exit)) [] ⌝ }
+{
+    code(cycle_risk::cycle_risk(runtime, dynamic, bounds, columns, root, risk))
 }
 
 // The plan from lent seeds.

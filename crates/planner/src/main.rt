@@ -1,6 +1,6 @@
-// Reads a project's text from standard input and prints its module order, the orders and the risk of each analysed entry, and the plan.
+// Reads a project's text from standard input and prints its module order, the orders and both risks of each analysed entry, and the plan.
 use actual_order::actual_order;
-use at_risk::risk;
+use cycle_risk::cycle_risk;
 use expected_order::expected_order;
 use libc::STDIN_FILENO;
 use libc::STDOUT_FILENO;
@@ -8,6 +8,7 @@ use lines::put_line;
 use lines::rising;
 use listing::read;
 use order_analysis::analyze_execution_order;
+use order_risk::order_risk;
 use sort_modules::sort_modules;
 use table::COLUMNS;
 use table::ENTRY;
@@ -60,14 +61,24 @@ fn expected_line<'a>(runtime: u32, dynamic: u32, bounds: &'a [u32], columns: &'a
     print(b"expected", &[root], first_of(&expected, n));
 }
 
-// Prints the risk of an analysed entry.
-fn risk_line<'a>(runtime: u32, dynamic: u32, bounds: &'a [u32], columns: &'a [u32], root: u32) {
+// Prints the order risk of an analysed entry.
+fn early_line<'a>(runtime: u32, dynamic: u32, bounds: &'a [u32], columns: &'a [u32], root: u32) {
     let mut marks = [0u32; MODULE_LIMIT];
-    let answer = risk(runtime, dynamic, bounds, columns, root, &mut marks);
+    let answer = order_risk(runtime, dynamic, bounds, columns, root, &mut marks);
     let Answer::Counted(_) = answer else {
         return;
     };
-    print_members(b"risk", &[root], &marks);
+    print_members(b"early", &[root], &marks);
+}
+
+// Prints the cycle risk of an analysed entry.
+fn cycle_line<'a>(runtime: u32, dynamic: u32, bounds: &'a [u32], columns: &'a [u32], root: u32) {
+    let mut marks = [0u32; MODULE_LIMIT];
+    let answer = cycle_risk(runtime, dynamic, bounds, columns, root, &mut marks);
+    let Answer::Counted(_) = answer else {
+        return;
+    };
+    print_members(b"cycle", &[root], &marks);
 }
 
 // Prints the lines of an entry. Actual order refuses an entry that isn't analysed.
@@ -88,7 +99,8 @@ fn entry_lines<'a>(runtime: u32, dynamic: u32, bounds: &'a [u32], columns: &'a [
     };
     expected_line(runtime, dynamic, bounds, columns, root);
     print(b"actual", &[root], first_of(&actual, n));
-    risk_line(runtime, dynamic, bounds, columns, root);
+    early_line(runtime, dynamic, bounds, columns, root);
+    cycle_line(runtime, dynamic, bounds, columns, root);
 }
 
 // Prints the lines of each analysed entry, in row order.

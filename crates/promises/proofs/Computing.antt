@@ -18,12 +18,12 @@ use Rattle.sensitivity.specs.Marks.{wakes, usesWrapped, sensitive}
 use Rattle.eligibility.specs.Eligible.{eligible}
 use Rattle.risk_of_orders.specs.Risk.{early, isFlagged, orderRisk, cycleRisk, riskOf}
 use Rattle.wrap_rules.specs.Plan.{expectedSensitiveOf, asked, start, planFrom, ordersOf}
-use Rattle.at_risk.specs.Entry.{actualSensitiveOf, riskOfEntry}
+use Rattle.at_risk.specs.Entry.{actualSensitiveOf, orderRiskOfEntry, cycleRiskOfEntry, riskOfEntry}
 use Rattle.wrap_rules.specs.Rules.{suffixAsks, componentAsks, leads, importAsks, symbolTouches, referenceTouches, readAsks}
 use Rattle.wrap_rules.specs.Plan as plan
 use Rattle.wrap_plan.specs.Planned.{planOf}
 use Rattle.order_analysis.specs.Whole.{seedsOf, wholePlan}
 
 unfoldable pub computing : Unit {0}
-unfolding visit walk postOrder rounds close rowsOf resolved targetsOf valuesOf isAnalysed entryChunkOf analysed sizesFit below belowOrMissing valuesFit rises rowsRise allNormal usesOwn dependedResolved plainSymbols entriesOnce importsOnce rowsAgree refusal visited numbers sorted numbersOf sortedOf expected expectedOf sortBy loadOrder triggered execute eagerMembers executeMembers visitChunk runFrom runOf actualOf hostsOf connected component cyclic label labels reachesCycle labelsOf cyclicOf reachesCycleOf cycles.reached wakes usesWrapped sensitive eligible early isFlagged orderRisk cycleRisk riskOf expectedSensitiveOf riskOfEntry suffixAsks componentAsks leads importAsks symbolTouches referenceTouches readAsks asked start planFrom plan.reached ordersOf planOf seedsOf wholePlan flatMap sized zip actualSensitiveOf
+unfolding visit walk postOrder rounds close rowsOf resolved targetsOf valuesOf isAnalysed entryChunkOf analysed sizesFit below belowOrMissing valuesFit rises rowsRise allNormal usesOwn dependedResolved plainSymbols entriesOnce importsOnce rowsAgree refusal visited numbers sorted numbersOf sortedOf expected expectedOf sortBy loadOrder triggered execute eagerMembers executeMembers visitChunk runFrom runOf actualOf hostsOf connected component cyclic label labels reachesCycle labelsOf cyclicOf reachesCycleOf cycles.reached wakes usesWrapped sensitive eligible early isFlagged orderRisk cycleRisk riskOf expectedSensitiveOf orderRiskOfEntry cycleRiskOfEntry riskOfEntry suffixAsks componentAsks leads importAsks symbolTouches referenceTouches readAsks asked start planFrom plan.reached ordersOf planOf seedsOf wholePlan flatMap sized zip actualSensitiveOf
 computing = tt

@@ -12,5 +12,6 @@ pub mod LoadRows
 pub mod Load
 pub mod LoadNeeded
 pub mod LoadEvaluation
+pub mod Risks
 pub mod OwnTerms
 pub mod OfCalls

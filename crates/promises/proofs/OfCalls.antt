@@ -18,10 +18,10 @@ use Rattle.actual_order.specs.Actual.{actualOf, hostsOf}
 use Rattle.actual_order.specs.Promise.{actualVerdict}
 use Rattle.chunk_cycles.specs.Cycles.{labelsOf, cyclicOf, reachesCycleOf}
 use Rattle.chunk_cycles.specs.Promise.{labelsVerdict, reachVerdict}
-use Rattle.at_risk.specs.Entry.{riskOfEntry, riskVerdict}
+use Rattle.at_risk.specs.Entry.{orderRiskOfEntry, cycleRiskOfEntry, riskVerdict}
 use Rattle.wrap_plan.specs.Planned.{planOf, planVerdict}
 use Rattle.order_analysis.specs.Whole.{wholePlan, wholeVerdict}
-use Rattle.promises.specs.Calls.{Call, sort, expectedOrder, actualOrder, chunkLabels, chunkReach, riskOfAnEntry, planFromSeeds, wholeAnalysis, Outcome, outcome, outcomeOf}
+use Rattle.promises.specs.Calls.{Call, sort, expectedOrder, actualOrder, chunkLabels, chunkReach, orderRiskOfAnEntry, cycleRiskOfAnEntry, planFromSeeds, wholeAnalysis, Outcome, outcome, outcomeOf}
 use Rattle.promises.specs.OfCalls.{Gives, PromisesGiveOutcomes, slicesOf, RefusalsChangeNothing}
 
 abbrev Slices : Type 0
@@ -81,10 +81,14 @@ promisesGiveOutcomes = record {
       let v : ℕ = reachVerdict t chunk in
       let c : ℕ = bit (reachesCycleOf (t .project) chunk) in
       record { outcome = tells v c r (p .answered) [] [] refl; accepted = told v c r (p .answered) };
-  ofRisk = λ t root marks marks′ r p.
+  ofOrderRisk = λ t root marks marks′ r p.
       let v : ℕ = riskVerdict t root (length marks) in
-      let c : ℕ = ones (riskOfEntry (t .project) root) in
-      record { outcome = tells v c r (p .answered) ((marks, riskOfEntry (t .project) root) ∷ []) _ (one (p .written)); accepted = told v c r (p .answered) };
+      let c : ℕ = ones (orderRiskOfEntry (t .project) root) in
+      record { outcome = tells v c r (p .answered) ((marks, orderRiskOfEntry (t .project) root) ∷ []) _ (one (p .written)); accepted = told v c r (p .answered) };
+  ofCycleRisk = λ t root marks marks′ r p.
+      let v : ℕ = riskVerdict t root (length marks) in
+      let c : ℕ = ones (cycleRiskOfEntry (t .project) root) in
+      record { outcome = tells v c r (p .answered) ((marks, cycleRiskOfEntry (t .project) root) ∷ []) _ (one (p .written)); accepted = told v c r (p .answered) };
   ofPlan = λ t seeds marks marks′ r p.
       let v : ℕ = planVerdict t seeds (length marks) in
       let c : ℕ = ones (planOf (t .project) seeds) in
@@ -111,8 +115,10 @@ refusalsChangeNothing t (actualOrder root order hosts) n =
 refusalsChangeNothing t (chunkLabels labels) n =
     unchanged (labelsVerdict t (length labels)) (length (cyclicOf (t .project))) ((labels, labelsOf (t .project)) ∷ []) n
 refusalsChangeNothing t (chunkReach chunk) n = unchanged (reachVerdict t chunk) (bit (reachesCycleOf (t .project) chunk)) [] n
-refusalsChangeNothing t (riskOfAnEntry root marks) n =
-    unchanged (riskVerdict t root (length marks)) (ones (riskOfEntry (t .project) root)) ((marks, riskOfEntry (t .project) root) ∷ []) n
+refusalsChangeNothing t (orderRiskOfAnEntry root marks) n =
+    unchanged (riskVerdict t root (length marks)) (ones (orderRiskOfEntry (t .project) root)) ((marks, orderRiskOfEntry (t .project) root) ∷ []) n
+refusalsChangeNothing t (cycleRiskOfAnEntry root marks) n =
+    unchanged (riskVerdict t root (length marks)) (ones (cycleRiskOfEntry (t .project) root)) ((marks, cycleRiskOfEntry (t .project) root) ∷ []) n
 refusalsChangeNothing t (planFromSeeds seeds marks) n =
     unchanged (planVerdict t seeds (length marks)) (ones (planOf (t .project) seeds)) ((marks, planOf (t .project) seeds) ∷ []) n
 refusalsChangeNothing t (wholeAnalysis marks) n =

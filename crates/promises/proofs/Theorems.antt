@@ -137,7 +137,7 @@ answer-number zero count = refl
 answer-number (suc v) count = refl
 
 -- a call whose number is 0 leaves the new list and counts it
-leaves : (p : Project) (plan marks marks′ : List ℕ) (r : Answer) (v : ℕ) → length plan ≡ modules p → r ≡ answer v (ones plan) → marks′ ≡ after v marks plan
+pub leaves : (p : Project) (plan marks marks′ : List ℕ) (r : Answer) (v : ℕ) → length plan ≡ modules p → r ≡ answer v (ones plan) → marks′ ≡ after v marks plan
     → numberOf r ≡ 0 → LeavesPlan p plan marks r marks′
 leaves p plan marks marks′ r v n e w z =
     let o : v ≡ 0 = sym (answer-number v (ones plan)) ∙ ap numberOf (sym e) ∙ z in

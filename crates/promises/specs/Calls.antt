@@ -16,7 +16,7 @@ use Rattle.actual_order.specs.Actual.{actualOf, hostsOf}
 use Rattle.actual_order.specs.Promise.{actualVerdict}
 use Rattle.chunk_cycles.specs.Cycles.{labelsOf, cyclicOf, reachesCycleOf}
 use Rattle.chunk_cycles.specs.Promise.{labelsVerdict, reachVerdict}
-use Rattle.at_risk.specs.Entry.{riskOfEntry, riskVerdict}
+use Rattle.at_risk.specs.Entry.{orderRiskOfEntry, cycleRiskOfEntry, riskVerdict}
 use Rattle.wrap_plan.specs.Planned.{planOf, planVerdict}
 use Rattle.order_analysis.specs.Whole.{wholePlan, wholeVerdict}
 
@@ -27,7 +27,8 @@ pub data Call : Type 0 where
   actualOrder : (root : ℕ) (order hosts : List ℕ) → Call
   chunkLabels : (labels : List ℕ) → Call
   chunkReach : (chunk : ℕ) → Call
-  riskOfAnEntry : (root : ℕ) (marks : List ℕ) → Call
+  orderRiskOfAnEntry : (root : ℕ) (marks : List ℕ) → Call
+  cycleRiskOfAnEntry : (root : ℕ) (marks : List ℕ) → Call
   planFromSeeds : (seeds marks : List ℕ) → Call
   wholeAnalysis : (marks : List ℕ) → Call
 
@@ -52,8 +53,10 @@ outcomeOf t (actualOrder root order hosts) =
     ((order, actualOf (t .project) root) ∷ (hosts, hostsOf (t .project) root) ∷ [])
 outcomeOf t (chunkLabels labels) = outcome (labelsVerdict t (length labels)) (length (cyclicOf (t .project))) ((labels, labelsOf (t .project)) ∷ [])
 outcomeOf t (chunkReach chunk) = outcome (reachVerdict t chunk) (bit (reachesCycleOf (t .project) chunk)) []
-outcomeOf t (riskOfAnEntry root marks) =
-    outcome (riskVerdict t root (length marks)) (ones (riskOfEntry (t .project) root)) ((marks, riskOfEntry (t .project) root) ∷ [])
+outcomeOf t (orderRiskOfAnEntry root marks) =
+    outcome (riskVerdict t root (length marks)) (ones (orderRiskOfEntry (t .project) root)) ((marks, orderRiskOfEntry (t .project) root) ∷ [])
+outcomeOf t (cycleRiskOfAnEntry root marks) =
+    outcome (riskVerdict t root (length marks)) (ones (cycleRiskOfEntry (t .project) root)) ((marks, cycleRiskOfEntry (t .project) root) ∷ [])
 outcomeOf t (planFromSeeds seeds marks) =
     outcome (planVerdict t seeds (length marks)) (ones (planOf (t .project) seeds)) ((marks, planOf (t .project) seeds) ∷ [])
 outcomeOf t (wholeAnalysis marks) = outcome (wholeVerdict t (length marks)) (ones (wholePlan (t .project))) ((marks, wholePlan (t .project)) ∷ [])

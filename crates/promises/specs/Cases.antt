@@ -6,7 +6,7 @@ use Prim.Native.Nat.{ℕ}
 use Rattle.tables.specs.Project.{Project, missing}
 use Rattle.promises.specs.Changes.{withImports, withNormal}
 use Rattle.promises.specs.Listing.{listing}
-use Rattle.promises.specs.Calls.{Call, sort, expectedOrder, actualOrder, chunkLabels, riskOfAnEntry, planFromSeeds, wholeAnalysis, Outcome, outcomeOf, lentBy}
+use Rattle.promises.specs.Calls.{Call, sort, expectedOrder, actualOrder, chunkLabels, orderRiskOfAnEntry, cycleRiskOfAnEntry, planFromSeeds, wholeAnalysis, Outcome, outcomeOf, lentBy}
 
 pub record Case : Type 0 where
   pub on : Project
@@ -56,7 +56,9 @@ markedCases =
     ∷ accepts listing (sort lent lent) 4 ((0 ∷ 3 ∷ 1 ∷ 2 ∷ 5 ∷ []) ∷ (0 ∷ 2 ∷ 3 ∷ 1 ∷ 5 ∷ []) ∷ [])
     ∷ accepts listing (expectedOrder 1 lent) 3 ((2 ∷ 3 ∷ 1 ∷ 6 ∷ 5 ∷ []) ∷ [])
     ∷ accepts listing (actualOrder 1 lent lent) 4 ((0 ∷ 3 ∷ 2 ∷ 1 ∷ 5 ∷ []) ∷ (missing ∷ missing ∷ missing ∷ missing ∷ 5 ∷ []) ∷ [])
-    ∷ accepts listing (riskOfAnEntry 1 lent) 1 ((0 ∷ 0 ∷ 0 ∷ 1 ∷ 5 ∷ []) ∷ [])
+    -- the risk: early {3}, cycle {}
+    ∷ accepts listing (orderRiskOfAnEntry 1 lent) 1 ((0 ∷ 0 ∷ 0 ∷ 1 ∷ 5 ∷ []) ∷ [])
+    ∷ accepts listing (cycleRiskOfAnEntry 1 lent) 0 ((0 ∷ 0 ∷ 0 ∷ 0 ∷ 5 ∷ []) ∷ [])
     -- "plan from no seed, empty; from 0, empty; from 1, {1}; from 2, {1,2,3}"
     ∷ accepts listing (planFromSeeds [] lent) 0 ((0 ∷ 0 ∷ 0 ∷ 0 ∷ 5 ∷ []) ∷ [])
     ∷ accepts listing (planFromSeeds (0 ∷ []) lent) 0 ((0 ∷ 0 ∷ 0 ∷ 0 ∷ 5 ∷ []) ∷ [])
@@ -72,7 +74,8 @@ markedCases =
     -- "root 4, refusal 5"
     ∷ refuses listing (expectedOrder 4 lent) 5 (lent ∷ [])
     ∷ refuses listing (actualOrder 4 lent lent) 5 (lent ∷ lent ∷ [])
-    ∷ refuses listing (riskOfAnEntry 4 lent) 5 (lent ∷ [])
+    ∷ refuses listing (orderRiskOfAnEntry 4 lent) 5 (lent ∷ [])
+    ∷ refuses listing (cycleRiskOfAnEntry 4 lent) 5 (lent ∷ [])
     -- "for the sort, output slices of 3, refusal 6, of 4, none"
     ∷ refuses listing (sort three three) 6 (three ∷ three ∷ [])
     ∷ accepts listing (sort four four) 4 ((0 ∷ 3 ∷ 1 ∷ 2 ∷ []) ∷ (0 ∷ 2 ∷ 3 ∷ 1 ∷ []) ∷ [])

@@ -11,5 +11,6 @@ pub mod LoadNeeded
 pub mod LoadEvaluation
 pub mod Late
 pub mod LateWitnesses
+pub mod Risks
 pub mod OwnTerms
 pub mod OfCalls

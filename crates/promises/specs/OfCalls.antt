@@ -11,10 +11,10 @@ use Rattle.sort_modules.specs.Promise.{SortModules}
 use Rattle.expected_order.specs.Promise.{ExpectedOrder}
 use Rattle.actual_order.specs.Promise.{ActualOrder}
 use Rattle.chunk_cycles.specs.Promise.{LabelsPromise, ReachPromise}
-use Rattle.at_risk.specs.Entry.{EntryRisk}
+use Rattle.at_risk.specs.Entry.{EntryOrderRisk, EntryCycleRisk}
 use Rattle.wrap_plan.specs.Planned.{PlanFromSeeds}
 use Rattle.order_analysis.specs.Whole.{WholeAnalysis}
-use Rattle.promises.specs.Calls.{Call, sort, expectedOrder, actualOrder, chunkLabels, chunkReach, riskOfAnEntry, planFromSeeds, wholeAnalysis, Outcome, outcomeOf}
+use Rattle.promises.specs.Calls.{Call, sort, expectedOrder, actualOrder, chunkLabels, chunkReach, orderRiskOfAnEntry, cycleRiskOfAnEntry, planFromSeeds, wholeAnalysis, Outcome, outcomeOf}
 
 -- a call's answer and the slices that it leaves are the outcome, and an answer without a number is a count
 pub record Gives (t : Lent) (call : Call) (r : Answer) (left : List (List ℕ)) : Type 0 where
@@ -30,7 +30,8 @@ pub record PromisesGiveOutcomes : Type 0 where
       → Gives t (actualOrder root order hosts) r (order′ ∷ hosts′ ∷ [])
   pub ofLabels : (t : Lent) (labels labels′ : List ℕ) (r : Answer) → LabelsPromise t labels r labels′ → Gives t (chunkLabels labels) r (labels′ ∷ [])
   pub ofReach : (t : Lent) (chunk : ℕ) (r : Answer) → ReachPromise t chunk r → Gives t (chunkReach chunk) r []
-  pub ofRisk : (t : Lent) (root : ℕ) (marks marks′ : List ℕ) (r : Answer) → EntryRisk t root marks r marks′ → Gives t (riskOfAnEntry root marks) r (marks′ ∷ [])
+  pub ofOrderRisk : (t : Lent) (root : ℕ) (marks marks′ : List ℕ) (r : Answer) → EntryOrderRisk t root marks r marks′ → Gives t (orderRiskOfAnEntry root marks) r (marks′ ∷ [])
+  pub ofCycleRisk : (t : Lent) (root : ℕ) (marks marks′ : List ℕ) (r : Answer) → EntryCycleRisk t root marks r marks′ → Gives t (cycleRiskOfAnEntry root marks) r (marks′ ∷ [])
   pub ofPlan : (t : Lent) (seeds marks marks′ : List ℕ) (r : Answer) → PlanFromSeeds t seeds marks r marks′ → Gives t (planFromSeeds seeds marks) r (marks′ ∷ [])
   pub ofWholeAnalysis : (t : Lent) (marks marks′ : List ℕ) (r : Answer) → WholeAnalysis t marks r marks′ → Gives t (wholeAnalysis marks) r (marks′ ∷ [])
 
@@ -41,7 +42,8 @@ slicesOf (expectedOrder root order) = order ∷ []
 slicesOf (actualOrder root order hosts) = order ∷ hosts ∷ []
 slicesOf (chunkLabels labels) = labels ∷ []
 slicesOf (chunkReach chunk) = []
-slicesOf (riskOfAnEntry root marks) = marks ∷ []
+slicesOf (orderRiskOfAnEntry root marks) = marks ∷ []
+slicesOf (cycleRiskOfAnEntry root marks) = marks ∷ []
 slicesOf (planFromSeeds seeds marks) = marks ∷ []
 slicesOf (wholeAnalysis marks) = marks ∷ []
 

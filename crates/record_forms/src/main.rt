@@ -4,11 +4,12 @@ use libc::STDOUT_FILENO;
 use record_columns::Record;
 use records::actual_records;
 use records::analyze_records;
+use records::cycle_risk_records;
 use records::expected_records;
 use records::label_records;
+use records::order_risk_records;
 use records::plan_records;
 use records::reach_records;
-use records::risk_records;
 use records::sort_records;
 use tables::Answer;
 
@@ -76,8 +77,8 @@ fn reach_of<'a>(
     reach_records(runtime, dynamic, bounds, columns, &rows, chunk)
 }
 
-// Risk of an entry, of rows that are lent.
-fn risk_of<'a>(
+// Order risk of an entry, of rows that are lent.
+fn order_risk_of<'a>(
     runtime: u32,
     dynamic: u32,
     bounds: &'a [u32],
@@ -86,7 +87,20 @@ fn risk_of<'a>(
     root: u32,
     marks: &mut [u32],
 ) -> Answer {
-    risk_records(runtime, dynamic, bounds, columns, &rows, root, marks)
+    order_risk_records(runtime, dynamic, bounds, columns, &rows, root, marks)
+}
+
+// Cycle risk of an entry, of rows that are lent.
+fn cycle_risk_of<'a>(
+    runtime: u32,
+    dynamic: u32,
+    bounds: &'a [u32],
+    columns: &'a [u32],
+    rows: [Record; 2],
+    root: u32,
+    marks: &mut [u32],
+) -> Answer {
+    cycle_risk_records(runtime, dynamic, bounds, columns, &rows, root, marks)
 }
 
 // Plan from seeds, of rows that are lent.
@@ -181,11 +195,20 @@ fn cycles<'a>(bounds: &'a [u32], columns: &'a [u32], rows: [Record; 2]) {
     io::write_all(STDOUT_FILENO, b"\n");
 }
 
-// The risk of entry 1, the plan from module 2, and the whole analysis.
+// Both risks of entry 1, the plan from module 2, and the whole analysis.
 fn plans<'a>(bounds: &'a [u32], columns: &'a [u32], rows: [Record; 2]) {
-    let mut risk = [7u32; 4];
-    print_answer(b"risk", risk_of(0, 0, bounds, columns, rows, 1, &mut risk));
-    print_numbers(risk);
+    let mut early = [7u32; 4];
+    print_answer(
+        b"early",
+        order_risk_of(0, 0, bounds, columns, rows, 1, &mut early),
+    );
+    print_numbers(early);
+    let mut cycle = [7u32; 4];
+    print_answer(
+        b"cycle",
+        cycle_risk_of(0, 0, bounds, columns, rows, 1, &mut cycle),
+    );
+    print_numbers(cycle);
     let seeds = [2u32];
     let mut plan = [7u32; 4];
     print_answer(

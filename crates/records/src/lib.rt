@@ -4,29 +4,31 @@ ghost use Rattle.sort_modules.specs.Promise.{SortModules};
 ghost use Rattle.expected_order.specs.Promise.{ExpectedOrder};
 ghost use Rattle.actual_order.specs.Promise.{ActualOrder};
 ghost use Rattle.chunk_cycles.specs.Promise.{LabelsPromise, ReachPromise};
-ghost use Rattle.at_risk.specs.Entry.{EntryRisk};
+ghost use Rattle.at_risk.specs.Entry.{EntryOrderRisk, EntryCycleRisk};
 ghost use Rattle.wrap_plan.specs.Planned.{PlanFromSeeds};
 ghost use Rattle.order_analysis.specs.Whole.{WholeAnalysis};
 ghost use Rattle.record_columns.specs.Rows.{importerColumn, kindColumn, targetColumn};
 
 mod actual;
 mod analyze;
+mod cycle;
+mod early;
 mod expected;
 mod label;
 mod plan;
 mod reach;
-mod risk;
 mod sort;
 
 use actual::actual_columns;
 use analyze::analyze_columns;
+use cycle::cycle_risk_columns;
+use early::order_risk_columns;
 use expected::expected_columns;
 use label::label_columns;
 use plan::plan_columns;
 use reach::reach_columns;
 use record_columns::Record;
 use record_columns::core::columns_of;
-use risk::risk_columns;
 use sort::sort_columns;
 use tables::Answer;
 
@@ -109,8 +111,8 @@ pub fn reach_records<'a>(
     reach_columns(runtime, dynamic, bounds, columns, made, chunk)
 }
 
-// Risk of an entry.
-pub fn risk_records<'a>(
+// Order risk of an entry.
+pub fn order_risk_records<'a>(
     runtime: u32,
     dynamic: u32,
     bounds: &'a [u32],
@@ -119,10 +121,26 @@ pub fn risk_records<'a>(
     root: u32,
     marks: &mut [u32],
 ) -> Answer
-    ensures { λ r. ⌜ EntryRisk (lentWith runtime dynamic (now (bounds .entry)) (now (columns .entry)) (importerColumn (now (records .entry))) (kindColumn (now (records .entry))) (targetColumn (now (records .entry)))) root (now (marks .entry)) r (now (marks .exit)) ⌝ }
+    ensures { λ r. ⌜ EntryOrderRisk (lentWith runtime dynamic (now (bounds .entry)) (now (columns .entry)) (importerColumn (now (records .entry))) (kindColumn (now (records .entry))) (targetColumn (now (records .entry)))) root (now (marks .entry)) r (now (marks .exit)) ⌝ }
 {
     let made = columns_of(records);
-    risk_columns(runtime, dynamic, bounds, columns, made, root, marks)
+    order_risk_columns(runtime, dynamic, bounds, columns, made, root, marks)
+}
+
+// Cycle risk of an entry.
+pub fn cycle_risk_records<'a>(
+    runtime: u32,
+    dynamic: u32,
+    bounds: &'a [u32],
+    columns: &'a [u32],
+    records: &'a [Record],
+    root: u32,
+    marks: &mut [u32],
+) -> Answer
+    ensures { λ r. ⌜ EntryCycleRisk (lentWith runtime dynamic (now (bounds .entry)) (now (columns .entry)) (importerColumn (now (records .entry))) (kindColumn (now (records .entry))) (targetColumn (now (records .entry)))) root (now (marks .entry)) r (now (marks .exit)) ⌝ }
+{
+    let made = columns_of(records);
+    cycle_risk_columns(runtime, dynamic, bounds, columns, made, root, marks)
 }
 
 // Plan from seeds.

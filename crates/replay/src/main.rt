@@ -293,6 +293,59 @@ fn ask_none<'a>(
     test(runtime, dynamic, bounds, columns)
 }
 
+// Of two marks the one that is 1, else the first.
+fn either(mark: u32, more: u32) -> u32 {
+    if more == 1 {
+        return 1;
+    }
+    mark
+}
+
+// A count with one more for a mark that is 1.
+fn counted(count: u32, mark: u32) -> u32 {
+    if mark == 1 {
+        return std::num::wrapping_add_u32(count, 1);
+    }
+    count
+}
+
+// Writes a 1 wherever another set has one, and counts the ones.
+fn join(marks: &mut [u32], more: &[u32]) -> u32 {
+    let mut count = 0;
+    let mut i = 0;
+    while i < marks.len() {
+        if more.len() <= i {
+            return count;
+        }
+        let mark = either(marks[i], more[i]);
+        marks[i] = mark;
+        count = counted(count, mark);
+        i += 1;
+    }
+    count
+}
+
+// Both kinds of risk, joined.
+fn both_risks<'a>(
+    runtime: u32,
+    dynamic: u32,
+    bounds: &'a [u32],
+    columns: &'a [u32],
+    first: &mut [u32],
+    root: u32,
+) -> Answer {
+    let early = order_risk::order_risk(runtime, dynamic, bounds, columns, root, first);
+    let Answer::Counted(_) = early else {
+        return early;
+    };
+    let mut more = [0u32; 4104];
+    let cycle = cycle_risk::cycle_risk(runtime, dynamic, bounds, columns, root, &mut more);
+    let Answer::Counted(_) = cycle else {
+        return cycle;
+    };
+    Answer::Counted(join(first, &more) as usize)
+}
+
 // Those with one.
 fn ask_one<'a>(
     runtime: u32,
@@ -307,8 +360,10 @@ fn ask_one<'a>(
     match operation {
         1 => expected_order::expected_order(runtime, dynamic, bounds, columns, argument, first),
         3 => chunk_cycles::labels(runtime, dynamic, bounds, columns, first),
-        5 => at_risk::risk(runtime, dynamic, bounds, columns, argument, first),
+        5 => both_risks(runtime, dynamic, bounds, columns, first, argument),
         6 => wrap_plan::plan_from_seeds(runtime, dynamic, bounds, columns, seeds, first),
+        9 => order_risk::order_risk(runtime, dynamic, bounds, columns, argument, first),
+        10 => cycle_risk::cycle_risk(runtime, dynamic, bounds, columns, argument, first),
         _ => order_analysis::analyze_execution_order(runtime, dynamic, bounds, columns, first),
     }
 }

@@ -69,8 +69,10 @@ operations! {
   labels = jolmuqter_labels [] [] [labels];
   /// Counts 1 if the chunk reaches a cyclic one, else 0.
   chunk_reach = jolmuqter_chunk_reach [chunk] [] [];
-  /// The modules at risk of an analysed entry, 0 or 1 each. Counts the ones.
-  risk = jolmuqter_risk [root] [] [risk];
+  /// The order risk of an analysed entry, 0 or 1 for each module. Counts the ones.
+  order_risk = jolmuqter_order_risk [root] [] [risk];
+  /// The cycle risk of an analysed entry, 0 or 1 for each module. Counts the ones.
+  cycle_risk = jolmuqter_cycle_risk [root] [] [risk];
   /// The plan from these seeds, 0 or 1 for each module. Counts the ones.
   plan_from_seeds = jolmuqter_plan_from_seeds [] [seeds] [plan];
   /// The plan of the whole analysis, 0 or 1 for each module. Counts the ones.

@@ -129,13 +129,25 @@ fn reaches_cyclic_chunks() {
 }
 
 #[test]
-fn gives_the_risk() {
+fn gives_the_order_risk() {
   let mut risk = [9; 4];
-  assert_eq!(with(unchanged, |table| table.risk(2, &mut risk)), Err(Refused(5)));
-  assert_eq!(with(unchanged, |table| table.risk(1, &mut risk[..3])), Err(Refused(6)));
+  assert_eq!(with(unchanged, |table| table.order_risk(2, &mut risk)), Err(Refused(5)));
+  assert_eq!(with(unchanged, |table| table.order_risk(1, &mut risk[..3])), Err(Refused(6)));
   assert_eq!(risk, [9; 4]);
-  assert_eq!(with(unchanged, |table| table.risk(1, &mut risk)), Ok(1));
+  assert_eq!(with(unchanged, |table| table.order_risk(1, &mut risk)), Ok(1));
   assert_eq!(risk, [0, 0, 0, 1]);
+}
+
+#[test]
+fn gives_the_cycle_risk() {
+  let mut risk = [9; 4];
+  assert_eq!(with(unchanged, |table| table.cycle_risk(2, &mut risk)), Err(Refused(5)));
+  assert_eq!(with(unchanged, |table| table.cycle_risk(1, &mut risk[..3])), Err(Refused(6)));
+  assert_eq!(risk, [9; 4]);
+  assert_eq!(with(unchanged, |table| table.cycle_risk(1, &mut risk)), Ok(0));
+  assert_eq!(risk, [0; 4]);
+  assert_eq!(with(back, |table| table.cycle_risk(1, &mut risk)), Ok(3));
+  assert_eq!(risk, [0, 1, 1, 1]);
 }
 
 #[test]

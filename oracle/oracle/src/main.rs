@@ -88,7 +88,8 @@ fn answer(text: &[u8], flags: &Flags) -> String {
   for entry in &entries {
     line(&mut out, &format!("expected {}", entry.root), &entry.expected);
     line(&mut out, &format!("actual {}", entry.root), &entry.actual);
-    line(&mut out, &format!("risk {}", entry.root), &entry.risk);
+    line(&mut out, &format!("early {}", entry.root), &entry.early);
+    line(&mut out, &format!("cycle {}", entry.root), &entry.cycle);
   }
   line(&mut out, "plan", &plan);
   if flags.all {

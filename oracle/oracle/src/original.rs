@@ -15,13 +15,15 @@ pub fn on_a_deep_stack<T: Send + 'static>(run: impl FnOnce() -> T + Send + 'stat
   std::thread::Builder::new().stack_size(512 << 20).spawn(run).unwrap().join().unwrap()
 }
 
-/// An analysed entry. Hosts have a place a module.
+/// An analysed entry. Hosts have a place a module; the risk is the order risk, `early`, and the cycle risk, joined.
 #[derive(Debug, PartialEq, Eq)]
 pub struct Entry {
   pub root: u32,
   pub expected: Vec<u32>,
   pub actual: Vec<u32>,
   pub hosts: Vec<u32>,
+  pub early: Vec<u32>,
+  pub cycle: Vec<u32>,
   pub risk: Vec<u32>,
 }
 
@@ -97,6 +99,8 @@ impl Original {
           .modules()
           .map(|idx| entry.hosts.get(&idx).map_or(MARK, |host| host.raw()))
           .collect(),
+        early: rising(entry.early),
+        cycle: rising(entry.cycle),
         risk: rising(entry.risk),
       })
       .collect()

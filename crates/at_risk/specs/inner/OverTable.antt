@@ -11,7 +11,6 @@ use Rattle.analysed_entries.specs.inner.Entries.{Entry}
 use Rattle.sensitivity.specs.Marks.{sensitiveMarks}
 use Rattle.eligibility.specs.Eligible.{eligibleMarks}
 use Rattle.risk_of_orders.specs.inner.Steps.{Order}
-use Rattle.at_risk.specs.Entry.{riskOfEntry}
 
 -- an accepted project, with the marks of its sensitive and of its eligible modules
 pub record Sets (p : Project) (sensitives eligibles : List ℕ) : Type 0 where
@@ -29,7 +28,7 @@ pub record Entered (p : Project) (root chunk places : ℕ) : Type 0 where
   pub entry : Entry p root chunk
   pub size : places ≡ modules p
 
--- the risk of a root is marked, and the marks are counted
-pub record RiskMarked (p : Project) (root : ℕ) (marks : List ℕ) (count : ℕ) : Type 0 where
-  pub same : marks ≡ riskOfEntry p root
+-- a set is marked, and the marks are counted
+pub record Marked (set marks : List ℕ) (count : ℕ) : Type 0 where
+  pub same : marks ≡ set
   pub marked : count ≡ ones marks

@@ -1,11 +1,11 @@
 -- `at_risk::core::add_entry_risk` meets its contract: the expected order is made in a local array, and then both risks are added.
 -- Assumes nothing.
-use mathlib.Core.Path.{_≡_, sym, ap, subst, _∙_}
+use mathlib.Core.Path.{_≡_, sym, ap, _∙_}
 use mathlib.Core.List.{List}
 use Prim.Native.Nat.{ℕ, _≤_}
 use native.Mathlib.Omega.{arith}
-use lib.ListN.{length, take, drop, replicate, length-append}
-use lib.Seq.{length-take-le, take-at}
+use lib.ListN.{length, take}
+use lib.Seq.{length-take-le}
 use Rattle.tables.specs.Project.{Project}
 use Rattle.tables.specs.Readings.{modules}
 use Rattle.tables.specs.Refusal.{moduleLimit}
@@ -16,16 +16,13 @@ use Rattle.chunk_cycles.specs.Cycles.{reachesCycleOf}
 use Rattle.sensitivity.specs.Marks.{sensitive}
 use Rattle.eligibility.specs.Eligible.{eligible}
 use Rattle.risk_of_orders.specs.Risk.{orderRisk, cycleRisk}
-use Rattle.risk_of_orders.specs.inner.Steps.{join, Order}
+use Rattle.risk_of_orders.specs.inner.Steps.{join}
 use Rattle.at_risk.specs.inner.OverTable.{Placed}
-use Rattle.at_risk.proofs.Listed.{expected-order}
+use Rattle.at_risk.proofs.Listed.{room, held-room, held-is, held-placed}
 use Rattle.at_risk.proofs.Joined.{risk-joined}
 use borrow.Author.Needs.{needs}
 use Rattle.at_risk.proofs.core.add_entry_risk.Statement.{statement}
 use Rattle.at_risk.proofs.core.add_entry_risk.Tie as tie
-
-abbrev room : List ℕ
-room = replicate moduleLimit 0
 
 -- the entry, its project, and how many places there are
 
@@ -61,17 +58,14 @@ module _ (x : tie.After-list-expected) where
   abbrev held : List ℕ
   held = x .list-expected .last .1 .1 .1 .1 .1 .1 .1 .1 .1 .1 .0
 
-  held-room : count ≤ length held
-  held-room = let w = x .list-expected .ensures in omega (arith, w .count, ap length (w .written), length-append wanted (drop (length wanted) room))
+  there : count ≤ length held
+  there = held-room (of start) (start .args .root) (x .list-expected .ensures)
 
-  held-is : take count held ≡ wanted
-  held-is = let w = x .list-expected .ensures in ap (take count) (w .written) ∙ take-at wanted (drop (length wanted) room) count (sym (w .count))
+  held-wanted : take count held ≡ wanted
+  held-wanted = held-is (of start) (start .args .root) (x .list-expected .ensures)
 
-  held-placed : (n : ℕ) → n ≡ modules (of start) → Placed (of start) (take count held) n
-  held-placed n e = record {
-    order = subst (λ (l : List ℕ). Order l (modules (of start))) (sym held-is) (expected-order (of start) (start .pre .1 .1 .0 .accepted) (start .args .root));
-    size = e;
-  }
+  placed : (n : ℕ) → n ≡ modules (of start) → Placed (of start) (take count held) n
+  placed = held-placed (of start) (start .args .root) (x .list-expected .ensures) (start .pre .1 .1 .0 .accepted)
 
 -- the set, with the order risk added
 module _ (y : tie.After-add-entry-order-risk) where
@@ -91,22 +85,22 @@ list-expected-requires c κs =
     record { accepted = e .pre .1 .1 .0 .accepted; size = part k ∙ counted k; within = omega (arith, part k, counted k, e .pre .1 .1 .1 .entry .within); room = omega (arith, part k, few k) }
 
 array-share-prefix-expected : tie.Need-array-share-prefix-expected
-array-share-prefix-expected c = held-room (c .before .before)
+array-share-prefix-expected c = there (c .before .before)
 
 slice-aggregate-add-entry-order-risk : tie.Need-slice-aggregate-add-entry-order-risk
-slice-aggregate-add-entry-order-risk c = let x = c .before .before .before in sym (length-take-le (count x) (held x) (held-room x))
+slice-aggregate-add-entry-order-risk c = let x = c .before .before .before in sym (length-take-le (count x) (held x) (there x))
 
 add-entry-order-risk-requires : tie.Need-add-entry-order-risk-requires
 add-entry-order-risk-requires c κs =
     let x = c .before .before .before .before in
     let e = start x in
-    (e .pre .0, (e .pre .1 .1 .0, (e .pre .1 .1 .1 .entry, held-placed x (size (c .before .before .before .before .before .before)) (counted (c .before .before .before .before .before .before)))))
+    (e .pre .0, (e .pre .1 .1 .0, (e .pre .1 .1 .1 .entry, placed x (size (c .before .before .before .before .before .before)) (counted (c .before .before .before .before .before .before)))))
 
 array-share-prefix-expected-2 : tie.Need-array-share-prefix-expected-2
-array-share-prefix-expected-2 c = held-room (c .before .before .before .before .before .before .before)
+array-share-prefix-expected-2 c = there (c .before .before .before .before .before .before .before)
 
 slice-aggregate-add-entry-cycle-risk : tie.Need-slice-aggregate-add-entry-cycle-risk
-slice-aggregate-add-entry-cycle-risk c = let x = c .before .before .before .before .before .before .before .before in sym (length-take-le (count x) (held x) (held-room x))
+slice-aggregate-add-entry-cycle-risk c = let x = c .before .before .before .before .before .before .before .before in sym (length-take-le (count x) (held x) (there x))
 
 add-entry-cycle-risk-requires : tie.Need-add-entry-cycle-risk-requires
 add-entry-cycle-risk-requires c κs =
@@ -114,7 +108,7 @@ add-entry-cycle-risk-requires c κs =
     let y = c .before .before .before .before in
     let e = start x in
     let sets = e .pre .1 .1 .0 in
-    (record { accepted = sets .accepted; same = e .pre .1 .0; there = e .pre .1 .1 .1 .entry .inside }, (sets .eligibleSet, held-placed x (length (out1 y)) (out1-size y)))
+    (record { accepted = sets .accepted; same = e .pre .1 .0; there = e .pre .1 .1 .1 .entry .inside }, (sets .eligibleSet, placed x (length (out1 y)) (out1-size y)))
 
 returns : tie.Need-returns
 returns c =
@@ -127,7 +121,7 @@ returns c =
     let hosts : List ℕ = hostsOf p (a .root) in
     c .before .before .add-entry-cycle-risk .ensures
     ∙ ap (λ (s : List ℕ). join s (cycleRisk (eligible p) (take (count x) (held x)) (reachesCycleOf p (a .chunk)))) (y .add-entry-order-risk .ensures)
-    ∙ ap (λ (l : List ℕ). join (join (a .out .now) (orderRisk (sensitive p) (eligible p) l listed hosts)) (cycleRisk (eligible p) l (reachesCycleOf p (a .chunk)))) (held-is x)
+    ∙ ap (λ (l : List ℕ). join (join (a .out .now) (orderRisk (sensitive p) (eligible p) l listed hosts)) (cycleRisk (eligible p) l (reachesCycleOf p (a .chunk)))) (held-wanted x)
     ∙ ap (λ (k : ℕ). join (join (a .out .now) (orderRisk (sensitive p) (eligible p) (wanted x) listed hosts)) (cycleRisk (eligible p) (wanted x) (reachesCycleOf p k))) (e .pre .1 .1 .1 .entry .from)
     ∙ risk-joined p (a .root) (a .out .now) (counted (c .before .before .before .before .before .before .before .before .before .before .before .before .before .before))
 

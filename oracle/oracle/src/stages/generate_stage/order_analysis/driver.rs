@@ -54,6 +54,8 @@ pub struct EntryResult {
   pub expected: Vec<ModuleIdx>,
   pub actual: Vec<ModuleIdx>,
   pub hosts: FxHashMap<ModuleIdx, ModuleIdx>,
+  pub early: FxHashSet<ModuleIdx>,
+  pub cycle: FxHashSet<ModuleIdx>,
   pub risk: FxHashSet<ModuleIdx>,
 }
 
@@ -79,11 +81,13 @@ impl GenerateStage<'_> {
     let expected = self.expected_order_for_root(root);
     let (actual, hosts) =
       self.actual_order_for_root(root, root_chunk, chunk_graph, self.import_edges);
-    let mut risk = self.at_risk_modules(&expected, &actual, &hosts);
+    let early = self.at_risk_modules(&expected, &actual, &hosts);
+    let mut cycle = FxHashSet::default();
     if chunk_cycles.reachable_from(root_chunk, self.import_edges) {
-      risk.extend(expected.iter().copied().filter(|idx| self.is_order_wrap_eligible(*idx)));
+      cycle.extend(expected.iter().copied().filter(|idx| self.is_order_wrap_eligible(*idx)));
     }
-    Some(EntryResult { root, expected, actual, hosts, risk })
+    let risk = early.union(&cycle).copied().collect();
+    Some(EntryResult { root, expected, actual, hosts, early, cycle, risk })
   }
 
   pub fn entry_results(&self, chunk_graph: &ChunkGraph) -> Vec<EntryResult> {

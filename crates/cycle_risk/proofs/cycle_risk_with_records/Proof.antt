@@ -1,4 +1,4 @@
--- `at_risk::risk_with_records` keeps its promise: a refusal changes nothing, and an accepted call marks the entry's risk.
+-- `cycle_risk::cycle_risk_with_records` keeps its promise: a refusal changes nothing, and an accepted call marks the entry's cycle risk.
 -- Assumes nothing.
 use mathlib.Core.Path.{_≡_, sym, subst, _∙_}
 use mathlib.Core.Bool.{true}
@@ -14,12 +14,13 @@ use Rattle.tables.specs.declared.Answer.the-variants.{Counted}
 use Rattle.table.specs.Table.{table, read, withRecords, Lent, lentWith}
 use Rattle.table.proofs.Laws.{records-cut, lent-accepted}
 use Rattle.analysed_entries.specs.inner.Entries.{Entry, Found}
-use Rattle.at_risk.specs.Entry.{EntryRisk}
-use Rattle.at_risk.specs.inner.OverTable.{Entered, RiskMarked}
-use Rattle.at_risk.proofs.Promise.{project-refused, root-refused, room-refused, risk-counted}
+use Rattle.at_risk.specs.Entry.{cycleRiskOfEntry, EntryCycleRisk}
+use Rattle.at_risk.specs.inner.OverTable.{Entered, Marked}
+use Rattle.at_risk.proofs.Joined.{length-cycle-risk}
+use Rattle.at_risk.proofs.Promise.{project-refused, root-refused, room-refused, marks-counted}
 use borrow.Author.Needs.{needs}
-use Rattle.at_risk.proofs.risk_with_records.Statement.{statement}
-use Rattle.at_risk.proofs.risk_with_records.Tie as tie
+use Rattle.cycle_risk.proofs.cycle_risk_with_records.Statement.{statement}
+use Rattle.cycle_risk.proofs.cycle_risk_with_records.Tie as tie
 
 -- the entry, what was lent and its project
 
@@ -63,7 +64,7 @@ part : (c : tie.Else3) → let k = c .before in length (take (count k) (entry (k
 part c = let k = c .before in length-take-le (count k) (entry (k .before .before .before) .args .marks .now) (c .if3 .left)
 
 returns : tie.Need-returns
-returns c = let e = c .before .before .before .before .before .before .before .before in project-refused (lents e) (e .args .root) (e .args .marks .now) (c .before .refusal-number .result) (c .before .refusal-number .ensures) (c .if1 .taken)
+returns c = let e = c .before .before .before .before .before .before .before .before in project-refused cycleRiskOfEntry (lents e) (e .args .root) (e .args .marks .now) (c .before .refusal-number .result) (c .before .refusal-number .ensures) (c .if1 .taken)
 
 find-entry-requires : tie.Need-find-entry-requires
 find-entry-requires c κs = subst Accepted (sym (own c)) (ok c)
@@ -72,19 +73,19 @@ returns-2 : tie.Need-returns-2
 returns-2 c =
     let k = c .before .before in
     let e = entry k in
-    root-refused (lents e) (e .args .root) (e .args .marks .now) (accepts k) (found (c .before) .none (c .if2 .taken))
+    root-refused cycleRiskOfEntry (lents e) (e .args .root) (e .args .marks .now) (accepts k) (found (c .before) .none (c .if2 .taken))
 
 returns-3 : tie.Need-returns-3
 returns-3 c =
     let k = c .before .before .before .before in
     let e = entry k in
-    room-refused (lents e) (e .args .root) (e .args .marks .now) (accepts k) (here (c .before .before) .0) (omega (arith, counted (c .before), c .if3 .taken))
+    room-refused cycleRiskOfEntry (lents e) (e .args .root) (e .args .marks .now) (accepts k) (here (c .before .before) .0) (omega (arith, counted (c .before), c .if3 .taken))
 
-slice-aggregate-mark-risk : tie.Need-slice-aggregate-mark-risk
-slice-aggregate-mark-risk c = sym (part (c .before))
+slice-aggregate-mark-cycle-risk : tie.Need-slice-aggregate-mark-cycle-risk
+slice-aggregate-mark-cycle-risk c = sym (part (c .before))
 
-mark-risk-requires : tie.Need-mark-risk-requires
-mark-risk-requires c κs =
+mark-cycle-risk-requires : tie.Need-mark-cycle-risk-requires
+mark-cycle-risk-requires c κs =
     let k = c .before .before .before .before .before in
     let a = entry k .args in
     let n = c .before .before in
@@ -97,13 +98,13 @@ returns-4 c =
     let e = entry k in
     let a = e .args in
     let n = c .before .before .before .before .before in
-    let done = c .before .before .mark-risk in
+    let done = c .before .before .mark-cycle-risk in
     let made : List ℕ = done .last .1 .1 .1 .1 .1 .1 .1 .1 .1 .0 in
-    subst (λ (i : ℕ). EntryRisk (lents e) (a .root) (a .marks .now) (Counted (done .result)) (made ++ drop i (a .marks .now))) (sym (counted n))
-    (risk-counted (lents e) (a .root) (a .marks .now) (accepts k) (here (c .before .before .before .before .before .before) .0) (omega (arith, counted n, c .before .before .before .before .if3 .left))
-    (subst (λ (p : Project). RiskMarked p (a .root) made (done .result)) (own k) (done .ensures)))
+    subst (λ (i : ℕ). EntryCycleRisk (lents e) (a .root) (a .marks .now) (Counted (done .result)) (made ++ drop i (a .marks .now))) (sym (counted n))
+    (marks-counted cycleRiskOfEntry (lents e) (a .root) (a .marks .now) (accepts k) (here (c .before .before .before .before .before .before) .0) (omega (arith, counted n, c .before .before .before .before .if3 .left)) (length-cycle-risk (of e) (a .root))
+    (subst (λ (p : Project). Marked (cycleRiskOfEntry p (a .root)) made (done .result)) (own k) (done .ensures)))
 
-pub risk-with-records-spec : {M : Type 1} → statement M
-risk-with-records-spec =
+pub cycle-risk-with-records-spec : {M : Type 1} → statement M
+cycle-risk-with-records-spec =
     tie.close
-    (tie.spec (λ c κs. search needs) returns (λ c κs. search needs) (λ c κs. search needs) find-entry-requires returns-2 (λ c κs. search needs) returns-3 (λ c. search needs) slice-aggregate-mark-risk mark-risk-requires (λ c. search needs) returns-4)
+    (tie.spec (λ c κs. search needs) returns (λ c κs. search needs) (λ c κs. search needs) find-entry-requires returns-2 (λ c κs. search needs) returns-3 (λ c. search needs) slice-aggregate-mark-cycle-risk mark-cycle-risk-requires (λ c. search needs) returns-4)

@@ -1,4 +1,4 @@
--- `at_risk::core::mark_risk` meets its contract: the sensitive and the eligible modules are marked in two local arrays.
+-- `order_risk::core::mark_order_risk` meets its contract: the sensitive and the eligible modules are marked in two local arrays.
 -- Assumes nothing.
 use mathlib.Core.Path.{_≡_, sym, ap, _∙_}
 use mathlib.Core.List.{List}
@@ -6,18 +6,17 @@ use Prim.Native.Nat.{ℕ, _≤_}
 use native.Mathlib.Omega.{arith}
 use lib.ListN.{length, take, replicate}
 use lib.Seq.{length-take-le, take-at}
-use Rattle.lists.specs.Words.{has}
 use Rattle.lists.proofs.Fronts.{front-room, front-length}
 use Rattle.tables.specs.Project.{Project}
 use Rattle.tables.specs.Readings.{modules}
 use Rattle.tables.specs.Refusal.{moduleLimit}
 use Rattle.table.specs.Table.{table, read}
 use Rattle.risk_of_orders.specs.inner.Steps.{join}
-use Rattle.at_risk.specs.Entry.{riskOfEntry}
-use Rattle.at_risk.proofs.Joined.{risk-alone}
+use Rattle.at_risk.specs.Entry.{inOrderRisk}
+use Rattle.at_risk.proofs.Joined.{order-risk-alone}
 use borrow.Author.Needs.{needs}
-use Rattle.at_risk.proofs.core.mark_risk.Statement.{statement}
-use Rattle.at_risk.proofs.core.mark_risk.Tie as tie
+use Rattle.order_risk.proofs.core.mark_order_risk.Statement.{statement}
+use Rattle.order_risk.proofs.core.mark_order_risk.Tie as tie
 
 abbrev room : List ℕ
 room = replicate moduleLimit 0
@@ -71,17 +70,17 @@ mark-table-eligible-requires c κs = let k = c .before .before .before in record
 array-share-prefix-sensitives : tie.Need-array-share-prefix-sensitives
 array-share-prefix-sensitives c = let x = c .before .before .before .before .before .before .before .before in front-room (sensitives x) _ _ (sensitives-length x)
 
-slice-aggregate-add-marked-risk : tie.Need-slice-aggregate-add-marked-risk
-slice-aggregate-add-marked-risk c = let x = c .before .before .before .before .before .before .before .before .before in sym (front-length (sensitives x) _ _ (sensitives-length x))
+slice-aggregate-add-marked-order-risk : tie.Need-slice-aggregate-add-marked-order-risk
+slice-aggregate-add-marked-order-risk c = let x = c .before .before .before .before .before .before .before .before .before in sym (front-length (sensitives x) _ _ (sensitives-length x))
 
 array-share-prefix-eligibles : tie.Need-array-share-prefix-eligibles
 array-share-prefix-eligibles c = let y = c .before .before .before .before .before .before in front-room (eligibles y) _ _ (eligibles-length y)
 
-slice-aggregate-add-marked-risk-2 : tie.Need-slice-aggregate-add-marked-risk-2
-slice-aggregate-add-marked-risk-2 c = let y = c .before .before .before .before .before .before .before in sym (front-length (eligibles y) _ _ (eligibles-length y))
+slice-aggregate-add-marked-order-risk-2 : tie.Need-slice-aggregate-add-marked-order-risk-2
+slice-aggregate-add-marked-order-risk-2 c = let y = c .before .before .before .before .before .before .before in sym (front-length (eligibles y) _ _ (eligibles-length y))
 
-add-marked-risk-requires : tie.Need-add-marked-risk-requires
-add-marked-risk-requires c κs =
+add-marked-order-risk-requires : tie.Need-add-marked-order-risk-requires
+add-marked-order-risk-requires c κs =
     let x = c .before .before .before .before .before .before .before .before .before .before .before in
     let y = c .before .before .before .before .before .before .before .before in
     let k = c .before .before .before .before .before .before .before .before .before .before .before .before in
@@ -101,13 +100,13 @@ returns c =
     let p = of e in
     record {
       same =
-          c .before .before .before .before .add-marked-risk .ensures
-          ∙ ap (λ (l : List ℕ). join l (has (riskOfEntry p (e .args .root)))) (c .before .before .before .before .before .before .before .before .before .before .fill .ensures)
-          ∙ risk-alone p (e .args .root) (size k) (counted k);
+          c .before .before .before .before .add-marked-order-risk .ensures
+          ∙ ap (λ (l : List ℕ). join l (inOrderRisk p (e .args .root))) (c .before .before .before .before .before .before .before .before .before .before .fill .ensures)
+          ∙ order-risk-alone p (e .args .root) (size k) (counted k);
       marked = c .count-marked .ensures;
     }
 
-pub mark-risk-spec : {M : Type 1} → statement M
-mark-risk-spec =
+pub mark-order-risk-spec : {M : Type 1} → statement M
+mark-order-risk-spec =
     tie.close
-    (tie.spec (λ c. search needs) slice-aggregate-mark-table-sensitive mark-table-sensitive-requires (λ c. search needs) slice-aggregate-mark-table-eligible mark-table-eligible-requires (λ c κs. search needs) array-share-prefix-sensitives slice-aggregate-add-marked-risk array-share-prefix-eligibles slice-aggregate-add-marked-risk-2 add-marked-risk-requires (λ c κs. search needs) (λ c. search needs) returns)
+    (tie.spec (λ c. search needs) slice-aggregate-mark-table-sensitive mark-table-sensitive-requires (λ c. search needs) slice-aggregate-mark-table-eligible mark-table-eligible-requires (λ c κs. search needs) array-share-prefix-sensitives slice-aggregate-add-marked-order-risk array-share-prefix-eligibles slice-aggregate-add-marked-order-risk-2 add-marked-order-risk-requires (λ c κs. search needs) (λ c. search needs) returns)

@@ -1,4 +1,4 @@
--- `record_forms::risk_of` meets its contract: the walk of `Lent`.
+-- `record_forms::order_risk_of` meets its contract: the walk of `Lent`.
 -- Assumes nothing.
 use mathlib.Core.Path.{refl}
 use mathlib.Core.Option.{Option}
@@ -26,18 +26,18 @@ use Rattle.record_columns.proofs.Around.{and-nothing}
 use Rattle.records.proofs.Frame.{lending, lent, lends}
 use Rattle.records.proofs.Forms.{Operation}
 use Rattle.records.proofs.Shapes.{number-list, number-list-lawful}
-use Rattle.records.proofs.risk_records as c
-use Rattle.records.proofs.risk_records.Symbol as c-def
-use Rattle.records.proofs.risk_records.Symbol.{name as #records·risk-records}
-use Rattle.records.proofs.risk_records.Met as c-thm
+use Rattle.records.proofs.order_risk_records as c
+use Rattle.records.proofs.order_risk_records.Symbol as c-def
+use Rattle.records.proofs.order_risk_records.Symbol.{name as #records·order-risk-records}
+use Rattle.records.proofs.order_risk_records.Met as c-thm
 use Rattle.record_forms.proofs.Lent.{Loan, ls, ready, unsaid, Ts, own-vals, all-vals, lends-rows}
-use Rattle.record_forms.proofs.risk_of.Key.{name as #record-forms·risk-of}
-use Rattle.record_forms.proofs.risk_of as f
-use Rattle.record_forms.proofs.risk_of.Statement as stated
-use Rattle.record_forms.proofs.risk_of.Code as code
+use Rattle.record_forms.proofs.order_risk_of.Key.{name as #record-forms·order-risk-of}
+use Rattle.record_forms.proofs.order_risk_of as f
+use Rattle.record_forms.proofs.order_risk_of.Statement as stated
+use Rattle.record_forms.proofs.order_risk_of.Code as code
 
 abbrev p : Operation
-p = number-list #records·risk-records
+p = number-list #records·order-risk-records
 
 abbrev o : Loan
 o = record {
@@ -47,7 +47,7 @@ o = record {
   temps = tyRef erased mut (tyInt w32) ∷ sliceTy (tyRef erased mut (tyInt w32)) ∷ [];
   k = 8;
   js = 6 ∷ 12 ∷ [];
-  form = #records·risk-records;
+  form = #records·order-risk-records;
   lends = λ rest. lending 7 11 12 (tyInt w32) rest;
 }
 
@@ -56,10 +56,10 @@ abbrev again : (κs : Lfts 2) → Denots (typesAt (p .own) κs) → List (Option
 again κs own ss = lent (own .1 .0) 11 12 ss
 
 module _ {M : Type 1} (𝓤 : URA M) (H : Heap 𝓤) (A : Atoms 𝓤) (W : Given 𝓤 H A) (at-mem : Memory → SProp 𝓤) (run : Routine → Fun 𝓤)
-    (𝓣 : Tables 𝓤 H) (known : Triple 𝓤 (𝓣 .C #records·risk-records) (tripleOf 𝓤 H A c.signature (c.spec 𝓤 H A at-mem run))) where
+    (𝓣 : Tables 𝓤 H) (known : Triple 𝓤 (𝓣 .C #records·order-risk-records) (tripleOf 𝓤 H A c.signature (c.spec 𝓤 H A at-mem run))) where
   meets : Meets 𝓤 H A f.signature (WpFn 𝓤 H (𝓣 .C) (𝓣 .Λ) code.function) (f.spec 𝓤 H A at-mem run)
   meets =
-      lends-rows p 𝓤 H A W at-mem run 𝓣 o (number-list-lawful 𝓤 H A W #records·risk-records) again (λ κs. refl)
+      lends-rows p 𝓤 H A W at-mem run 𝓣 o (number-list-lawful 𝓤 H A W #records·order-risk-records) again (λ κs. refl)
       (λ κs qs a typed are. record {
         at-rows = refl;
         at-address = refl;
@@ -76,10 +76,10 @@ module _ {M : Type 1} (𝓤 : URA M) (H : Heap 𝓤) (A : Atoms 𝓤) (W : Given
       unsaid 𝓤 H A W {B = Lasts f.ended κs a} (λ ws. sem 𝓤 H A (lasts f.ended κs a ws))
       (λ ws. c.clauses 𝓤 H A at-mem run (κ′, κs .1) (a .0, (a .1 .0, (a .1 .1 .0, (a .1 .1 .1 .0, (rs, a .1 .1 .1 .1 .1))))) .ensures tt r (atExit c.ended (κ′, κs .1) (a .0, (a .1 .0, (a .1 .1 .0, (a .1 .1 .1 .0, (rs, a .1 .1 .1 .1 .1))))) ws)))
 
-pub risk-of-spec : {M : Type 1} → stated.statement M
+pub order-risk-of-spec : {M : Type 1} → stated.statement M
 unfolding code.routine tablesOf
-risk-of-spec 𝓤 H 𝓜 𝓖 𝓡 =
+order-risk-of-spec 𝓤 H 𝓜 𝓖 𝓡 =
     entered 𝓤 H (tripleOf 𝓤 H (𝓖 .A) f.signature (f.spec 𝓤 H (𝓖 .A) (𝓜 .mem) (𝓡 .run)))
-    (tables 𝓤 H 𝓜 𝓡 code.env .C) (tables 𝓤 H 𝓜 𝓡 code.env .Λ) #record-forms·risk-of code.function (code.unfolded 𝓤 H 𝓜 𝓡)
+    (tables 𝓤 H 𝓜 𝓡 code.env .C) (tables 𝓤 H 𝓜 𝓡 code.env .Λ) #record-forms·order-risk-of code.function (code.unfolded 𝓤 H 𝓜 𝓡)
     (meets 𝓤 H (𝓖 .A) (givenOf 𝓤 H 𝓜 𝓖) (𝓜 .mem) (𝓡 .run) (tablesOf 𝓤 H 𝓜 (tables 𝓤 H 𝓜 𝓡 code.env))
-    (cited 𝓤 H (tripleOf 𝓤 H (𝓖 .A) c.signature (c.spec 𝓤 H (𝓖 .A) (𝓜 .mem) (𝓡 .run))) 𝓜 𝓡 code.env #records·risk-records c-def.routine code.calls-records·risk-records (c-thm.met 𝓤 H 𝓜 𝓖 𝓡)))
+    (cited 𝓤 H (tripleOf 𝓤 H (𝓖 .A) c.signature (c.spec 𝓤 H (𝓖 .A) (𝓜 .mem) (𝓡 .run))) 𝓜 𝓡 code.env #records·order-risk-records c-def.routine code.calls-records·order-risk-records (c-thm.met 𝓤 H 𝓜 𝓖 𝓡)))

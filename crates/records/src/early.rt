@@ -1,17 +1,17 @@
-// Risk of an entry, over the columns of a list of records.
+// Order risk of an entry, over the columns of a list of records.
 ghost use mathlib.Core.Path.{_≡_};
 ghost use mathlib.Core.List.{List};
 ghost use Rattle.table.specs.Table.{lentWith};
-ghost use Rattle.at_risk.specs.Entry.{EntryRisk};
+ghost use Rattle.at_risk.specs.Entry.{EntryOrderRisk};
 ghost use Rattle.record_columns.specs.declared.Record.{Record};
 ghost use Rattle.record_columns.specs.Rows.{columnsOf, importerColumn, kindColumn, targetColumn};
-use at_risk::risk_with_records;
+use order_risk::order_risk_with_records;
 use record_columns::core::Columns;
 use table::ROW_LIMIT;
 use tables::Answer;
 
 // The records are refused if they are over their limit.
-pub fn risk_columns<'a>(
+pub fn order_risk_columns<'a>(
     runtime: u32,
     dynamic: u32,
     bounds: &'a [u32],
@@ -20,7 +20,7 @@ pub fn risk_columns<'a>(
     root: u32,
     marks: &mut [u32],
 ) -> Answer
-    ensures { λ r. ⌜ ((records : List Record) → made ≡ columnsOf records → EntryRisk (lentWith runtime dynamic (now (bounds .entry)) (now (columns .entry)) (importerColumn records) (kindColumn records) (targetColumn records)) root (now (marks .entry)) r (now (marks .exit))) ⌝ }
+    ensures { λ r. ⌜ ((records : List Record) → made ≡ columnsOf records → EntryOrderRisk (lentWith runtime dynamic (now (bounds .entry)) (now (columns .entry)) (importerColumn records) (kindColumn records) (targetColumn records)) root (now (marks .entry)) r (now (marks .exit))) ⌝ }
 {
     let rows = made.rows;
     if ROW_LIMIT < rows {
@@ -29,7 +29,7 @@ pub fn risk_columns<'a>(
     let importers = made.importers;
     let kinds = made.kinds;
     let targets = made.targets;
-    risk_with_records(
+    order_risk_with_records(
         runtime,
         dynamic,
         bounds,

@@ -1,0 +1,99 @@
+// The cycle risk of an entry.
+ghost use Rattle.table.specs.Table.{lent, lentWith};
+ghost use Rattle.at_risk.specs.Entry.{EntryCycleRisk};
+use analysed_entries::core::find_entry;
+use core::mark_cycle_risk;
+use refusal::refusal_number;
+use table::DEPENDENCY;
+use table::MEMBER;
+use table::NORMAL;
+use table::RECORD_KIND;
+use table::RECORD_MODULE;
+use table::RECORD_TARGET;
+use table::column;
+use table::rows;
+use tables::Answer;
+use tables::ModuleIdx;
+
+pub mod core;
+
+// The cycle risk of an analysed entry: 0 or 1 for each module, written to `marks` from place 0, of a table whose import records are lent beside it. The count
+// is that of the ones.
+pub fn cycle_risk_with_records<'a>(
+    runtime: u32,
+    dynamic: u32,
+    bounds: &'a [u32],
+    columns: &'a [u32],
+    importers: &'a [u32],
+    kinds: &'a [u32],
+    targets: &'a [u32],
+    root: u32,
+    marks: &mut [u32],
+) -> Answer
+    ensures { λ r. ⌜ EntryCycleRisk (lentWith runtime dynamic (now (bounds .entry)) (now (columns .entry)) (now (importers .entry)) (now (kinds .entry)) (now (targets .entry))) root (now (marks .entry)) r (now (marks .exit)) ⌝ }
+{
+    let refused = refusal_number(runtime, dynamic, bounds, columns, importers, kinds, targets);
+    if refused != 0 {
+        return Answer::Refused(refused);
+    }
+    let dependencies = column(bounds, columns, DEPENDENCY);
+    let members = column(bounds, columns, MEMBER);
+    let chunk = find_entry(
+        runtime,
+        dynamic,
+        bounds,
+        columns,
+        importers,
+        kinds,
+        targets,
+        dependencies,
+        members,
+        root,
+    );
+    if chunk == ModuleIdx::MISSING {
+        return Answer::Refused(5);
+    }
+    let modules = rows(bounds, columns, NORMAL);
+    if marks.len() < modules {
+        return Answer::Refused(6);
+    }
+    let count = mark_cycle_risk(
+        runtime,
+        dynamic,
+        bounds,
+        columns,
+        importers,
+        kinds,
+        targets,
+        dependencies,
+        members,
+        &mut marks[..modules],
+        root,
+        chunk,
+    );
+    Answer::Counted(count)
+}
+
+// The cycle risk of an analysed entry: 0 or 1 for each module, written to `marks` from place 0. The count is that of the ones.
+pub fn cycle_risk<'a>(
+    runtime: u32,
+    dynamic: u32,
+    bounds: &'a [u32],
+    columns: &'a [u32],
+    root: u32,
+    marks: &mut [u32],
+) -> Answer
+    ensures { λ r. ⌜ EntryCycleRisk (lent runtime dynamic (now (bounds .entry)) (now (columns .entry))) root (now (marks .entry)) r (now (marks .exit)) ⌝ }
+{
+    cycle_risk_with_records(
+        runtime,
+        dynamic,
+        bounds,
+        columns,
+        column(bounds, columns, RECORD_MODULE),
+        column(bounds, columns, RECORD_KIND),
+        column(bounds, columns, RECORD_TARGET),
+        root,
+        marks,
+    )
+}
