@@ -36,7 +36,7 @@
  *   3  records, statements, members or imports not sorted by their first column
  *   4  an external with a record or a statement; a use of another module's record; a depended row for form 0 or 1; form 0 or 1 without a symbol;
  *      an entry or an import pair twice
- *   5  a root, chunk or seed without a row, a root for risk or actual order that isn't an analysed entry (included, with a chunk), or over
+ *   5  a root, entry, chunk or seed without a row, a root for risk or actual order that isn't an analysed entry (included, with a chunk), or over
  *      16,384 seeds
  *   6  an output that is too short: every output needs a place for each module, labels one for each chunk
  */
@@ -63,6 +63,10 @@ uint64_t jolmuqter_sort_modules(JOLMUQTER_TABLE, uint32_t *numbers, size_t numbe
 
 /* order: the expected order of any module row. Count: that of listed modules. */
 uint64_t jolmuqter_expected_order(JOLMUQTER_TABLE, uint32_t root, uint32_t *order, size_t order_len);
+
+/* order: the expected order of any module rows, walked one after the other: a module that an earlier one listed isn't listed again, and rows that are external
+ * or aren't included are passed over. Any number of entries, repeats too; the table's entry rows aren't used. Count: that of listed modules. */
+uint64_t jolmuqter_entries_order(JOLMUQTER_TABLE, const uint32_t *entries, size_t entries_len, uint32_t *order, size_t order_len);
 
 /* order: the actual order of an analysed entry. hosts: a place a module, the mark where none is noted. Count: that of listed modules. */
 uint64_t jolmuqter_actual_order(JOLMUQTER_TABLE, uint32_t root, uint32_t *order, size_t order_len, uint32_t *hosts, size_t hosts_len);

@@ -104,6 +104,17 @@ static void answers(void) {
   EXPECT(jolmuqter_expected_order(TABLE(t), 1, a, 3), REFUSED(6));
   HOLD(a, 2, 3, 1, 0, 0);
 
+  EXPECT(jolmuqter_entries_order(TABLE(t), LIST(3, 1, 3, 0), 4, a, 5), 4);
+  HOLD(a, 3, 2, 1, 0, 0);
+  EXPECT(jolmuqter_entries_order(TABLE(t), LIST(1), 1, a, 4), 3);
+  HOLD(a, 2, 3, 1, 0, 0);
+  EXPECT(jolmuqter_entries_order(TABLE(external), LIST(3, 2), 2, a, 4), 1);
+  HOLD(a, 2, 3, 1, 0, 0);
+  EXPECT(jolmuqter_entries_order(TABLE(t), LIST(9), 0, a, 4), 0);
+  EXPECT(jolmuqter_entries_order(TABLE(t), LIST(1, 4), 2, a, 4), REFUSED(5));
+  EXPECT(jolmuqter_entries_order(TABLE(t), LIST(1), 1, a, 3), REFUSED(6));
+  HOLD(a, 2, 3, 1, 0, 0);
+
   EXPECT(jolmuqter_actual_order(TABLE(t), 0, a, 4, b, 4), REFUSED(5));
   EXPECT(jolmuqter_actual_order(TABLE(t), 1, a, 4, b, 3), REFUSED(6));
   HOLD(a, 2, 3, 1, 0), HOLD(b, 0, 2, 3, 1);
@@ -182,6 +193,7 @@ static Table deep;
 
 static void sort_modules(void) { EXPECT(jolmuqter_sort_modules(TABLE(deep), first, MODULES, second, MODULES), MODULES); }
 static void expected_order(void) { EXPECT(jolmuqter_expected_order(TABLE(deep), 0, first, MODULES), MODULES); }
+static void entries_order(void) { EXPECT(jolmuqter_entries_order(TABLE(deep), LIST(MODULES - 1, 0), 2, first, MODULES), MODULES); }
 static void actual_order(void) { EXPECT(jolmuqter_actual_order(TABLE(deep), 0, first, MODULES, second, MODULES), MODULES); }
 static void labels(void) { EXPECT(jolmuqter_labels(TABLE(deep), first, CHUNKS), 0); }
 static void chunk_reach(void) { EXPECT(jolmuqter_chunk_reach(TABLE(deep), 0), 0); }
@@ -208,8 +220,8 @@ static size_t stack_of(void (*call)(void)) {
 
 int main(void) {
   answers();
-  void (*calls[])(void) = {sort_modules, expected_order, actual_order, labels, chunk_reach, order_risk, cycle_risk, plan_from_seeds, plan};
-  const char *names[] = {"sort_modules", "expected_order", "actual_order", "labels", "chunk_reach", "order_risk", "cycle_risk", "plan_from_seeds", "plan"};
+  void (*calls[])(void) = {sort_modules, expected_order, entries_order, actual_order, labels, chunk_reach, order_risk, cycle_risk, plan_from_seeds, plan};
+  const char *names[] = {"sort_modules", "expected_order", "entries_order", "actual_order", "labels", "chunk_reach", "order_risk", "cycle_risk", "plan_from_seeds", "plan"};
   for (uint32_t wrap = 0; wrap < 3; wrap += 2) {
     deep = chains(wrap);
     for (size_t i = 0; i < LENGTH(calls); i++) {

@@ -1,4 +1,4 @@
-//! `bench [--whole] [--growth] [--single] [--tests] [WORD..]`: times the original's functions and the library's on every shape whose name has a WORD. See ../README.md.
+//! `bench [--whole] [--growth] [--single] [--forty] [--tests] [WORD..]`: times the original's functions and the library's on every shape whose name has a WORD. See ../README.md.
 mod clock;
 mod shapes;
 mod works;
@@ -44,6 +44,16 @@ fn single(shapes: &[Shape]) {
   println!();
 }
 
+fn forty(shapes: &[Shape]) {
+  clock::head("shape | expected orders");
+  for shape in shapes {
+    for (calls, pair) in Ready::of(&shape.project()).forty() {
+      println!("| {} | {calls} | {pair} |", shape.name);
+    }
+  }
+  println!();
+}
+
 fn tests(shapes: &[Shape]) {
   println!("| shape | rows | ours, us | ours, median |\n|---|---|---|---|");
   for shape in shapes {
@@ -75,6 +85,10 @@ fn run(words: Vec<String>) {
   if flag("--single") {
     println!("Single operations\n");
     single(&shapes);
+  }
+  if flag("--forty") {
+    println!("Forty entries: one call, and forty\n");
+    forty(&shapes);
   }
   if flag("--tests") {
     println!("The tests 1 to 4 alone\n");

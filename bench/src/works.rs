@@ -50,6 +50,23 @@ impl<'p> Ready<'p> {
     alone(|| self.ours(&Call::Refusal))
   }
 
+  /// Forty entries walked together, and forty single calls: the modules after the first. The two lists of the first are compared.
+  pub fn forty(&self) -> [(&'static str, Pair); 2] {
+    let roots: Vec<u32> = (1..=40).collect();
+    let rows = carriers::module_rows(&roots);
+    let together = Call::Entries(roots.clone());
+    let mut order = outputs(self.p);
+    let count = compare::library::call(&self.lent, &together, &mut order[..1]).expect("accepted");
+    assert_eq!(self.original.entries_together(&roots), order[0][..count]);
+    let original = &self.original;
+    let theirs = || roots.iter().map(|&root| timed(|| original.bare_expected(root))).sum();
+    let ours = || roots.iter().map(|&root| self.ours(&Call::Expected(root))).sum();
+    [
+      ("forty entries together", in_turns(|| timed(|| original.bare_together(&rows)), || self.ours(&together))),
+      ("forty single calls", in_turns(theirs, ours)),
+    ]
+  }
+
   /// Each operation by itself, with the first entry and its chunk.
   pub fn single(&self) -> Vec<(&'static str, Pair)> {
     let (root, chunk) = (self.p[ENTRY][0], self.p[ENTRY_CHUNK][0]);

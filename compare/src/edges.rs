@@ -39,7 +39,7 @@ fn case(name: String, p: &Project, calls: Vec<Asked>) -> Case {
 
 /// All of them.
 pub fn all() -> Vec<Case> {
-  [tests(), orders(), chunks(), actual_orders(), risks()].into_iter().flatten().collect()
+  [tests(), orders(), together(), chunks(), actual_orders(), risks()].into_iter().flatten().collect()
 }
 
 // The tests 1 to 4.
@@ -208,6 +208,39 @@ fn orders() -> Vec<Case> {
     case("orders: a chain of 4096 modules".into(), &chain, both_orders(0, 4_096)),
     case("orders: 4096 modules with 16384 records".into(), &next, both_orders(0, 4_096)),
     case("orders: 256 modules with 1024 records".into(), &scattered, both_orders(0, 256)),
+  ]
+}
+
+// Many entries walked together.
+
+/// The listing; what the first entry's part takes from the next; what is passed over; entries in a ring; the longest chain from its end and from its start.
+fn together() -> Vec<Case> {
+  let ask = |entries: &[u32], places: usize| (Call::Entries(entries.to_vec()), vec![places]);
+  let shared = modules(6, [[1, 3], [1, 4], [2, 4], [2, 5]].into_iter());
+  let with = |column: usize, module: usize| {
+    let mut p = shared.clone();
+    p[column][module] = 0;
+    p
+  };
+  let ring = modules(4, [[1, 2], [2, 3], [3, 1]].into_iter());
+  let chain = modules(4_096, (0..4_095).map(|module| [module, module + 1]));
+  let falling: Vec<u32> = (0..4_096).rev().collect();
+  vec![
+    case(
+      "entries: the listing".into(),
+      &listing(),
+      vec![ask(&[], 4), ask(&[1], 4), ask(&[3, 1, 3, 0], 4), ask(&[1, 2, 3], 4), ask(&[1, 4], 4), ask(&[4, 1], 4), ask(&[1], 3), ask(&[], 3)],
+    ),
+    case("entries: 1 and 2 share 4".into(), &shared, vec![ask(&[1, 2], 6), ask(&[2, 1], 6), ask(&[4, 1, 2], 6)]),
+    case(
+      "entries: entry 1 isn't included; what it shares stands in the part of 2".into(),
+      &with(INCLUDED, 1),
+      vec![ask(&[1, 2], 6), ask(&[1], 6), ask(&[1, 6], 6), ask(&[3, 1], 6)],
+    ),
+    case("entries: 4 isn't included, and is walked through".into(), &with(INCLUDED, 4), vec![ask(&[4, 1, 2], 6)]),
+    case("entries: 5 is external".into(), &with(NORMAL, 5), vec![ask(&[5], 6), ask(&[5, 2], 6)]),
+    case("entries: a ring".into(), &ring, vec![ask(&[2, 1, 3], 4), ask(&[3, 2, 1, 0], 4)]),
+    case("entries: a chain of 4096 modules".into(), &chain, vec![ask(&falling, 4_096), ask(&[0, 4_095, 1], 4_096)]),
   ]
 }
 

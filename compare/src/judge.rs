@@ -82,6 +82,13 @@ fn roots(n: usize) -> Vec<u32> {
   if n <= 16 { (0..n as u32).collect() } else { (0..16).map(|_| r.row(n)).collect() }
 }
 
+/// The lists of entries that are walked together: the project's own, and modules rising and falling.
+pub fn entry_lists(p: &Project) -> [Vec<u32>; 3] {
+  let rising = roots(p.modules());
+  let falling = rising.iter().rev().copied().collect();
+  [p[ENTRY].clone(), rising, falling]
+}
+
 impl Judge {
   /// The first difference that a project shows.
   pub fn differs(&mut self, p: &Project) -> Difference {
@@ -202,7 +209,7 @@ pub fn risks(root: u32) -> [Call; 3] {
 }
 
 /// A call of each operation.
-pub fn one_call_each() -> [Call; 11] {
+pub fn one_call_each() -> [Call; 12] {
   [
     Call::Sort,
     Call::Expected(1),
@@ -215,6 +222,7 @@ pub fn one_call_each() -> [Call; 11] {
     Call::Refusal,
     Call::OrderRisk(1),
     Call::CycleRisk(1),
+    Call::Entries(vec![1]),
   ]
 }
 
@@ -240,6 +248,12 @@ fn against_original(
   for root in roots(p.modules()) {
     check(&|| format!("expected {root}"), model.expected(root), original.expected(root));
   }
+  for list in entry_lists(p) {
+    check(&|| format!("expected {list:?}"), model.entries(&list), original.entries_together(&list));
+  }
+  let listed = set_of(p.modules(), &model.entries(&p[ENTRY]));
+  let wrapped = model.eligible().into_iter().filter(|&m| listed[m as usize]).collect();
+  check(&|| "wrap-all set".into(), wrapped, original.wrap_all());
   check(&|| "labels".into(), model.labels(), original.labels());
   let reaches = (0..p.chunks() as u32).map(|chunk| u32::from(model.reaches(chunk))).collect();
   let theirs = original.reaches().into_iter().map(u32::from).collect();
@@ -289,10 +303,15 @@ fn calls(p: &Project, model: Option<&Model>) -> Vec<Call> {
     }
     calls.extend([Call::Reach(0), Call::Reach(c)]);
     calls.extend([Call::PlanFrom(vec![]), Call::PlanFrom(vec![0]), Call::PlanFrom(vec![n])]);
+    calls.extend([Call::Entries(vec![]), Call::Entries(vec![0]), Call::Entries(vec![n])]);
     return calls;
   }
   for root in roots(p.modules()).into_iter().chain([n, MARK]) {
     calls.push(Call::Expected(root));
+  }
+  calls.extend(entry_lists(p).into_iter().chain(sets(p.modules())).map(Call::Entries));
+  for past in [n, MARK] {
+    calls.extend([Call::Entries(vec![0, past]), Call::Entries(vec![past, n - 1])]);
   }
   let mut entries: Vec<u32> = p[ENTRY].iter().copied().take(16).collect();
   entries.extend([0, n - 1, n, MARK]);
@@ -311,6 +330,7 @@ fn calls(p: &Project, model: Option<&Model>) -> Vec<Call> {
     calls.push(Call::PlanFrom(vec![0; 16_384]));
     calls.push(Call::PlanFrom(vec![0; 16_385]));
     calls.push(Call::PlanFrom(vec![n; 16_385]));
+    calls.push(Call::Entries(vec![0; 16_385]));
   }
   calls
 }

@@ -1,4 +1,4 @@
-//! Document 01's operations, with ties as C-13 has them and the risk in two kinds as C-17 has it, written from their words and not from the Rust. Plain and slow on purpose.
+//! Document 01's operations, with ties as C-13 has them and the risk in two kinds as C-17 has it, and C-12's, written from their words and not from the Rust. Plain and slow on purpose.
 //! A project that it is made of passes tests 1 to 4.
 use project::{MARK, Project, column::*};
 
@@ -20,6 +20,8 @@ pub enum Call {
   Refusal,
   OrderRisk(u32),
   CycleRisk(u32),
+  /// The expected order of some modules walked together.
+  Entries(Vec<u32>),
 }
 
 /// What an accepted call gives: its count, and each output from place 0.
@@ -236,6 +238,20 @@ impl<'a> Model<'a> {
     let mut walk = self.walk(&next);
     walk.from(root);
     walk.left.into_iter().filter(|&m| self.included(m) || self.is(Wrong::ExcludedListed)).collect()
+  }
+
+  /// "The list is the entries' parts in turn: each listed module stands once, in the part of the first included entry that reaches it."
+  pub fn entries(&self, entries: &[u32]) -> Vec<u32> {
+    let mut list: Vec<u32> = Vec::new();
+    for &entry in entries {
+      if !self.included(entry) && !self.is(Wrong::ExcludedEntryWalked) {
+        continue;
+      }
+      let stands = |m: &u32| list.contains(m) && !self.is(Wrong::MarksCleared);
+      let part: Vec<u32> = self.expected(entry).into_iter().filter(|m| !stands(m)).collect();
+      list.extend(part);
+    }
+    list
   }
 
   // ------------------------------------------------------------ actual order and hosts
@@ -735,6 +751,7 @@ impl<'a> Model<'a> {
       Call::PlanFrom(seeds) => marks(self.plan_from(seeds)),
       Call::Whole => marks(self.plan()),
       Call::Refusal => Given { count: 0, outputs: Vec::new() },
+      Call::Entries(entries) => list(self.entries(entries)),
     }
   }
 }

@@ -143,6 +143,7 @@ fn fitting(p: &Project, call: &Call) -> bool {
       module(*root) && analysed(p, *root)
     }
     Call::Reach(chunk) => (*chunk as usize) < p.chunks(),
+    Call::Entries(entries) => entries.iter().all(|&entry| module(entry)),
     Call::PlanFrom(seeds) => seeds.len() <= 16_384 && seeds.iter().all(|&seed| module(seed)),
   }
 }

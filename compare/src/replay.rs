@@ -2,7 +2,7 @@
 //!
 //! First how many cases. A case is a line with `#` and its name; then how many bounds and these; how many values the columns have and these; `runtime
 //! dynamic`, what every output holds before a call, and how many calls. A call is its operation (its place in the list of `Call`'s kinds), its argument, 0
-//! and the count or 1 and the refusal's number, and how many places each of two outputs has; how many seeds and these; and for each output how many
+//! and the count or 1 and the refusal's number, and how many places each of two outputs has; how many seeds or entries and these; and for each output how many
 //! places are written and these.
 //! `-` is the missing mark. In a list, `5*0` stands for five zeros, `3*8+2` for 8 10 12, `3*8~2` for 8 6 4, `6*8+1/2` for 8 8 9 9 10 10; and `5.` for the
 //! five values that stand there in the case before.
@@ -11,7 +11,7 @@ use project::{COLUMNS, LISTS, MARK, Project, column::*};
 
 use crate::{
   edges,
-  judge::{Judge, one_call_each, outputs, risks},
+  judge::{Judge, entry_lists, one_call_each, outputs, risks},
   lent::Lent,
   model::{Call, Given, Model, members, set_of},
   refusal::{self, Values, limit, values},
@@ -50,6 +50,7 @@ pub fn told(p: &Project, wrong: Wrong) -> bool {
     || reaches != original.reaches()
     || original.entries().iter().any(entry_told)
     || members(&turned.plan()) != original.plan()
+    || entry_lists(p).iter().any(|list| turned.entries(list) != original.entries_together(list))
     || (0..p.modules() as u32).any(|m| {
       turned.expected(m) != original.expected(m)
         || members(&turned.plan_from(&[m])) != original.plan_from(&[m])
@@ -96,6 +97,7 @@ fn every_call(p: &Project) -> Vec<Asked> {
     calls.extend(risks(root));
   }
   calls.extend((0..p.chunks() as u32).map(Call::Reach));
+  calls.extend(entry_lists(p).map(Call::Entries));
   calls.into_iter().map(|call| roomy(p, call)).collect()
 }
 
@@ -284,6 +286,10 @@ fn arguments() -> Case {
     Call::PlanFrom(vec![1; 16_385]),
     Call::PlanFrom(vec![n; 16_385]),
     Call::PlanFrom(vec![1, 1, 0]),
+    Call::Entries(vec![]),
+    Call::Entries(vec![0, n]),
+    Call::Entries(vec![MARK, 1]),
+    Call::Entries(vec![1; 16_385]),
   ] {
     calls.push(roomy(&project, call));
   }
@@ -385,11 +391,12 @@ fn put_call(out: &mut String, asked: &Asked, number: u32, given: Option<Given>) 
     Call::Refusal => (8, 0),
     Call::OrderRisk(root) => (9, *root),
     Call::CycleRisk(root) => (10, *root),
+    Call::Entries(_) => (11, 0),
   };
   let refused = u32::from(number != 0);
   put(out, [operation, argument, refused, given.as_ref().map_or(number, |given| given.count as u32)]);
   put(out, (0..2).map(|at| rooms.get(at).copied().unwrap_or(0) as u32));
-  let seeds: &[u32] = if let Call::PlanFrom(seeds) = call { seeds } else { &[] };
+  let seeds: &[u32] = if let Call::PlanFrom(list) | Call::Entries(list) = call { list } else { &[] };
   put(out, [seeds.len() as u32]);
   put_list(out, seeds, &[]);
   for at in 0..2 {
@@ -431,6 +438,7 @@ fn of_the_original(p: &Project, original: &Original, call: &Call) -> Option<Give
     Call::Refusal => return None,
     Call::OrderRisk(root) => marks(entry(*root).early),
     Call::CycleRisk(root) => marks(entry(*root).cycle),
+    Call::Entries(entries) => list(original.entries_together(entries)),
   })
 }
 

@@ -34,6 +34,9 @@ wrong! {
   // expected order
   ExternalRootListed "an external root is walked",
   ExcludedListed "modules that aren't included are listed",
+  // many entries walked together
+  MarksCleared "the marks are cleared between entries",
+  ExcludedEntryWalked "an entry that isn't included is walked",
   // actual order
   ChunksByRow "imported chunks by row",
   ChunksAsWritten "imported chunks as they are written, whatever their order",

@@ -4,18 +4,21 @@ use mathlib.Core.Path.{_≡_, refl, sym, ap, _∙_}
 use mathlib.Core.Logic.{⊎-elim}
 use mathlib.Core.Bool.{Bool, true, false, cond, not, _&&_}
 use mathlib.Core.List.{List, [], _∷_, _++_, append-nil, List·Memᴰ}
-use Prim.Native.Nat.{ℕ, _<_}
+use Prim.Native.Nat.{ℕ, _<_, _≤_}
+use native.Mathlib.Omega.{arith}
+use lib.ListN.{length}
 use Rattle.lists.specs.Words.{keep, elem, Distinct}
-use Rattle.lists.proofs.Laws.{both, keep-append, keep-all, keep-keep, keep-cong, mem-keep, keep-mem, elem-mem, mem-elem, iff-eq, and-out, distinct-keep}
+use Rattle.lists.proofs.Laws.{both, keep-append, keep-all, keep-keep, keep-cong, mem-keep, keep-mem, elem-mem, mem-elem, iff-eq, and-out, distinct-keep, length-keep}
 use Rattle.walk.specs.Walk.{everywhere, walk, postOrder}
-use Rattle.walk.proofs.Orders.{order-distinct}
+use Rattle.walk.proofs.Orders.{order-distinct, order-length}
 use Rattle.walk.proofs.Pruned.{order-pruned}
 use Rattle.tables.specs.Project.{Project}
 use Rattle.tables.specs.Readings.{modules, isNormal, flagged}
 use Rattle.expected_order.specs.Expected.{importsOf, expected}
 use Rattle.expected_order.specs.OfProject.{expectedOf}
 use Rattle.expected_order.proofs.Laws.{imports-in}
-use Rattle.entries_order.specs.OfEntries.{walked, expectedOfEntries}
+use Rattle.entries_order.specs.Entries.{isWalked, entriesOrder}
+use Rattle.entries_order.specs.OfEntries.{expectedOfEntries}
 
 module _ (p : Project) where
   abbrev succ : ℕ → List ℕ
@@ -23,6 +26,9 @@ module _ (p : Project) where
 
   abbrev listed : ℕ → Bool
   listed = flagged (p .included)
+
+  abbrev walked : List ℕ → List ℕ
+  walked entries = keep (isWalked (p .normal) (p .included)) entries
 
   abbrev order : List ℕ → List ℕ
   order roots = postOrder succ everywhere (modules p) roots
@@ -53,22 +59,22 @@ module _ (p : Project) where
   module _ (entries : List ℕ) (e : ℕ) where
     -- one that is passed over adds nothing
     pub passed-over : (listed e && isNormal (p .normal) e) ≡ false → expectedOfEntries p (entries ++ (e ∷ [])) ≡ expectedOfEntries p entries
-    unfolding expectedOfEntries
+    unfolding expectedOfEntries entriesOrder
     passed-over q =
         ap (λ (roots : List ℕ). keep listed (order roots))
-        (keep-append (λ (x : ℕ). listed x && isNormal (p .normal) x) entries (e ∷ [])
-        ∙ ap (λ (b : Bool). walked p entries ++ cond b (e ∷ []) []) q
-        ∙ append-nil (walked p entries))
+        (keep-append (isWalked (p .normal) (p .included)) entries (e ∷ [])
+        ∙ ap (λ (b : Bool). walked entries ++ cond b (e ∷ []) []) q
+        ∙ append-nil (walked entries))
 
     normal-more : listed e ≡ true → isNormal (p .normal) e ≡ true
         → expectedOfEntries p (entries ++ (e ∷ [])) ≡ expectedOfEntries p entries ++ keep (λ (m : ℕ). not (elem m (expectedOfEntries p entries))) (keep listed (order (e ∷ [])))
-    unfolding expectedOfEntries
+    unfolding expectedOfEntries entriesOrder
     normal-more i g =
-        let old : List ℕ = order (walked p entries) in
-        let one : walked p (entries ++ (e ∷ [])) ≡ walked p entries ++ (e ∷ []) =
-        keep-append (λ (x : ℕ). listed x && isNormal (p .normal) x) entries (e ∷ []) ∙ rw (i, g) in
+        let old : List ℕ = order (walked entries) in
+        let one : walked (entries ++ (e ∷ [])) ≡ walked entries ++ (e ∷ []) =
+        keep-append (isWalked (p .normal) (p .included)) entries (e ∷ []) ∙ rw (i, g) in
         ap (λ (roots : List ℕ). keep listed (order roots)) one
-        ∙ ap (keep listed) (order-pruned succ (modules p) (λ m y. imports-in (p .normal) (p .recordModule) (p .recordKind) (p .recordTarget) m y) (walked p entries) e)
+        ∙ ap (keep listed) (order-pruned succ (modules p) (λ m y. imports-in (p .normal) (p .recordModule) (p .recordKind) (p .recordTarget) m y) (walked entries) e)
         ∙ keep-append listed old (keep (λ (x : ℕ). not (elem x old)) (order (e ∷ [])))
         ∙ ap (λ (l : List ℕ). keep listed old ++ l) (strike old (order (e ∷ [])))
 
@@ -84,10 +90,17 @@ module _ (p : Project) where
 
   -- "For a list of one included entry the result equals the old one."
   pub one-entry : (e : ℕ) → listed e ≡ true → expectedOfEntries p (e ∷ []) ≡ expectedOf p e
-  unfolding expectedOfEntries postOrder walk
+  unfolding expectedOfEntries entriesOrder postOrder walk
   one-entry e i = one-more [] e i ∙ keep-all (λ (m : ℕ). not (elem m [])) (expectedOf p e) (λ m h. refl)
 
   -- no module stands twice
   pub listed-once : (entries : List ℕ) → Distinct (expectedOfEntries p entries)
-  unfolding expectedOfEntries
-  listed-once entries = distinct-keep listed (order (walked p entries)) (order-distinct succ everywhere (modules p) (walked p entries))
+  unfolding expectedOfEntries entriesOrder
+  listed-once entries = distinct-keep listed (order (walked entries)) (order-distinct succ everywhere (modules p) (walked entries))
+
+  -- no more are listed than there are modules
+  pub entries-length : (entries : List ℕ) → length (expectedOfEntries p entries) ≤ modules p
+  unfolding expectedOfEntries entriesOrder
+  entries-length entries =
+      let all : List ℕ = order (walked entries) in
+      omega (arith, length-keep listed all, order-length succ everywhere (modules p) (walked entries))

@@ -1,20 +1,9 @@
--- The expected order of a list of entries, walked one after the other with the marks kept between them.
+-- The expected order of a list of entries of a project, walked one after the other with the marks kept between them.
 -- Assumes nothing.
-use mathlib.Core.Bool.{_&&_}
 use mathlib.Core.List.{List}
 use Prim.Native.Nat.{ℕ}
-use Rattle.lists.specs.Words.{keep}
-use Rattle.walk.specs.Walk.{everywhere, postOrder}
 use Rattle.tables.specs.Project.{Project}
-use Rattle.tables.specs.Readings.{modules, isNormal, flagged}
-use Rattle.expected_order.specs.Expected.{importsOf}
+use Rattle.entries_order.specs.Entries.{entriesOrder}
 
--- "Entries that aren't included are passed over", and so are external ones
-abbrev pub walked : Project → List ℕ → List ℕ
-walked p entries = keep (λ (e : ℕ). flagged (p .included) e && isNormal (p .normal) e) entries
-
--- "The list is the entries' parts in turn": one walk over all of them; modules not included are walked through and not listed
 unfoldable pub expectedOfEntries : Project → List ℕ → List ℕ
-expectedOfEntries p entries =
-    keep (flagged (p .included))
-    (postOrder (importsOf (p .normal) (p .recordModule) (p .recordKind) (p .recordTarget)) everywhere (modules p) (walked p entries))
+expectedOfEntries p entries = entriesOrder (p .normal) (p .included) (p .recordModule) (p .recordKind) (p .recordTarget) entries

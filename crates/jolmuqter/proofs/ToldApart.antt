@@ -14,7 +14,7 @@ use Rattle.walk.specs.Walk.{everywhere}
 use Rattle.walk.proofs.Orders.{order-length}
 use Rattle.tables.specs.Project.{Project}
 use Rattle.tables.specs.Readings.{modules, chunks, isNormal, isAnalysed}
-use Rattle.tables.specs.Refusal.{moduleLimit, sizesFit, valuesFit, rowsRise, rowsAgree, refusal}
+use Rattle.tables.specs.Refusal.{moduleLimit, below, sizesFit, valuesFit, rowsRise, rowsAgree, refusal}
 use Rattle.tables.specs.Answers.{numberOf, verdict}
 use Rattle.tables.specs.Accepted.{Accepted}
 use Rattle.tables.specs.declared.Answer.{Answer}
@@ -24,6 +24,8 @@ use Rattle.sort_modules.specs.Sort.{staticsOf, visited, sorted}
 use Rattle.sort_modules.specs.OfProject.{sortedOf}
 use Rattle.expected_order.specs.OfProject.{expectedOf}
 use Rattle.expected_order.proofs.Laws.{expected-length}
+use Rattle.entries_order.specs.OfEntries.{expectedOfEntries}
+use Rattle.entries_order.proofs.Parts.{entries-length}
 use Rattle.actual_order.specs.Actual.{actualOf}
 use Rattle.actual_order.proofs.OfProject.{actual-length}
 use Rattle.strong_connection.specs.Cycles.{cyclic}
@@ -35,7 +37,7 @@ use Rattle.wrap_plan.specs.Planned.{planOf}
 use Rattle.wrap_plan.proofs.Promise.{length-plan}
 use Rattle.order_analysis.specs.Whole.{wholePlan}
 use Rattle.order_analysis.proofs.Promise.{length-whole}
-use Rattle.jolmuqter.specs.Calls.{Call, Sort, Expected, Actual, Labels, Reach, OrderRisk, CycleRisk, Plan, Whole, Refusal, Promise}
+use Rattle.jolmuqter.specs.Calls.{Call, Sort, Expected, Entries, Actual, Labels, Reach, OrderRisk, CycleRisk, Plan, Whole, Refusal, Promise}
 use Rattle.jolmuqter.specs.Exported.{coded}
 use Rattle.jolmuqter.specs.ToldApart.{AcceptedWith, RefusedWith, AnswersAreToldApart, BelowExactlyIfAccepted}
 
@@ -110,6 +112,7 @@ module _ (runtime dynamic : ℕ) (bounds columns : List ℕ) where
     by-promise : (call : Call) → Promise call (lent runtime dynamic bounds columns) first second a first′ second′ → AcceptedWith a r ⊎ RefusedWith a r
     by-promise Sort h = by-number true (leb (modules p) (length first) && leb (modules p) (length second)) (length (sortedOf p)) (λ ok. omega (arith, sorted-few p, ok .sizes .normal)) (h .answered)
     by-promise (Expected root) h = by-number (ltb root (modules p)) (leb (modules p) (length first)) (length (expectedOf p root)) (λ ok. omega (arith, expected-few p root, ok .sizes .normal)) (h .answered)
+    by-promise (Entries entries) h = by-number (below (modules p) entries) (leb (modules p) (length first)) (length (expectedOfEntries p entries)) (λ ok. omega (arith, entries-length p entries, ok .sizes .normal)) (h .answered)
     by-promise (Actual root) h = by-number (isAnalysed p root) (leb (modules p) (length first) && leb (modules p) (length second)) (length (actualOf p root)) (λ ok. omega (arith, actual-length p root, ok .sizes .normal)) (h .answered)
     by-promise Labels h = by-number true (leb (chunks p) (length first)) (length (cyclicOf p)) (λ ok. omega (arith, cyclic-few p, ok .sizes .order)) (h .answered)
     by-promise (Reach c) h = by-number (ltb c (chunks p)) true (bit (reachesCycleOf p c)) (λ ok. omega (arith, bit-few (reachesCycleOf p c))) (h .answered)

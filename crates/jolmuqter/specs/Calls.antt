@@ -7,6 +7,7 @@ use Rattle.tables.specs.declared.Answer.{Answer}
 use Rattle.table.specs.Table.{Lent, answer}
 use Rattle.sort_modules.specs.Promise.{SortModules}
 use Rattle.expected_order.specs.Promise.{ExpectedOrder}
+use Rattle.entries_order.specs.Promise.{EntriesOrder}
 use Rattle.actual_order.specs.Promise.{ActualOrder}
 use Rattle.chunk_cycles.specs.Promise.{LabelsPromise, ReachPromise}
 use Rattle.at_risk.specs.Entry.{EntryOrderRisk, EntryCycleRisk}
@@ -17,6 +18,7 @@ use Rattle.order_analysis.specs.Whole.{WholeAnalysis}
 pub data Call : Type 0 where
   Sort : Call
   Expected : ℕ → Call
+  Entries : List ℕ → Call
   Actual : ℕ → Call
   Labels : Call
   Reach : ℕ → Call
@@ -30,6 +32,7 @@ pub data Call : Type 0 where
 abbrev pub Promise : Call → Lent → List ℕ → List ℕ → Answer → List ℕ → List ℕ → Type 0
 Promise Sort t first second r first′ second′ = SortModules t first second r first′ second′
 Promise (Expected root) t first second r first′ second′ = ExpectedOrder t root first r first′
+Promise (Entries entries) t first second r first′ second′ = EntriesOrder t entries first r first′
 Promise (Actual root) t first second r first′ second′ = ActualOrder t root first second r first′ second′
 Promise Labels t first second r first′ second′ = LabelsPromise t first r first′
 Promise (Reach chunk) t first second r first′ second′ = ReachPromise t chunk r

@@ -2,7 +2,7 @@
 ghost use mathlib.Core.Path.{_≡_};
 ghost use mathlib.Core.List.{[]};
 ghost use Rattle.table.specs.Table.{lent, answer};
-ghost use Rattle.jolmuqter.specs.Calls.{Sort, Expected, Actual, Labels, Reach, OrderRisk, CycleRisk, Plan, Whole, Refusal};
+ghost use Rattle.jolmuqter.specs.Calls.{Sort, Expected, Entries, Actual, Labels, Reach, OrderRisk, CycleRisk, Plan, Whole, Refusal};
 ghost use Rattle.jolmuqter.specs.Exported.{coded, Exported};
 use refusal::refusal_number;
 use table::RECORD_KIND;
@@ -49,6 +49,21 @@ pub extern "C" fn jolmuqter_expected_order<'a>(
     ensures { λ r. ⌜ Exported (Expected root) (lent runtime dynamic (now (bounds .entry)) (now (columns .entry))) (now (order .entry)) [] r (now (order .exit)) [] ⌝ }
 {
     code(expected_order::expected_order(runtime, dynamic, bounds, columns, root, order))
+}
+
+// The expected order of any module rows, walked together.
+#[no_mangle]
+pub extern "C" fn jolmuqter_entries_order<'a>(
+    runtime: u32,
+    dynamic: u32,
+    bounds: &'a [u32],
+    columns: &'a [u32],
+    entries: &[u32],
+    order: &mut [u32],
+) -> u64
+    ensures { λ r. ⌜ Exported (Entries (now (entries .entry))) (lent runtime dynamic (now (bounds .entry)) (now (columns .entry))) (now (order .entry)) [] r (now (order .exit)) [] ⌝ }
+{
+    code(entries_order::entries_order(runtime, dynamic, bounds, columns, entries, order))
 }
 
 // The actual order of an analysed entry, and the hosts.

@@ -14,6 +14,8 @@ use Rattle.sort_modules.specs.OfProject.{numbersOf, sortedOf}
 use Rattle.sort_modules.specs.Promise.{sortVerdict}
 use Rattle.expected_order.specs.OfProject.{expectedOf}
 use Rattle.expected_order.specs.Promise.{expectedVerdict}
+use Rattle.entries_order.specs.OfEntries.{expectedOfEntries}
+use Rattle.entries_order.specs.Promise.{entriesVerdict}
 use Rattle.actual_order.specs.Actual.{actualOf, hostsOf}
 use Rattle.actual_order.specs.Promise.{actualVerdict}
 use Rattle.chunk_cycles.specs.Cycles.{labelsOf, cyclicOf, reachesCycleOf}
@@ -21,7 +23,7 @@ use Rattle.chunk_cycles.specs.Promise.{labelsVerdict, reachVerdict}
 use Rattle.at_risk.specs.Entry.{orderRiskOfEntry, cycleRiskOfEntry, riskVerdict}
 use Rattle.wrap_plan.specs.Planned.{planOf, planVerdict}
 use Rattle.order_analysis.specs.Whole.{wholePlan, wholeVerdict}
-use Rattle.promises.specs.Calls.{Call, sort, expectedOrder, actualOrder, chunkLabels, chunkReach, orderRiskOfAnEntry, cycleRiskOfAnEntry, planFromSeeds, wholeAnalysis, Outcome, outcome, outcomeOf}
+use Rattle.promises.specs.Calls.{Call, sort, expectedOrder, entriesTogether, actualOrder, chunkLabels, chunkReach, orderRiskOfAnEntry, cycleRiskOfAnEntry, planFromSeeds, wholeAnalysis, Outcome, outcome, outcomeOf}
 use Rattle.promises.specs.OfCalls.{Gives, PromisesGiveOutcomes, slicesOf, RefusalsChangeNothing}
 
 abbrev Slices : Type 0
@@ -69,6 +71,10 @@ promisesGiveOutcomes = record {
       let v : ℕ = expectedVerdict t root (length order) in
       let c : ℕ = length (expectedOf (t .project) root) in
       record { outcome = tells v c r (p .answered) ((order, expectedOf (t .project) root) ∷ []) _ (one (p .written)); accepted = told v c r (p .answered) };
+  ofEntriesOrder = λ t entries order order′ r p.
+      let v : ℕ = entriesVerdict t entries (length order) in
+      let c : ℕ = length (expectedOfEntries (t .project) entries) in
+      record { outcome = tells v c r (p .answered) ((order, expectedOfEntries (t .project) entries) ∷ []) _ (one (p .written)); accepted = told v c r (p .answered) };
   ofActualOrder = λ t root order hosts order′ hosts′ r p.
       let v : ℕ = actualVerdict t root (length order) (length hosts) in
       let c : ℕ = length (actualOf (t .project) root) in
@@ -110,6 +116,8 @@ refusalsChangeNothing t (sort numbers sorted) n =
     unchanged (sortVerdict t (length numbers) (length sorted)) (length (sortedOf (t .project))) ((numbers, numbersOf (t .project)) ∷ (sorted, sortedOf (t .project)) ∷ []) n
 refusalsChangeNothing t (expectedOrder root order) n =
     unchanged (expectedVerdict t root (length order)) (length (expectedOf (t .project) root)) ((order, expectedOf (t .project) root) ∷ []) n
+refusalsChangeNothing t (entriesTogether entries order) n =
+    unchanged (entriesVerdict t entries (length order)) (length (expectedOfEntries (t .project) entries)) ((order, expectedOfEntries (t .project) entries) ∷ []) n
 refusalsChangeNothing t (actualOrder root order hosts) n =
     unchanged (actualVerdict t root (length order) (length hosts)) (length (actualOf (t .project) root)) ((order, actualOf (t .project) root) ∷ (hosts, hostsOf (t .project) root) ∷ []) n
 refusalsChangeNothing t (chunkLabels labels) n =

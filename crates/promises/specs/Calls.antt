@@ -12,6 +12,8 @@ use Rattle.sort_modules.specs.OfProject.{numbersOf, sortedOf}
 use Rattle.sort_modules.specs.Promise.{sortVerdict}
 use Rattle.expected_order.specs.OfProject.{expectedOf}
 use Rattle.expected_order.specs.Promise.{expectedVerdict}
+use Rattle.entries_order.specs.OfEntries.{expectedOfEntries}
+use Rattle.entries_order.specs.Promise.{entriesVerdict}
 use Rattle.actual_order.specs.Actual.{actualOf, hostsOf}
 use Rattle.actual_order.specs.Promise.{actualVerdict}
 use Rattle.chunk_cycles.specs.Cycles.{labelsOf, cyclicOf, reachesCycleOf}
@@ -24,6 +26,7 @@ use Rattle.order_analysis.specs.Whole.{wholePlan, wholeVerdict}
 pub data Call : Type 0 where
   sort : (numbers sorted : List ℕ) → Call
   expectedOrder : (root : ℕ) (order : List ℕ) → Call
+  entriesTogether : (entries order : List ℕ) → Call
   actualOrder : (root : ℕ) (order hosts : List ℕ) → Call
   chunkLabels : (labels : List ℕ) → Call
   chunkReach : (chunk : ℕ) → Call
@@ -48,6 +51,8 @@ outcomeOf t (sort numbers sorted) =
     ((numbers, numbersOf (t .project)) ∷ (sorted, sortedOf (t .project)) ∷ [])
 outcomeOf t (expectedOrder root order) =
     outcome (expectedVerdict t root (length order)) (length (expectedOf (t .project) root)) ((order, expectedOf (t .project) root) ∷ [])
+outcomeOf t (entriesTogether entries order) =
+    outcome (entriesVerdict t entries (length order)) (length (expectedOfEntries (t .project) entries)) ((order, expectedOfEntries (t .project) entries) ∷ [])
 outcomeOf t (actualOrder root order hosts) =
     outcome (actualVerdict t root (length order) (length hosts)) (length (actualOf (t .project) root))
     ((order, actualOf (t .project) root) ∷ (hosts, hostsOf (t .project) root) ∷ [])

@@ -1,4 +1,4 @@
--- Document 01's marked cases: a change of the listing, an operation with its arguments and slices, and its result.
+-- Document 01's marked cases, and rows for the requests of 02: a change of the listing, an operation with its arguments and slices, and its result.
 -- Assumes nothing.
 use mathlib.Core.Path.{_≡_}
 use mathlib.Core.List.{List, [], _∷_, map}
@@ -6,7 +6,7 @@ use Prim.Native.Nat.{ℕ}
 use Rattle.tables.specs.Project.{Project, missing}
 use Rattle.promises.specs.Changes.{withImports, withNormal}
 use Rattle.promises.specs.Listing.{listing}
-use Rattle.promises.specs.Calls.{Call, sort, expectedOrder, actualOrder, chunkLabels, orderRiskOfAnEntry, cycleRiskOfAnEntry, planFromSeeds, wholeAnalysis, Outcome, outcomeOf, lentBy}
+use Rattle.promises.specs.Calls.{Call, sort, expectedOrder, entriesTogether, actualOrder, chunkLabels, orderRiskOfAnEntry, cycleRiskOfAnEntry, planFromSeeds, wholeAnalysis, Outcome, outcomeOf, lentBy}
 
 pub record Case : Type 0 where
   pub on : Project
@@ -79,4 +79,9 @@ markedCases =
     -- "for the sort, output slices of 3, refusal 6, of 4, none"
     ∷ refuses listing (sort three three) 6 (three ∷ three ∷ [])
     ∷ accepts listing (sort four four) 4 ((0 ∷ 3 ∷ 1 ∷ 2 ∷ []) ∷ (0 ∷ 2 ∷ 3 ∷ 1 ∷ []) ∷ [])
+    -- C-12: module 3 stands in the part of the first entry that reaches it; one entry; an external entry is passed over; an entry without a row
+    ∷ accepts listing (entriesTogether (3 ∷ 1 ∷ 3 ∷ []) lent) 3 ((3 ∷ 2 ∷ 1 ∷ 6 ∷ 5 ∷ []) ∷ [])
+    ∷ accepts listing (entriesTogether (1 ∷ []) lent) 3 ((2 ∷ 3 ∷ 1 ∷ 6 ∷ 5 ∷ []) ∷ [])
+    ∷ accepts external3 (entriesTogether (3 ∷ 2 ∷ []) lent) 1 ((2 ∷ 8 ∷ 7 ∷ 6 ∷ 5 ∷ []) ∷ [])
+    ∷ refuses listing (entriesTogether (1 ∷ 4 ∷ []) lent) 5 (lent ∷ [])
     ∷ []

@@ -14,3 +14,4 @@ pub mod LateWitnesses
 pub mod Risks
 pub mod OwnTerms
 pub mod OfCalls
+pub mod Together

@@ -9,12 +9,13 @@ use Rattle.tables.specs.declared.Answer.the-variants.{Counted}
 use Rattle.table.specs.Table.{Lent}
 use Rattle.sort_modules.specs.Promise.{SortModules}
 use Rattle.expected_order.specs.Promise.{ExpectedOrder}
+use Rattle.entries_order.specs.Promise.{EntriesOrder}
 use Rattle.actual_order.specs.Promise.{ActualOrder}
 use Rattle.chunk_cycles.specs.Promise.{LabelsPromise, ReachPromise}
 use Rattle.at_risk.specs.Entry.{EntryOrderRisk, EntryCycleRisk}
 use Rattle.wrap_plan.specs.Planned.{PlanFromSeeds}
 use Rattle.order_analysis.specs.Whole.{WholeAnalysis}
-use Rattle.promises.specs.Calls.{Call, sort, expectedOrder, actualOrder, chunkLabels, chunkReach, orderRiskOfAnEntry, cycleRiskOfAnEntry, planFromSeeds, wholeAnalysis, Outcome, outcomeOf}
+use Rattle.promises.specs.Calls.{Call, sort, expectedOrder, entriesTogether, actualOrder, chunkLabels, chunkReach, orderRiskOfAnEntry, cycleRiskOfAnEntry, planFromSeeds, wholeAnalysis, Outcome, outcomeOf}
 
 -- a call's answer and the slices that it leaves are the outcome, and an answer without a number is a count
 pub record Gives (t : Lent) (call : Call) (r : Answer) (left : List (List ℕ)) : Type 0 where
@@ -26,6 +27,7 @@ pub record PromisesGiveOutcomes : Type 0 where
   pub ofSort : (t : Lent) (numbers sorted numbers′ sorted′ : List ℕ) (r : Answer) → SortModules t numbers sorted r numbers′ sorted′
       → Gives t (sort numbers sorted) r (numbers′ ∷ sorted′ ∷ [])
   pub ofExpectedOrder : (t : Lent) (root : ℕ) (order order′ : List ℕ) (r : Answer) → ExpectedOrder t root order r order′ → Gives t (expectedOrder root order) r (order′ ∷ [])
+  pub ofEntriesOrder : (t : Lent) (entries order order′ : List ℕ) (r : Answer) → EntriesOrder t entries order r order′ → Gives t (entriesTogether entries order) r (order′ ∷ [])
   pub ofActualOrder : (t : Lent) (root : ℕ) (order hosts order′ hosts′ : List ℕ) (r : Answer) → ActualOrder t root order hosts r order′ hosts′
       → Gives t (actualOrder root order hosts) r (order′ ∷ hosts′ ∷ [])
   pub ofLabels : (t : Lent) (labels labels′ : List ℕ) (r : Answer) → LabelsPromise t labels r labels′ → Gives t (chunkLabels labels) r (labels′ ∷ [])
@@ -39,6 +41,7 @@ pub record PromisesGiveOutcomes : Type 0 where
 abbrev pub slicesOf : Call → List (List ℕ)
 slicesOf (sort numbers sorted) = numbers ∷ sorted ∷ []
 slicesOf (expectedOrder root order) = order ∷ []
+slicesOf (entriesTogether entries order) = order ∷ []
 slicesOf (actualOrder root order hosts) = order ∷ hosts ∷ []
 slicesOf (chunkLabels labels) = labels ∷ []
 slicesOf (chunkReach chunk) = []

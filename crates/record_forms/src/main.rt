@@ -5,6 +5,7 @@ use record_columns::Record;
 use records::actual_records;
 use records::analyze_records;
 use records::cycle_risk_records;
+use records::entries_records;
 use records::expected_records;
 use records::label_records;
 use records::order_risk_records;
@@ -37,6 +38,19 @@ fn expected_of<'a>(
     expected: &mut [u32],
 ) -> Answer {
     expected_records(runtime, dynamic, bounds, columns, &rows, root, expected)
+}
+
+// Many entries walked together, of rows that are lent.
+fn entries_of<'a>(
+    runtime: u32,
+    dynamic: u32,
+    bounds: &'a [u32],
+    columns: &'a [u32],
+    rows: [Record; 2],
+    entries: &[u32],
+    order: &mut [u32],
+) -> Answer {
+    entries_records(runtime, dynamic, bounds, columns, &rows, entries, order)
 }
 
 // Actual order and hosts of an entry, of rows that are lent.
@@ -159,7 +173,7 @@ fn print_numbers(numbers: [u32; 4]) {
     io::write_all(STDOUT_FILENO, b"\n");
 }
 
-// The sort and the two orders of entry 1.
+// The sort, the two orders of entry 1, and entries 3 and 1 walked together.
 fn orders<'a>(bounds: &'a [u32], columns: &'a [u32], rows: [Record; 2]) {
     let mut numbers = [7u32; 4];
     let mut sorted = [7u32; 4];
@@ -174,6 +188,13 @@ fn orders<'a>(bounds: &'a [u32], columns: &'a [u32], rows: [Record; 2]) {
         expected_of(0, 0, bounds, columns, rows, 1, &mut expected),
     );
     print_numbers(expected);
+    let entries = [3u32, 1];
+    let mut together = [7u32; 4];
+    print_answer(
+        b"entries",
+        entries_of(0, 0, bounds, columns, rows, &entries, &mut together),
+    );
+    print_numbers(together);
     let mut order = [7u32; 4];
     let mut hosts = [7u32; 4];
     let answer = actual_of(0, 0, bounds, columns, rows, 1, &mut order, &mut hosts);

@@ -2,6 +2,7 @@
 ghost use Rattle.table.specs.Table.{lentWith};
 ghost use Rattle.sort_modules.specs.Promise.{SortModules};
 ghost use Rattle.expected_order.specs.Promise.{ExpectedOrder};
+ghost use Rattle.entries_order.specs.Promise.{EntriesOrder};
 ghost use Rattle.actual_order.specs.Promise.{ActualOrder};
 ghost use Rattle.chunk_cycles.specs.Promise.{LabelsPromise, ReachPromise};
 ghost use Rattle.at_risk.specs.Entry.{EntryOrderRisk, EntryCycleRisk};
@@ -13,6 +14,7 @@ mod actual;
 mod analyze;
 mod cycle;
 mod early;
+mod entries;
 mod expected;
 mod label;
 mod plan;
@@ -23,6 +25,7 @@ use actual::actual_columns;
 use analyze::analyze_columns;
 use cycle::cycle_risk_columns;
 use early::order_risk_columns;
+use entries::entries_columns;
 use expected::expected_columns;
 use label::label_columns;
 use plan::plan_columns;
@@ -62,6 +65,22 @@ pub fn expected_records<'a>(
 {
     let made = columns_of(records);
     expected_columns(runtime, dynamic, bounds, columns, made, root, expected)
+}
+
+// Many entries walked together.
+pub fn entries_records<'a>(
+    runtime: u32,
+    dynamic: u32,
+    bounds: &'a [u32],
+    columns: &'a [u32],
+    records: &'a [Record],
+    entries: &[u32],
+    order: &mut [u32],
+) -> Answer
+    ensures { λ r. ⌜ EntriesOrder (lentWith runtime dynamic (now (bounds .entry)) (now (columns .entry)) (importerColumn (now (records .entry))) (kindColumn (now (records .entry))) (targetColumn (now (records .entry)))) (now (entries .entry)) (now (order .entry)) r (now (order .exit)) ⌝ }
+{
+    let made = columns_of(records);
+    entries_columns(runtime, dynamic, bounds, columns, made, entries, order)
 }
 
 // Actual order and hosts of an entry.

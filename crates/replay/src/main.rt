@@ -364,6 +364,7 @@ fn ask_one<'a>(
         6 => wrap_plan::plan_from_seeds(runtime, dynamic, bounds, columns, seeds, first),
         9 => order_risk::order_risk(runtime, dynamic, bounds, columns, argument, first),
         10 => cycle_risk::cycle_risk(runtime, dynamic, bounds, columns, argument, first),
+        11 => entries_order::entries_order(runtime, dynamic, bounds, columns, seeds, first),
         _ => order_analysis::analyze_execution_order(runtime, dynamic, bounds, columns, first),
     }
 }

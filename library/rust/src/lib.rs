@@ -63,6 +63,8 @@ operations! {
   sort_modules = jolmuqter_sort_modules [] [] [numbers sorted];
   /// The expected order of any module row. Counts the listed modules.
   expected_order = jolmuqter_expected_order [root] [] [order];
+  /// The expected order of any module rows, walked one after the other, each module listed once. Counts the listed modules.
+  entries_order = jolmuqter_entries_order [] [entries] [order];
   /// The actual order of an analysed entry, and the hosts. Counts the listed modules.
   actual_order = jolmuqter_actual_order [root] [] [order hosts];
   /// The label of each chunk. Counts the cyclic chunks.

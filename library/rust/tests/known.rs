@@ -94,6 +94,24 @@ fn gives_the_expected_order() {
 }
 
 #[test]
+fn walks_entries_together() {
+  let mut order = [9; 5];
+  assert_eq!(with(unchanged, |table| table.entries_order(&[3, 1, 3, 0], &mut order)), Ok(4));
+  assert_eq!(order, [3, 2, 1, 0, 9]);
+  assert_eq!(with(unchanged, |table| table.entries_order(&[1], &mut order)), Ok(3));
+  assert_eq!(order, [2, 3, 1, 0, 9]);
+  // an entry that isn't included is passed over, and so is an external one
+  assert_eq!(with(|lists| lists[MODULES][1][1] = 0, |table| table.entries_order(&[1, 3], &mut order)), Ok(1));
+  assert_eq!(with(|lists| lists[MODULES][3][0] = 0, |table| table.entries_order(&[3, 2], &mut order)), Ok(1));
+  assert_eq!(order, [2, 3, 1, 0, 9]);
+  assert_eq!(with(unchanged, |table| table.entries_order(&[], &mut order)), Ok(0));
+  assert_eq!(with(unchanged, |table| table.entries_order(&[0, 4], &mut order)), Err(Refused(5)));
+  assert_eq!(with(|lists| lists[MODULES][1][1] = 0, |table| table.entries_order(&[1, MISSING], &mut order)), Err(Refused(5)));
+  assert_eq!(with(unchanged, |table| table.entries_order(&[1], &mut order[..3])), Err(Refused(6)));
+  assert_eq!(order, [2, 3, 1, 0, 9]);
+}
+
+#[test]
 fn gives_the_actual_order() {
   let mut order = [9; 4];
   let mut hosts = [9; 4];

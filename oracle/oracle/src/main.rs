@@ -14,6 +14,7 @@ struct Flags {
   seeds: Vec<Vec<u32>>,
   roots: Vec<u32>,
   sets: Vec<Vec<u32>>,
+  together: Vec<Vec<u32>>,
 }
 
 fn fail(why: &str) -> ! {
@@ -42,6 +43,7 @@ fn flags() -> Flags {
       "--seeds" => flags.seeds.push(list(&mut args)),
       "--expected" => flags.roots.extend(list(&mut args)),
       "--asked" => flags.sets.push(list(&mut args)),
+      "--together" => flags.together.push(list(&mut args)),
       other => fail(&format!("unknown flag {other}")),
     }
   }
@@ -54,6 +56,7 @@ fn asked_after(rest: &[u8], flags: &Flags) -> Flags {
     seeds: flags.seeds.clone(),
     roots: flags.roots.clone(),
     sets: flags.sets.clone(),
+    together: flags.together.clone(),
     ..Flags::default()
   };
   for line in String::from_utf8_lossy(rest).lines() {
@@ -63,6 +66,7 @@ fn asked_after(rest: &[u8], flags: &Flags) -> Flags {
       "@seeds" => asked.seeds.push(values),
       "@expected" => asked.roots.extend(values),
       "@asked" => asked.sets.push(values),
+      "@together" => asked.together.push(values),
       _ => fail(&format!("after the lists: {line}")),
     }
   }
@@ -103,12 +107,13 @@ fn answer(text: &[u8], flags: &Flags) -> String {
     }
     line(&mut out, "sensitive", &original.sensitive());
     line(&mut out, "eligible", &original.eligible());
+    line(&mut out, "wrapall", &original.wrap_all());
   }
   further(&mut out, &project, &original, &asked);
   out
 }
 
-/// Plans from given seeds, expected orders of any root, and what each rule asks for.
+/// Plans from given seeds, expected orders of any root and of some walked together, and what each rule asks for.
 fn further(out: &mut String, project: &Project, original: &Original, asked: &Flags) {
   let known = |list: &[u32]| {
     if list.iter().any(|&row| row as usize >= project.modules()) {
@@ -122,6 +127,10 @@ fn further(out: &mut String, project: &Project, original: &Original, asked: &Fla
   known(&asked.roots);
   for &root in &asked.roots {
     line(out, &format!("expectedof {root}"), &original.expected(root));
+  }
+  for entries in &asked.together {
+    known(entries);
+    line(out, "together", &original.entries_together(entries));
   }
   for set in &asked.sets {
     known(set);

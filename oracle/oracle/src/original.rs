@@ -86,6 +86,16 @@ impl Original {
     listed(&self.stage().expected_of(ModuleIdx::from_raw(root)))
   }
 
+  /// The expected order of some modules walked together, the states kept between them.
+  pub fn entries_together(&self, roots: &[u32]) -> Vec<u32> {
+    listed(&self.stage().expected_together(&carriers::module_rows(roots)))
+  }
+
+  /// The wrap-all set.
+  pub fn wrap_all(&self) -> Vec<u32> {
+    rising(self.stage().wrap_all())
+  }
+
   pub fn entries(&self) -> Vec<Entry> {
     self
       .stage()
@@ -142,6 +152,10 @@ impl Original {
 
   pub fn bare_expected(&self, root: u32) -> Vec<ModuleIdx> {
     self.stage().expected_of(ModuleIdx::from_raw(root))
+  }
+
+  pub fn bare_together(&self, roots: &[ModuleIdx]) -> Vec<ModuleIdx> {
+    self.stage().expected_together(roots)
   }
 
   /// The root is an analysed entry, here and below.

@@ -1,10 +1,10 @@
 //! The driver beside the original text (a child module, so that it may call the private parts).
-use oxc_index::IndexVec;
+use oxc_index::{IndexVec, index_vec};
 use rolldown_common::{ChunkIdx, ModuleIdx, UsedSymbolRefsBuilder};
 use rustc_hash::{FxHashMap, FxHashSet};
 
 use super::{
-  ChunkCycles, GenerateStage, OrderWrapPlan, RootOrderAnalysis, grow_static_import_backward_closure,
+  ChunkCycles, GenerateStage, OrderWrapPlan, RootOrderAnalysis, VisitState, grow_static_import_backward_closure,
   reverse_static_import_index,
 };
 use crate::chunk_graph::ChunkGraph;
@@ -200,6 +200,17 @@ impl GenerateStage<'_> {
 
   pub fn expected_of(&self, root: ModuleIdx) -> Vec<ModuleIdx> {
     self.expected_order_for_root(root)
+  }
+
+  /// The loop of `wrap_all_order_analysis` over any modules, with the lists that it asks for one after the other.
+  pub fn expected_together(&self, roots: &[ModuleIdx]) -> Vec<ModuleIdx> {
+    let mut states = index_vec![VisitState::Unvisited; self.link_output.module_table.modules.len()];
+    let included = |root: &&ModuleIdx| self.link_output.metas[**root].is_included;
+    roots.iter().filter(included).flat_map(|&root| self.expected_order_for_root_with_states(root, &mut states)).collect()
+  }
+
+  pub fn wrap_all(&self) -> Vec<ModuleIdx> {
+    self.wrap_all_order_analysis().plan.modules().collect()
   }
 
   pub fn sensitive(&self, module: ModuleIdx) -> bool {
