@@ -1,0 +1,2 @@
+// The members of each chunk as rolldown arranges them.
+pub mod core;

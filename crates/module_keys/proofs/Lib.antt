@@ -1,0 +1,3 @@
+-- Filling slices place by place; the keys.
+pub mod Filling
+pub mod Keys

@@ -1,0 +1,2 @@
+// The keys by which rolldown arranges a chunk's modules.
+pub mod core;

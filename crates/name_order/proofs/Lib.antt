@@ -1,0 +1,2 @@
+-- Lines by where they start, and the order of names.
+pub mod LinesAt

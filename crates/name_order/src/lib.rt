@@ -1,0 +1,2 @@
+// Names in the order of their bytes.
+pub mod core;

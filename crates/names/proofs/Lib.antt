@@ -1,0 +1,2 @@
+-- The lines of a text, and the test of their form.
+pub mod Lines

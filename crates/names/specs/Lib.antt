@@ -1,0 +1,3 @@
+-- The names of a project's modules.
+pub mod Names
+pub mod inner
