@@ -22,7 +22,7 @@ export class Random {
 }
 
 const NAMES = [
-  "runtime dynamic", "normal included sensitive reads exports wrap chunk", "module kind target", "module dependency",
+  "runtime dynamic", "normal included sensitive reads exports wrap chunk newer", "module kind target", "module dependency",
   "module included", "statement record", "owner canonical", "symbol link", "statement form symbol", "reference depended",
   "order", "chunk member", "chunk imports", "entry chunk", "seed",
 ];
@@ -31,12 +31,12 @@ const NAMES = [
 export function listing(project) {
   const { modules, records, order, members, imports, entries } = project;
   const lists = [
-    [[0, 0]], modules, records, [], [], [], [], [], [], [], order.map((value) => [value]), members, imports, entries, [],
+    [[0, 0]], modules.map((row) => [...row, "-"]), records, [], [], [], [], [], [], [], order.map((value) => [value]), members, imports, entries, [],
   ];
   return NAMES.map((name, at) => [name, ...lists[at].map((row) => row.join(" ")), "", ""].join("\n")).join("");
 }
 
-// A module row: normal, included, sensitive, reads, exports, wrap, chunk.
+// A module row: normal, included, sensitive, reads, exports, wrap, chunk; no module is superseded.
 export const plainRow = (chunk) => [1, 1, 1, 0, 1, 0, chunk];
 
 const rising = (rows) => rows.sort((a, b) => a[0] - b[0]);

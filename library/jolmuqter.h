@@ -1,18 +1,19 @@
 /* The order planner's operations, from target/staticlib/libjolmuqter.a (`rt staticlib jolmuqter`, x86-64 Linux).
  *
  * A slice is a pointer and a length in elements, in this order; a pointer is aligned and isn't null, even where the length is 0. Outputs overlap
- * neither each other nor the inputs. A call uses less than 2 MiB of stack (measured: up to 1.9 MiB), keeps nothing, and may run
+ * neither each other nor the inputs. A call uses less than 2 MiB of stack (measured: up to 1.96 MiB), keeps nothing, and may run
  * in several threads at once.
  *
  * Inputs of every call:
  *   runtime   the runtime module
  *   dynamic   1 if `code_splitting` is disabled, else 0
- *   columns   the 33 columns of the lists below one after the other, list by list in this order
- *   bounds    34 places: where each column starts in `columns`, and where the last ends. The first is 0, none is below the one before, and the last is
+ *   columns   the 34 columns of the lists below one after the other, list by list in this order
+ *   bounds    35 places: where each column starts in `columns`, and where the last ends. The first is 0, none is below the one before, and the last is
  *             the length of `columns`. The columns of a list have as many values as it has rows.
  *
  *   modules        normal (1, external 0), included, sensitive, reads (0 or 1 each), exports (0 None, 1 Esm, 2 CommonJs),
- *                  wrap (0 None, 1 Cjs, 2 Esm), chunk or the mark                                                        1 to 4,096 rows
+ *                  wrap (0 None, 1 Cjs, 2 Esm), chunk or the mark,
+ *                  newer: the later module that supersedes it, or the mark                                               1 to 4,096 rows
  *   records        module, kind (0 Import, 1 Require, 2 dynamic import, 3 other), target module or the mark              sorted by module
  *   dependencies   module, dependency
  *   statements     module, included (0 or 1)                                                                             sorted by module
@@ -27,15 +28,18 @@
  *   entries        module, chunk or the mark
  *   seeds          module                                                          0 to 16,384 rows, as any list with no other limit
  *
+ * Record targets and dependencies are read through `newer` until a module without one is reached; all else is read as written.
+ *
  * Rows count from 0. The mark, JOLMUQTER_MISSING, stands for a value that is missing.
  *
  * Answers: below 2^32 the count, and the outputs are written from place 0; places past what is written stay as they were. Else 2^32 plus the
- * number of a refusal, and no output is changed; the lowest number that applies:
+ * number of a refusal, and no output is changed; the first number that applies, in this order:
  *   1  bounds that don't fit, a list over its limit, columns of one list that differ in length, or no module
  *   2  a value outside its column
  *   3  records, statements, members or imports not sorted by their first column
  *   4  an external with a record or a statement; a use of another module's record; a depended row for form 0 or 1; form 0 or 1 without a symbol;
  *      an entry or an import pair twice
+ *  10  a `newer` that is neither the mark nor a later module row (2 isn't given for it)
  *   5  a root, entry, chunk or seed without a row, a root for risk or actual order that isn't an analysed entry (included, with a chunk), or over
  *      16,384 seeds
  *   6  an output that is too short: every output needs a place for each module, labels one for each chunk
@@ -47,7 +51,7 @@
 
 #define JOLMUQTER_MISSING UINT32_C(4294967295)
 #define JOLMUQTER_REFUSED UINT64_C(4294967296)
-#define JOLMUQTER_BOUNDS 34
+#define JOLMUQTER_BOUNDS 35
 #define JOLMUQTER_TABLE                                                                                                \
   uint32_t runtime, uint32_t dynamic, const uint32_t *bounds, size_t bounds_len, const uint32_t *columns, size_t columns_len
 

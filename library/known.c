@@ -47,12 +47,13 @@ static void empty(Table *t, int columns) {
   for (int i = 0; i < columns; i++) column(t, NULL, 0);
 }
 
-/* Document 01's listing, with other `normal` values and imports. */
-static Table listing(const uint32_t normal[4], const uint32_t *from, const uint32_t *to, size_t imports) {
+/* Document 01's listing, with other `normal` and `newer` values and imports. */
+static Table replaced(const uint32_t normal[4], const uint32_t newer[4], const uint32_t *from, const uint32_t *to, size_t imports) {
   Table t = {{0}, NULL, 0, 0};
   column(&t, normal, 4);
   COLUMN(&t, 1, 1, 1, 1), COLUMN(&t, 0, 1, 1, 1), COLUMN(&t, 0, 0, 0, 0);
   COLUMN(&t, 1, 1, 1, 1), COLUMN(&t, 0, 0, 0, 0), COLUMN(&t, 1, 0, 0, 1);
+  column(&t, newer, 4);
   COLUMN(&t, 1, 1), COLUMN(&t, 0, 0), COLUMN(&t, 2, 3);
   COLUMN(&t, 1, 1), COLUMN(&t, 2, 3);
   empty(&t, 13);
@@ -62,6 +63,11 @@ static Table listing(const uint32_t normal[4], const uint32_t *from, const uint3
   COLUMN(&t, 1), COLUMN(&t, 0);
   empty(&t, 1);
   return t;
+}
+
+/* The same, with no module superseded. */
+static Table listing(const uint32_t normal[4], const uint32_t *from, const uint32_t *to, size_t imports) {
+  return replaced(normal, LIST(NO, NO, NO, NO), from, to, imports);
 }
 
 static void answers(void) {
@@ -75,23 +81,41 @@ static void answers(void) {
   uint32_t a[5] = {9, 9, 9, 9, 9}, b[5] = {9, 9, 9, 9, 9};
 
   EXPECT(jolmuqter_refusal(TABLE(t)), 0);
-  EXPECT(jolmuqter_refusal(0, 0, t.bounds, 33, t.columns, t.length), REFUSED(1));
-  EXPECT(jolmuqter_refusal(0, 0, t.bounds, 34, t.columns, t.length - 1), REFUSED(1));
-  EXPECT(jolmuqter_refusal(0, 0, t.bounds, 34, t.columns, t.length + 1), REFUSED(1));
-  EXPECT(jolmuqter_refusal(0, 0, t.bounds + 1, 33, t.columns, t.length), REFUSED(1));
+  EXPECT(jolmuqter_refusal(0, 0, t.bounds, 34, t.columns, t.length), REFUSED(1));
+  EXPECT(jolmuqter_refusal(0, 0, t.bounds, 35, t.columns, t.length - 1), REFUSED(1));
+  EXPECT(jolmuqter_refusal(0, 0, t.bounds, 35, t.columns, t.length + 1), REFUSED(1));
+  EXPECT(jolmuqter_refusal(0, 0, t.bounds + 1, 34, t.columns, t.length), REFUSED(1));
   Table uneven = listing(normal, LIST(0), LIST(1), 1);
-  uneven.bounds[29]++; /* two rows of importing chunks, none of imported ones */
+  uneven.bounds[30]++; /* two rows of importing chunks, none of imported ones */
   EXPECT(jolmuqter_refusal(TABLE(uneven)), REFUSED(1));
-  uneven.bounds[29] = 0; /* below the bound before */
+  uneven.bounds[30] = 0; /* below the bound before */
   EXPECT(jolmuqter_refusal(TABLE(uneven)), REFUSED(1));
-  EXPECT(jolmuqter_refusal(4, 0, t.bounds, 34, t.columns, t.length), REFUSED(2));
-  EXPECT(jolmuqter_refusal(0, 2, t.bounds, 34, t.columns, t.length), REFUSED(2));
+  EXPECT(jolmuqter_refusal(4, 0, t.bounds, 35, t.columns, t.length), REFUSED(2));
+  EXPECT(jolmuqter_refusal(0, 2, t.bounds, 35, t.columns, t.length), REFUSED(2));
   EXPECT(jolmuqter_refusal(TABLE(fallen)), REFUSED(3));
   EXPECT(jolmuqter_refusal(TABLE(twice)), REFUSED(4));
+  Table later = replaced(normal, LIST(NO, NO, 3, NO), LIST(0), LIST(1), 1);
+  Table same = replaced(normal, LIST(NO, NO, 2, NO), LIST(0), LIST(1), 1);
+  Table earlier = replaced(normal, LIST(NO, NO, 1, NO), LIST(0), LIST(1), 1);
+  Table past = replaced(normal, LIST(4, NO, NO, NO), LIST(0), LIST(1), 1);
+  Table largest = replaced(normal, LIST(NO, NO, NO, NO - 1), LIST(0), LIST(1), 1);
+  Table also_twice = replaced(normal, LIST(NO, NO, 2, NO), LIST(0, 0), LIST(1, 1), 2);
+  EXPECT(jolmuqter_refusal(TABLE(later)), 0);
+  EXPECT(jolmuqter_refusal(TABLE(same)), REFUSED(10));
+  EXPECT(jolmuqter_refusal(TABLE(earlier)), REFUSED(10));
+  EXPECT(jolmuqter_refusal(TABLE(past)), REFUSED(10));
+  EXPECT(jolmuqter_refusal(TABLE(largest)), REFUSED(10));
+  EXPECT(jolmuqter_refusal(TABLE(also_twice)), REFUSED(4));
+  EXPECT(jolmuqter_expected_order(TABLE(same), 4, a, 3), REFUSED(10));
+  EXPECT(jolmuqter_expected_order(TABLE(later), 1, a, 4), 2);
+  HOLD(a, 3, 1, 9, 9, 9);
+  EXPECT(jolmuqter_sort_modules(TABLE(later), a, 4, b, 4), 3);
+  HOLD(a, 0, 2, NO, 1, 9), HOLD(b, 0, 3, 1, 9, 9);
+  for (int i = 0; i < 5; i++) a[i] = b[i] = 9;
 
   EXPECT(jolmuqter_sort_modules(TABLE(t), a, 3, b, 4), REFUSED(6));
   EXPECT(jolmuqter_sort_modules(TABLE(t), a, 4, b, 3), REFUSED(6));
-  EXPECT(jolmuqter_sort_modules(0, 0, t.bounds, 34, t.columns, 0, a, 4, b, 4), REFUSED(1));
+  EXPECT(jolmuqter_sort_modules(0, 0, t.bounds, 35, t.columns, 0, a, 4, b, 4), REFUSED(1));
   HOLD(a, 9, 9, 9, 9, 9), HOLD(b, 9, 9, 9, 9, 9);
   EXPECT(jolmuqter_sort_modules(TABLE(t), a, 4, b, 4), 4);
   HOLD(a, 0, 3, 1, 2, 9), HOLD(b, 0, 2, 3, 1, 9);
@@ -172,11 +196,11 @@ enum { MODULES = 4096, CHUNKS = 1024, STACK = 16 << 20 };
 
 /* A chain of 4,096 modules and one of 1,024 chunks; the first module stands in the last chunk, and the other modules have this wrap. */
 static Table chains(uint32_t wrap) {
-  static uint32_t up[MODULES], next[MODULES], zero[MODULES], one[MODULES], wraps[MODULES], in[MODULES];
-  for (uint32_t i = 0; i < MODULES; i++) up[i] = i, next[i] = i + 1, one[i] = 1, wraps[i] = i ? wrap : 0, in[i] = CHUNKS - 1;
+  static uint32_t up[MODULES], next[MODULES], zero[MODULES], one[MODULES], wraps[MODULES], in[MODULES], none[MODULES];
+  for (uint32_t i = 0; i < MODULES; i++) up[i] = i, next[i] = i + 1, one[i] = 1, wraps[i] = i ? wrap : 0, in[i] = CHUNKS - 1, none[i] = NO;
   Table t = {{0}, NULL, 0, 0};
   column(&t, one, MODULES), column(&t, one, MODULES), column(&t, one, MODULES), column(&t, zero, MODULES);
-  column(&t, one, MODULES), column(&t, wraps, MODULES), column(&t, in, MODULES);
+  column(&t, one, MODULES), column(&t, wraps, MODULES), column(&t, in, MODULES), column(&t, none, MODULES);
   column(&t, up, MODULES - 1), column(&t, zero, MODULES - 1), column(&t, next, MODULES - 1);
   column(&t, up, MODULES - 1), column(&t, next, MODULES - 1);
   empty(&t, 13);

@@ -4,7 +4,7 @@ use compare::{
   random::Random,
 };
 use project::{
-  Project,
+  MARK, Project,
   column::*,
   text::{LONGEST, render},
 };
@@ -63,7 +63,7 @@ fn fan(part: usize, entries: usize) -> Project {
   let (n, c, rows) = (4_096 / part, 1_024 / part, 16_384 / part);
   let mut p = Project::default();
   for module in 0..n {
-    p.push(NORMAL, [1, 1, 1, 0, 1, 0, (module % c) as u32]);
+    p.push(NORMAL, [1, 1, 1, 0, 1, 0, (module % c) as u32, MARK]);
   }
   for module in 1..n {
     for target in module + 1..(module + 5).min(n) {
@@ -95,7 +95,7 @@ fn row_of_modules(part: usize, reads: u32) -> Project {
   p.push(ORDER, [0]);
   p.push(SEED, [n as u32 - 1]);
   for module in 0..n as u32 {
-    p.push(NORMAL, [1, 1, 0, reads, 1, 0, 0]);
+    p.push(NORMAL, [1, 1, 0, reads, 1, 0, 0, MARK]);
     p.push(MEMBER_CHUNK, [0, module]);
     if module > 0 && (module as usize) + 1 < n {
       p.push(RECORD_MODULE, [module, 0, module + 1]);

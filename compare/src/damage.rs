@@ -1,4 +1,4 @@
-//! Damaged copies: most are refused, by each ground of 1 to 4 and by several at once; some stay whole.
+//! Damaged copies: most are refused, by each ground of 1 to 4 and 10 and by several at once; some stay whole.
 use project::{COLUMNS, LISTS, MARK, Project, column::*};
 
 use crate::{
@@ -16,7 +16,7 @@ pub fn damaged(r: &mut Random, p: &Project) -> Project {
 }
 
 fn one(r: &mut Random, p: &mut Project) {
-  match r.below(16) {
+  match r.below(17) {
     0 => p.runtime = r.pick(&[p.modules() as u32, p.modules() as u32 + 1, MARK]),
     1 => p.dynamic = r.pick(&[2, 3, MARK]),
     2 => {
@@ -42,6 +42,10 @@ fn one(r: &mut Random, p: &mut Project) {
       let reference = r.row(references);
       set(r, p, DEPENDED_REFERENCE, &[reference]);
     }
+    13 => {
+      let row = r.row(p.modules().max(1));
+      set(r, p, NEWER, &[row, p.modules() as u32]);
+    }
     _ => any_value(r, p),
   }
 }
@@ -60,6 +64,7 @@ fn any_value(r: &mut Random, p: &mut Project) {
     Values::Below(end) => end,
     Values::Row(list) | Values::RowOrMark(list) => p[list].len() as u32,
     Values::NotMark => MARK,
+    Values::Later => p.modules() as u32,
   };
   let inside = if end == 0 { 0 } else { r.row(end as usize) };
   let to = [end, end.wrapping_add(1), end.wrapping_sub(1), MARK, MARK - 1, 1 << 31, inside];

@@ -12,7 +12,7 @@ use crate::{
 pub fn listing() -> Project {
   let mut p = Project::default();
   for (sensitive, chunk) in [(0, 1), (1, 0), (1, 0), (1, 1)] {
-    p.push(NORMAL, [1, 1, sensitive, 0, 1, 0, chunk]);
+    p.push(NORMAL, [1, 1, sensitive, 0, 1, 0, chunk, MARK]);
   }
   for target in [2, 3] {
     p.push(RECORD_MODULE, [1, 0, target]);
@@ -39,15 +39,20 @@ fn case(name: String, p: &Project, calls: Vec<Asked>) -> Case {
 
 /// All of them.
 pub fn all() -> Vec<Case> {
-  [tests(), orders(), together(), chunks(), actual_orders(), risks()].into_iter().flatten().collect()
+  [tests(), orders(), together(), chunks(), actual_orders(), risks(), replaced()].into_iter().flatten().collect()
 }
 
-// The tests 1 to 4.
+// The tests 1 to 4 and 10.
 
 /// A small project with rows in every list.
 fn small() -> Project {
   let mut p = Project::default();
-  rows(&mut p, NORMAL, &[[1, 1, 0, 0, 1, 0, 0], [1, 1, 0, 0, 1, 0, 0], [1, 1, 1, 0, 1, 0, 1], [1, 1, 0, 0, 1, 0, 1]]);
+  rows(&mut p, NORMAL, &[
+    [1, 1, 0, 0, 1, 0, 0, MARK],
+    [1, 1, 0, 0, 1, 0, 0, MARK],
+    [1, 1, 1, 0, 1, 0, 1, MARK],
+    [1, 1, 0, 0, 1, 0, 1, MARK],
+  ]);
   rows(&mut p, RECORD_MODULE, &[[1, 0, 2], [1, 0, 3]]);
   rows(&mut p, DEPENDENCY_MODULE, &[[1, 2], [1, 3]]);
   rows(&mut p, STATEMENT_MODULE, &[[1, 1], [1, 1]]);
@@ -80,6 +85,7 @@ fn lengthen(p: &mut Project, first: usize, length: usize) {
       ENTRY => row % 4_096,
       IMPORT_CHUNK => row / 16,
       IMPORTS => row % 1_024,
+      NEWER => MARK as usize,
       _ => 1,
     };
     p[column] = (0..length).map(|row| value(row) as u32).collect();
@@ -126,6 +132,7 @@ fn largest() -> Vec<Case> {
         Values::Below(end) => end - 1,
         Values::Row(named) | Values::RowOrMark(named) => small()[named].len() as u32 - 1,
         Values::NotMark => MARK - 1,
+        Values::Later => small().modules() as u32 - 1,
       };
       let name = format!("`{name}` of `{}`", list.names);
       all(name, largest, &|p, value| *p[column].last_mut().unwrap() = value);
@@ -151,7 +158,7 @@ fn shorter() -> Vec<Case> {
 
 /// Faults of rows, what may stand beside them, and two faults at once.
 fn faults() -> Vec<Case> {
-  let faults: [(&str, fn(&mut Project)); 22] = [
+  let faults: [(&str, fn(&mut Project)); 30] = [
     ("no fault", |_| {}),
     ("a record of an external", |p| (p[RECORD_MODULE][1], p[NORMAL][3]) = (3, 0)),
     ("a statement of an external", |p| (p[STATEMENT_MODULE][1], p[NORMAL][3]) = (3, 0)),
@@ -174,6 +181,14 @@ fn faults() -> Vec<Case> {
     ("faults 2 and 3", |p| (p[WRAP][0], p[RECORD_MODULE][0]) = (3, 2)),
     ("faults 2 and 4", |p| (p.dynamic, p[ENTRY][1]) = (2, 1)),
     ("faults 3 and 4", |p| (p[STATEMENT_MODULE][0], p[ENTRY][1]) = (2, 1)),
+    ("a newer module", |p| p[NEWER][0] = 3),
+    ("a newer module that is the row itself", |p| p[NEWER][1] = 1),
+    ("a newer module in an earlier row", |p| p[NEWER][2] = 1),
+    ("a newer module without a row", |p| p[NEWER][0] = 4),
+    ("faults 1 and 10", |p| (p[DEPENDENCY], p[NEWER][1]) = (vec![2], 1)),
+    ("faults 2 and 10", |p| (p.dynamic, p[NEWER][1]) = (2, 1)),
+    ("faults 3 and 10", |p| (p[RECORD_MODULE][0], p[NEWER][1]) = (2, 1)),
+    ("faults 4 and 10", |p| (p[ENTRY][1], p[NEWER][1]) = (1, 1)),
   ];
   faults.into_iter().map(|(name, change)| test(name.into(), change)).collect()
 }
@@ -187,7 +202,7 @@ fn tests() -> Vec<Case> {
 /// Modules without a chunk, and records of kind 0.
 fn modules(count: usize, records: impl Iterator<Item = [u32; 2]>) -> Project {
   let mut p = Project::default();
-  rows(&mut p, NORMAL, &vec![[1, 1, 0, 0, 1, 0, MARK]; count]);
+  rows(&mut p, NORMAL, &vec![[1, 1, 0, 0, 1, 0, MARK, MARK]; count]);
   records.for_each(|[module, target]| p.push(RECORD_MODULE, [module, 0, target]));
   p
 }
@@ -249,7 +264,7 @@ fn together() -> Vec<Case> {
 /// One external module, and chunks with these imports.
 fn chunk_graph(order: &[u32], imports: &[[u32; 2]]) -> Project {
   let mut p = Project::default();
-  p.push(NORMAL, [0; 7]);
+  p.push(NORMAL, [0, 0, 0, 0, 0, 0, 0, MARK]);
   p[ORDER] = order.to_vec();
   rows(&mut p, IMPORT_CHUNK, imports);
   p
@@ -281,7 +296,7 @@ fn chunks() -> Vec<Case> {
 fn loaded(modules: &[[u32; 3]], records: &[[u32; 3]], order: &[u32], members: &[[u32; 2]], imports: &[[u32; 2]]) -> Project {
   let mut p = Project::default();
   for &[normal, included, wrap] in modules {
-    p.push(NORMAL, [normal, included, 0, 0, 0, wrap, MARK]);
+    p.push(NORMAL, [normal, included, 0, 0, 0, wrap, MARK, MARK]);
   }
   rows(&mut p, RECORD_MODULE, records);
   p[ORDER] = order.to_vec();
@@ -412,4 +427,55 @@ fn risks() -> Vec<Case> {
     ("the use is in a statement that isn't included", using(&[[0, 1]]), ask(1, 6)),
   ];
   cases.into_iter().map(|(name, p, calls)| case(format!("risk: {name}"), &p, calls)).collect()
+}
+
+// Replaced modules.
+
+/// The sort, the expected order of a root and the plan from a seed, with a place a module.
+fn three_calls(p: &Project, root: u32) -> Vec<Asked> {
+  let n = p.modules();
+  vec![(Call::Sort, vec![n; 2]), (Call::Expected(root), vec![n]), (Call::PlanFrom(vec![root]), vec![n])]
+}
+
+/// The longest chain, of which every module imports the first but the last, which has no record; a chain whose middle is external; what is read as written; 10
+/// in the last row and against 5 and 6.
+fn replaced() -> Vec<Case> {
+  let mut cases = Vec::new();
+  let chain = |step: usize| {
+    let mut p = modules(4_096, (0..4_095).map(|module| [module, 0]));
+    for module in 0..4_096 - step {
+      p[NEWER][module] = (module + step) as u32;
+    }
+    p.push(DEPENDENCY_MODULE, [0, 1]);
+    p.push(ORDER, [0]);
+    p.push(MEMBER_CHUNK, [0, 0]);
+    p.push(ENTRY, [0, 0]);
+    p
+  };
+  for step in [1, 2, 4_095] {
+    let p = chain(step);
+    let mut calls = three_calls(&p, 0);
+    calls.push((Call::Whole, vec![4_096]));
+    cases.push(case(format!("replaced: 4096 modules, each superseded by the one {step} on"), &p, calls));
+  }
+  let mut small = modules(4, [[0, 1], [3, 0]].into_iter());
+  small[NORMAL][2] = 0;
+  small[NEWER] = vec![MARK, 2, 3, MARK];
+  small.push(RECORD_MODULE, [3, 0, MARK]);
+  small.push(ENTRY, [0, MARK]);
+  small.push(ENTRY, [1, MARK]);
+  cases.push(case("replaced: over an external, and a missing target".into(), &small, three_calls(&small, 0)));
+  for (row, newer) in [(3, 3), (3, 2), (3, 4), (3, MARK - 1), (0, 0), (0, 4), (2, 1)] {
+    let mut p = listing();
+    p[NEWER][row] = newer;
+    let calls = vec![
+      (Call::Refusal, vec![]),
+      (Call::Sort, vec![3; 2]),
+      (Call::Expected(4), vec![3]),
+      (Call::PlanFrom(vec![4]), vec![4]),
+      (Call::Whole, vec![4]),
+    ];
+    cases.push(case(format!("replaced: module {row} by {newer}"), &p, calls));
+  }
+  cases
 }

@@ -5,7 +5,7 @@ use project::{MARK, Project, column::*};
 fn plain(n: usize) -> Project {
   let mut p = Project::default();
   for _ in 0..n {
-    p.push(NORMAL, [1, 1, 1, 0, 1, 0, 0]);
+    p.push(NORMAL, [1, 1, 1, 0, 1, 0, 0, MARK]);
   }
   p
 }
@@ -133,7 +133,7 @@ pub fn module_rows(try_it: &mut dyn FnMut(Project)) {
   for flags in 0..16 {
     for exports in 0..3 {
       for wrap in 0..3 {
-        rows.push([bit(flags, 0), bit(flags, 1), bit(flags, 2), bit(flags, 3), exports, wrap, 0]);
+        rows.push([bit(flags, 0), bit(flags, 1), bit(flags, 2), bit(flags, 3), exports, wrap, 0, MARK]);
       }
     }
   }
@@ -192,6 +192,36 @@ pub fn references(try_it: &mut dyn FnMut(Project)) {
       p.push(ENTRY, [1, 0]);
       p.push(SEED, [3]);
       try_it(p);
+    }
+  }
+}
+
+/// Four modules, each superseded by no other or by any, itself and earlier ones too (10): records to each of them, a dependency, members, an entry and a seed.
+pub fn replaced_modules(try_it: &mut dyn FnMut(Project)) {
+  const NEWER_ONES: [u32; 6] = [MARK, 0, 1, 2, 3, 4];
+  for zero in NEWER_ONES {
+    for one in NEWER_ONES {
+      for two in NEWER_ONES {
+        for three in NEWER_ONES {
+          let mut p = plain(4);
+          p[NEWER] = vec![zero, one, two, three];
+          for (module, target) in [(0, 1), (1, 2), (2, 0), (3, 0), (3, MARK)] {
+            p.push(RECORD_MODULE, [module, 0, target]);
+          }
+          p.push(DEPENDENCY_MODULE, [3, 0]);
+          p.push(DEPENDENCY_MODULE, [3, 1]);
+          p.push(ORDER, [0]);
+          p.push(ORDER, [1]);
+          for row in [[0, 2], [0, 0], [1, 3], [1, 1]] {
+            p.push(MEMBER_CHUNK, row);
+          }
+          p.push(IMPORT_CHUNK, [1, 0]);
+          p.push(ENTRY, [3, 1]);
+          p.push(ENTRY, [0, 0]);
+          p.push(SEED, [1]);
+          try_it(p);
+        }
+      }
     }
   }
 }

@@ -179,6 +179,7 @@ pub fn project(r: &mut Random, sizes: Sizes, profile: Profile, ties: bool) -> Pr
     maker.any_chunks();
   }
   maker.seeds(laid);
+  maker.newer();
   maker.p
 }
 
@@ -208,7 +209,7 @@ impl Maker<'_> {
       let included = self.r.flag(self.shares.included);
       let sensitive = self.r.flag(self.shares.sensitive);
       let reads = self.r.flag(self.shares.reads);
-      self.p.push(NORMAL, [normal, included, sensitive, reads, exports, wrap, MARK]);
+      self.p.push(NORMAL, [normal, included, sensitive, reads, exports, wrap, MARK, MARK]);
     }
     let any = self.module();
     self.p.runtime = self.r.pick(&[0, 0, 0, any]);
@@ -217,6 +218,18 @@ impl Maker<'_> {
       let runtime = self.p.runtime as usize;
       self.p[NORMAL][runtime] = 1;
       self.p[INCLUDED][runtime] = 1;
+    }
+  }
+
+  /// In half of the projects some modules are superseded by later ones, near or far.
+  fn newer(&mut self) {
+    let share = self.r.pick(&[0.0, 0.0, 0.1, 0.4]);
+    let near = self.r.coin(0.5);
+    for module in 0..self.n - 1 {
+      if self.r.coin(share) {
+        let last = if near { (module + 3).min(self.n - 1) } else { self.n - 1 };
+        self.p[NEWER][module] = self.r.from_to(module + 1, last) as u32;
+      }
     }
   }
 

@@ -16,12 +16,13 @@ pub type Subject = fn(&Lent, &Call, &mut [Vec<u32>]) -> Result<usize, u32>;
 #[derive(Default, Clone, Debug)]
 pub struct Tally {
   pub projects: usize,
-  pub refused: [usize; 5],
+  /// Accepted, and refused by 1 to 4 and 10.
+  pub refused: [usize; 11],
   pub tied: usize,
   /// Results of the original that were compared.
   pub results: usize,
-  /// Calls of the library that were compared: accepted, and refused by 1 to 6.
-  pub calls: [usize; 7],
+  /// Calls of the library that were compared: accepted, and refused by each number.
+  pub calls: [usize; 11],
   /// Accepted projects whose risks and seed rows each rule adds to, and that take more than one round.
   pub by_rule: [usize; 4],
   pub later_rounds: usize,
@@ -32,15 +33,15 @@ pub struct Tally {
 
 impl std::fmt::Display for Tally {
   fn fmt(&self, f: &mut std::fmt::Formatter<'_>) -> std::fmt::Result {
-    let [accepted, one, two, three, four] = self.refused;
+    let [accepted, one, two, three, four, .., ten] = self.refused;
     let [i, ii, iii, iv] = self.by_rule;
     writeln!(f, "{} projects: {accepted} accepted, {} of them with ties;", self.projects, self.tied)?;
-    writeln!(f, "  refused by 1: {one}, by 2: {two}, by 3: {three}, by 4: {four}")?;
+    writeln!(f, "  refused by 1: {one}, by 2: {two}, by 3: {three}, by 4: {four}, by 10: {ten}")?;
     writeln!(f, "  accepted ones with a cyclic chunk {}, a host {}, a risk {};", self.with_cycles, self.with_hosts, self.with_risk)?;
     writeln!(f, "  risks and seeds added to by (i) {i}, (ii) {ii}, (iii) {iii}, (iv) {iv}, in later rounds {}", self.later_rounds)?;
     writeln!(f, "{} results of the original compared with document 01 in plain Rust", self.results)?;
     let all: usize = self.calls.iter().sum();
-    writeln!(f, "{all} calls of the library compared; accepted and refused by 1 to 6: {:?}", self.calls)
+    writeln!(f, "{all} calls of the library compared; accepted and refused by 1 to 10: {:?}", self.calls)
   }
 }
 

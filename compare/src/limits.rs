@@ -11,7 +11,7 @@ use crate::{
 fn few() -> Project {
   let mut p = Project::default();
   for _ in 0..4 {
-    p.push(NORMAL, [1, 1, 1, 1, 1, 0, 0]);
+    p.push(NORMAL, [1, 1, 1, 1, 1, 0, 0, MARK]);
   }
   p.push(RECORD_MODULE, [1, 0, 2]);
   p.push(DEPENDENCY_MODULE, [1, 2]);
@@ -32,7 +32,7 @@ fn few() -> Project {
 /// A further row of a list, of which there are `row` already. The entries repeat from the fifth on.
 fn further(p: &mut Project, first: usize, row: u32) {
   match first {
-    NORMAL => p.push(NORMAL, [1, 1, 0, 0, 1, 0, MARK]),
+    NORMAL => p.push(NORMAL, [1, 1, 0, 0, 1, 0, MARK, MARK]),
     RECORD_MODULE => p.push(first, [1, row % 4, row % 4]),
     DEPENDENCY_MODULE => p.push(first, [row % 4, 3]),
     STATEMENT_MODULE => p.push(first, [1, row % 2]),

@@ -86,12 +86,13 @@ fn numbered(seed: u64, number: usize) -> Project {
 
 fn run_all(flags: &Flags) {
   let mut judge = Judge { subject: Some(library::call), ..Judge::default() };
-  let families: [(&str, fn(&mut dyn FnMut(Project))); 6] = [
+  let families: [(&str, fn(&mut dyn FnMut(Project))); 7] = [
     ("graphs of three modules", exhaustive::module_graphs),
     ("graphs of chunks", exhaustive::chunk_graphs),
     ("three chunks with ties", exhaustive::tied_chunks),
     ("rows of two modules", exhaustive::module_rows),
     ("references of three symbols", exhaustive::references),
+    ("four modules that supersede each other", exhaustive::replaced_modules),
     ("sizes around the limits", limits::limits),
   ];
   for (name, family) in families {
@@ -129,7 +130,7 @@ fn wrong_readings(flags: &Flags) {
 /// The whole output of a program on the texts of random projects.
 fn judge_program(flags: &Flags, program: &str) {
   let mut texts = 0;
-  let mut refused = [0; 8];
+  let mut refused = [0; 11];
   for number in 0..flags.count {
     let mut r = Random::new(flags.seed.wrapping_add(number as u64));
     let Some(text) = program::text_of(&mut r, &numbered(flags.seed, number)) else { continue };
@@ -140,9 +141,9 @@ fn judge_program(flags: &Flags, program: &str) {
       exit(1);
     }
     texts += 1;
-    refused[right.strip_prefix("refused ").map_or(0, |rest| usize::from(rest.as_bytes()[0] - b'0'))] += 1;
+    refused[right.strip_prefix("refused ").map_or(0, |rest| rest.trim_end().parse().unwrap())] += 1;
   }
-  println!("{texts} texts (seed {}); accepted and refused by 1 to 7: {refused:?}", flags.seed);
+  println!("{texts} texts (seed {}); accepted and refused by 1 to 10: {refused:?}", flags.seed);
 }
 
 fn replay_list(flags: &Flags) {

@@ -1,5 +1,7 @@
-//! Document 01's operations, with ties as C-13 has them and the risk in two kinds as C-17 has it, and C-12's, written from their words and not from the Rust. Plain and slow on purpose.
-//! A project that it is made of passes tests 1 to 4.
+//! Document 01's operations, with ties as C-13 has them, the risk in two kinds as C-17 has it and modules read through `newer` as C-18 has it, and C-12's, written from their
+//! words and not from the Rust. Plain and slow on purpose. A project that it is made of passes tests 1 to 4 and 10.
+use std::borrow::Cow;
+
 use project::{MARK, Project, column::*};
 
 use crate::wrong::Wrong;
@@ -54,7 +56,8 @@ struct Record {
 }
 
 pub struct Model<'a> {
-  p: &'a Project,
+  /// As it is read.
+  p: Cow<'a, Project>,
   wrong: Option<Wrong>,
   /// The records of each module, in row order.
   records: Vec<Vec<Record>>,
@@ -80,6 +83,49 @@ fn rows_of(p: &Project, count: usize, first: usize) -> Vec<Vec<u32>> {
     rows[of as usize].push(value);
   }
   rows
+}
+
+/// "Record targets and dependencies are read through it until a module with `-` is reached."
+fn read(p: &Project, wrong: Option<Wrong>) -> Cow<'_, Project> {
+  if p[NEWER].iter().all(|&newer| newer == MARK) {
+    return Cow::Borrowed(p);
+  }
+  let is = |reading: Wrong| wrong == Some(reading);
+  let last = |module: &mut u32| {
+    while let Some(&newer) = p[NEWER].get(*module as usize) {
+      if newer == MARK {
+        break;
+      }
+      *module = newer;
+      if is(Wrong::OneStepOnly) {
+        break;
+      }
+    }
+  };
+  let mut columns = vec![];
+  if !is(Wrong::TargetsAsWritten) {
+    columns.push(RECORD_TARGET);
+  }
+  if !is(Wrong::DependenciesAsWritten) {
+    columns.push(DEPENDENCY);
+  }
+  for (reading, column) in [
+    (Wrong::OldRecordsKept, RECORD_MODULE),
+    (Wrong::MembersReplaced, MEMBER),
+    (Wrong::EntriesReplaced, ENTRY),
+    (Wrong::OwnersReplaced, OWNER),
+    (Wrong::SeedsReplaced, SEED),
+  ] {
+    if is(reading) {
+      columns.push(column);
+    }
+  }
+  let mut read = p.clone();
+  columns.into_iter().for_each(|column| read[column].iter_mut().for_each(last));
+  if is(Wrong::RuntimeReplaced) {
+    last(&mut read.runtime);
+  }
+  Cow::Owned(read)
 }
 
 /// A walk that lists a module after what it leads to.
@@ -117,19 +163,21 @@ impl<'a> Model<'a> {
 
   /// The model with one thing done wrong: what a comparison must find.
   pub fn turned(p: &'a Project, wrong: Option<Wrong>) -> Self {
+    let p = read(p, wrong);
     let mut records = vec![Vec::new(); p.modules()];
     for row in 0..p[RECORD_MODULE].len() {
       let record = Record { kind: p[RECORD_KIND][row], target: p[RECORD_TARGET][row] };
       records[p[RECORD_MODULE][row] as usize].push(record);
     }
+    let (modules, chunks) = (p.modules(), p.chunks());
     let mut model = Self {
-      p,
       wrong,
       records,
-      imported: rows_of(p, p.chunks(), IMPORT_CHUNK),
-      members: rows_of(p, p.chunks(), MEMBER_CHUNK),
-      links: rows_of(p, p[OWNER].len(), CHAIN_SYMBOL),
-      depended: rows_of(p, p[REFERENCE_STATEMENT].len(), DEPENDED_REFERENCE),
+      imported: rows_of(&p, p.chunks(), IMPORT_CHUNK),
+      members: rows_of(&p, p.chunks(), MEMBER_CHUNK),
+      links: rows_of(&p, p[OWNER].len(), CHAIN_SYMBOL),
+      depended: rows_of(&p, p[REFERENCE_STATEMENT].len(), DEPENDED_REFERENCE),
+      p,
       sensitive: Vec::new(),
       eligible: Vec::new(),
       onward: Vec::new(),
@@ -137,9 +185,9 @@ impl<'a> Model<'a> {
       entry_orders: Vec::new(),
     };
     model.sensitive = model.all_sensitive();
-    model.eligible = (0..p.modules() as u32).map(|m| model.is_eligible(m)).collect();
-    model.onward = (0..p.chunks() as u32).map(|chunk| model.onward_of(chunk)).collect();
-    model.components = (0..p.chunks() as u32).map(|chunk| model.component_of(chunk)).collect();
+    model.eligible = (0..modules as u32).map(|m| model.is_eligible(m)).collect();
+    model.onward = (0..chunks as u32).map(|chunk| model.onward_of(chunk)).collect();
+    model.components = (0..chunks as u32).map(|chunk| model.component_of(chunk)).collect();
     model.entry_orders = model.analysed().into_iter().map(|entry| model.expected(entry)).collect();
     model
   }

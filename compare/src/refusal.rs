@@ -1,4 +1,4 @@
-//! Document 01's refusals 1 to 6, read from its words alone.
+//! Document 01's refusals 1 to 6 and C-18's 10, read from their words alone.
 use project::{COLUMNS, LISTS, MARK, Project, column::*};
 
 use crate::{lent::Lent, model::Call};
@@ -14,10 +14,12 @@ pub enum Values {
   RowOrMark(usize),
   /// "any value but the mark"
   NotMark,
+  /// `newer`, a later row of the modules or `-`: 10, never 2.
+  Later,
 }
 
 pub fn values(column: usize) -> Values {
-  use Values::{Below, NotMark, Row, RowOrMark};
+  use Values::{Below, Later, NotMark, Row, RowOrMark};
   const MODULE: usize = NORMAL;
   const RECORD: usize = RECORD_MODULE;
   const STATEMENT: usize = STATEMENT_MODULE;
@@ -38,6 +40,7 @@ pub fn values(column: usize) -> Values {
     REFERENCE_SYMBOL => RowOrMark(SYMBOL),
     DEPENDED_REFERENCE => Row(REFERENCE),
     ORDER => NotMark,
+    NEWER => Later,
     MEMBER_CHUNK | IMPORT_CHUNK | IMPORTS => Row(CHUNKS),
     _ => unreachable!(),
   }
@@ -69,6 +72,7 @@ fn inside(p: &Project) -> bool {
     Values::Row(list) => (value as usize) < p[list].len(),
     Values::RowOrMark(list) => value == MARK || (value as usize) < p[list].len(),
     Values::NotMark => value != MARK,
+    Values::Later => true,
   };
   (p.runtime as usize) < p.modules()
     && p.dynamic < 2
@@ -107,7 +111,14 @@ fn agreeing(p: &Project) -> bool {
     || import_twice)
 }
 
-/// The lowest of 1 to 4 that applies, else 0.
+/// 10: "a `newer` that is neither missing nor the number of a later module row"
+fn superseding(p: &Project) -> bool {
+  p[NEWER].iter().enumerate().all(|(row, &newer)| {
+    newer == MARK || (row < newer as usize && (newer as usize) < p.modules())
+  })
+}
+
+/// The first of 1 to 4 and 10 that applies, else 0.
 pub fn of_project(p: &Project) -> u32 {
   if !sizes(p) {
     1
@@ -117,6 +128,8 @@ pub fn of_project(p: &Project) -> u32 {
     3
   } else if !agreeing(p) {
     4
+  } else if !superseding(p) {
+    10
   } else {
     0
   }

@@ -169,9 +169,9 @@ fn ties(random: &dyn Fn(usize) -> Project) -> Vec<Case> {
 fn whole() -> Project {
   let mut p = Project::default();
   for _ in 0..3 {
-    p.push(NORMAL, [1, 1, 1, 1, 1, 0, 0]);
+    p.push(NORMAL, [1, 1, 1, 1, 1, 0, 0, MARK]);
   }
-  p.push(NORMAL, [0, 1, 0, 0, 1, 0, MARK]);
+  p.push(NORMAL, [0, 1, 0, 0, 1, 0, MARK, MARK]);
   p.push(RECORD_MODULE, [1, 0, 2]);
   p.push(RECORD_MODULE, [2, 1, MARK]);
   p.push(DEPENDENCY_MODULE, [1, 2]);
@@ -207,7 +207,7 @@ fn refused(name: String, change: impl FnOnce(&mut Project)) -> Case {
   Case::of(format!("refused {name}"), &project, each_call(&project))
 }
 
-/// Each ground of 1 to 4; for 2 each column with the first value past its end, and with the mark where that isn't allowed.
+/// Each ground of 1 to 4 and of 10; for 2 each column with the first value past its end, and with the mark where that isn't allowed.
 fn refusals() -> Vec<Case> {
   let mut cases = vec![
     refused("1, no module".into(), |p| *p = Project::default()),
@@ -218,6 +218,7 @@ fn refusals() -> Vec<Case> {
   ];
   for column in 0..COLUMNS {
     let end = match values(column) {
+      Values::Later => continue,
       Values::Below(end) => end,
       Values::Row(list) | Values::RowOrMark(list) => whole()[list].len() as u32,
       Values::NotMark => MARK,
@@ -245,6 +246,9 @@ fn refusals() -> Vec<Case> {
   ];
   for (name, change) in fours {
     cases.push(refused(format!("4, {name}"), change));
+  }
+  for (row, newer) in [(0, 0), (2, 1), (0, 4), (3, MARK - 1)] {
+    cases.push(refused(format!("10, module {row} superseded by {newer}"), |p| p[NEWER][row] = newer));
   }
   cases
 }

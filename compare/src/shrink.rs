@@ -87,6 +87,7 @@ fn without(p: &Project, first: usize, rows: std::ops::Range<usize>) -> Option<Pr
         Values::Row(named) | Values::RowOrMark(named) => {
           left.map(|value| renumbered(named, value)).collect()
         }
+        Values::Later => left.map(|value| renumbered(NORMAL, value)).collect(),
         _ => left.collect(),
       };
     }
@@ -101,6 +102,7 @@ fn lower_values(p: &mut Project, shows: &dyn Fn(&Project) -> bool) {
       let plainest = match column {
         NORMAL | INCLUDED | EXPORTS => 1,
         CANONICAL => row as u32,
+        NEWER => MARK,
         _ => 0,
       };
       for value in [plainest, MARK] {

@@ -107,6 +107,16 @@ wrong! {
   CanonicalChainIgnored "a link of the canonical doesn't touch",
   CanonicalFollowedTwice "a canonical is followed again",
   LinksFollowedTwice "a link is followed again",
+  // replaced modules
+  TargetsAsWritten "record targets are read as written",
+  DependenciesAsWritten "dependencies are read as written",
+  OneStepOnly "a module is read through one replacement only",
+  OldRecordsKept "a superseding module keeps the old one's records",
+  MembersReplaced "members are read through",
+  EntriesReplaced "entries are read through",
+  OwnersReplaced "symbol owners are read through",
+  SeedsReplaced "seed rows are read through",
+  RuntimeReplaced "the runtime is read through",
 }
 
 impl Wrong {

@@ -13,7 +13,7 @@ use Rattle.tables.specs.declared.Answer.the-variants.{Refused, Counted}
 use Rattle.tables.specs.Project.{Project}
 use Rattle.tables.specs.Readings.{chunks}
 use Rattle.tables.proofs.Answering.{verdict-project, verdict-unfit, verdict-short, verdict-none, after-refused, after-accepted}
-use Rattle.table.specs.Table.{Lent}
+use Rattle.table.specs.Table.{read, current, Lent}
 use Rattle.table.proofs.Laws.{answer-refused, answer-accepted}
 use Rattle.chunk_cycles.specs.Cycles.{labelsOf, cyclicOf, reachesCycleOf}
 use Rattle.chunk_cycles.specs.Promise.{labelsVerdict, LabelsPromise, reachVerdict, ReachPromise}
@@ -72,3 +72,13 @@ module _ (t : Lent) (chunk : ℕ) where
 
     pub reach-done : chunk < chunks (t .project) → {r : ℕ} → r ≡ count → ReachPromise t chunk (Counted r)
     reach-done l {r} h = record { answered = answer-accepted (reachVerdict t chunk) count r (verdict-none (t .number) fits true accepts (lt-ltb chunk (chunks (t .project)) l) refl) h }
+
+-- chunks are read as they are written
+module _ (p : Project) where
+  pub labels-read : (made : List ℕ) (count : ℕ) → TableLabelled p made count → TableLabelled (current p) made count
+  unfolding current read labelsOf cyclicOf
+  labels-read made count l = record { same = l .same; cyclics = l .cyclics }
+
+  pub reach-read : (chunk : ℕ) → reachesCycleOf (current p) chunk ≡ reachesCycleOf p chunk
+  unfolding current read reachesCycleOf
+  reach-read chunk = refl

@@ -8,7 +8,7 @@ ghost use Rattle.lists.specs.Words.{every};
 ghost use Rattle.column_tests.specs.Shorter.{Shorter};
 ghost use Rattle.tables.specs.Accepted.{Below};
 ghost use Rattle.tables.specs.Lookups.{Rising};
-ghost use Rattle.tables.specs.Refusal.{moduleLimit, chunkLimit, below, belowOrMissing, rises, usesOwn, plainSymbols, entriesOnce, importsOnce};
+ghost use Rattle.tables.specs.Refusal.{moduleLimit, chunkLimit, below, belowOrMissing, rises, usesOwn, plainSymbols, entriesOnce, importsOnce, newerFits};
 use table::CHUNK_LIMIT;
 use table::MODULE_LIMIT;
 use tables::ModuleIdx;
@@ -135,6 +135,21 @@ pub fn plain_symbols<'a>(reference_form: &'a [u32], reference_symbol: &'a [u32])
     let mut i = 0;
     while i < rows {
         fit = fit & ((reference_form[i] == 2) | (reference_symbol[i] != ModuleIdx::MISSING));
+        i += 1;
+    }
+    fit
+}
+
+// Whether every `newer` is the missing mark or the number of a later row.
+pub fn newer_fits(newer: &[u32]) -> bool
+    ensures { λ r. ⌜ r ≡ newerFits (now (newer .entry)) ⌝ }
+{
+    let mut fit = true;
+    let mut i = 0;
+    while i < newer.len() {
+        let next = newer[i];
+        let at = next as usize;
+        fit = fit & ((next == ModuleIdx::MISSING) | ((i < at) & (at < newer.len())));
         i += 1;
     }
     fit

@@ -3,6 +3,7 @@ ghost use Rattle.table.specs.Table.{lent, lentWith};
 ghost use Rattle.at_risk.specs.Entry.{EntryCycleRisk};
 use analysed_entries::core::find_entry;
 use core::mark_cycle_risk;
+use current_columns::core::read_current;
 use refusal::refusal_number;
 use table::DEPENDENCY;
 use table::MEMBER;
@@ -10,6 +11,7 @@ use table::NORMAL;
 use table::RECORD_KIND;
 use table::RECORD_MODULE;
 use table::RECORD_TARGET;
+use table::ROW_LIMIT;
 use table::column;
 use table::rows;
 use tables::Answer;
@@ -57,7 +59,9 @@ pub fn cycle_risk_with_records<'a>(
     if marks.len() < modules {
         return Answer::Refused(6);
     }
-    let count = mark_cycle_risk(
+    let mut read_targets = [0u32; ROW_LIMIT];
+    let mut read_dependencies = [0u32; ROW_LIMIT];
+    read_current(
         runtime,
         dynamic,
         bounds,
@@ -65,7 +69,20 @@ pub fn cycle_risk_with_records<'a>(
         importers,
         kinds,
         targets,
-        dependencies,
+        &mut read_targets,
+        &mut read_dependencies,
+    );
+    let records = targets.len();
+    let dependency_rows = rows(bounds, columns, DEPENDENCY);
+    let count = mark_cycle_risk(
+        runtime,
+        dynamic,
+        bounds,
+        columns,
+        importers,
+        kinds,
+        &read_targets[..records],
+        &read_dependencies[..dependency_rows],
         members,
         &mut marks[..modules],
         root,

@@ -3,6 +3,7 @@ ghost use Rattle.table.specs.Table.{lent, lentWith};
 ghost use Rattle.entries_order.specs.Promise.{EntriesOrder};
 use column_tests::core::all_below;
 use core::list_entries;
+use current_columns::core::read_current;
 use refusal::refusal_number;
 use table::DEPENDENCY;
 use table::MEMBER;
@@ -10,6 +11,7 @@ use table::NORMAL;
 use table::RECORD_KIND;
 use table::RECORD_MODULE;
 use table::RECORD_TARGET;
+use table::ROW_LIMIT;
 use table::column;
 use table::rows;
 use tables::Answer;
@@ -41,7 +43,9 @@ pub fn entries_order_with_records<'a>(
     if order.len() < modules {
         return Answer::Refused(6);
     }
-    let count = list_entries(
+    let mut read_targets = [0u32; ROW_LIMIT];
+    let mut read_dependencies = [0u32; ROW_LIMIT];
+    read_current(
         runtime,
         dynamic,
         bounds,
@@ -49,7 +53,20 @@ pub fn entries_order_with_records<'a>(
         importers,
         kinds,
         targets,
-        column(bounds, columns, DEPENDENCY),
+        &mut read_targets,
+        &mut read_dependencies,
+    );
+    let records = targets.len();
+    let dependency_rows = rows(bounds, columns, DEPENDENCY);
+    let count = list_entries(
+        runtime,
+        dynamic,
+        bounds,
+        columns,
+        importers,
+        kinds,
+        &read_targets[..records],
+        &read_dependencies[..dependency_rows],
         column(bounds, columns, MEMBER),
         entries,
         order,

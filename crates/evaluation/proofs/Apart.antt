@@ -25,6 +25,7 @@ pair normal included kind target = record {
   exports = 1 ∷ 1 ∷ [];
   wrap = 0 ∷ 0 ∷ [];
   chunk = missing ∷ missing ∷ [];
+  newer = missing ∷ missing ∷ [];
   recordModule = 0 ∷ [];
   recordKind = kind ∷ [];
   recordTarget = target ∷ [];

@@ -15,7 +15,7 @@ use Rattle.walk.specs.Walk.{everywhere, postOrder}
 use Rattle.walk.specs.Reach.{Reach, here, step}
 use Rattle.tables.specs.Project.{Project, missing}
 use Rattle.tables.specs.Readings.{modules, isNormal, flagged, rowsOf, isImport, normalTarget, targetsOf}
-use Rattle.tables.specs.Refusal.{refusal, sized, sizesFit, valuesFit, rowsRise, rowsAgree, below, belowOrMissing, rises, allNormal, usesOwn, dependedResolved, plainSymbols, entriesOnce, importsOnce}
+use Rattle.tables.specs.Refusal.{refusal, sized, sizesFit, valuesFit, rowsRise, rowsAgree, below, belowOrMissing, rises, allNormal, usesOwn, dependedResolved, plainSymbols, entriesOnce, importsOnce, newerFits}
 use Rattle.evaluation.specs.Evaluation.{pop, innerModuleEvaluation, evaluate}
 use Rattle.evaluation.specs.Premises.{requestedOf, evaluateFrom, Reached, Premises}
 use Rattle.evaluation.proofs.Expected.{evaluation-gives-the-expected-order}
@@ -65,6 +65,7 @@ ring = record {
   exports = 1 ∷ 1 ∷ 1 ∷ 1 ∷ 0 ∷ 1 ∷ [];
   wrap = 0 ∷ 0 ∷ 0 ∷ 0 ∷ 0 ∷ 0 ∷ [];
   chunk = 0 ∷ 0 ∷ 0 ∷ 0 ∷ missing ∷ missing ∷ [];
+  newer = missing ∷ missing ∷ missing ∷ missing ∷ missing ∷ missing ∷ [];
   recordModule = 1 ∷ 1 ∷ 2 ∷ 3 ∷ 3 ∷ 3 ∷ 5 ∷ 5 ∷ [];
   recordKind = 0 ∷ 0 ∷ 0 ∷ 0 ∷ 0 ∷ 0 ∷ 1 ∷ 0 ∷ [];
   recordTarget = 2 ∷ 3 ∷ 3 ∷ 1 ∷ 2 ∷ 2 ∷ 4 ∷ missing ∷ [];
@@ -95,7 +96,7 @@ ring = record {
 
 -- the number of a project's tests, with all that they are made of open
 unfoldable pub tested : Project → ℕ
-unfolding refusal sized sizesFit valuesFit rowsRise rowsAgree below belowOrMissing rises allNormal usesOwn dependedResolved plainSymbols entriesOnce importsOnce zip
+unfolding refusal sized sizesFit valuesFit rowsRise rowsAgree below belowOrMissing rises allNormal usesOwn dependedResolved plainSymbols entriesOnce importsOnce newerFits zip
 tested p = refusal p
 
 pub ring-passes : refusal ring ≡ 0

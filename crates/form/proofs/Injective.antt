@@ -57,7 +57,7 @@ abbrev pub projectOf : List (List (List ℕ)) → Project
 projectOf ls =
     project
     (getD (at 0 0) 0 0) (getD (at 0 1) 0 0)
-    (at 1 0) (at 1 1) (at 1 2) (at 1 3) (at 1 4) (at 1 5) (at 1 6)
+    (at 1 0) (at 1 1) (at 1 2) (at 1 3) (at 1 4) (at 1 5) (at 1 6) (at 1 7)
     (at 2 0) (at 2 1) (at 2 2)
     (at 3 0) (at 3 1)
     (at 4 0) (at 4 1)

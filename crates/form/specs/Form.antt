@@ -63,7 +63,7 @@ sections (n ∷ ns) (l ∷ ls) = section n l ++ sections ns ls
 abbrev pub names : List String
 names =
     "runtime dynamic"
-    ∷ "normal included sensitive reads exports wrap chunk"
+    ∷ "normal included sensitive reads exports wrap chunk newer"
     ∷ "module kind target"
     ∷ "module dependency"
     ∷ "module included"
@@ -83,7 +83,7 @@ names =
 abbrev pub lists : Project → List (List (List ℕ))
 lists p =
     ((p .runtime ∷ []) ∷ (p .dynamic ∷ []) ∷ [])
-    ∷ (p .normal ∷ p .included ∷ p .sensitive ∷ p .reads ∷ p .exports ∷ p .wrap ∷ p .chunk ∷ [])
+    ∷ (p .normal ∷ p .included ∷ p .sensitive ∷ p .reads ∷ p .exports ∷ p .wrap ∷ p .chunk ∷ p .newer ∷ [])
     ∷ (p .recordModule ∷ p .recordKind ∷ p .recordTarget ∷ [])
     ∷ (p .dependencyModule ∷ p .dependency ∷ [])
     ∷ (p .statementModule ∷ p .statementIncluded ∷ [])

@@ -1,7 +1,7 @@
 -- The statements of specs/ToldApart, inhabited.
 -- Assumes nothing.
 use mathlib.Core.Path.{_≡_, refl, ap, _∙_}
-use mathlib.Core.Logic.{_⊎_, inl, inr, ⊎-elim}
+use mathlib.Core.Logic.{_⊎_, inl, inr, ⊎-elim, ⊎-map}
 use mathlib.Core.Bool.{Bool, true, false, cond, _&&_}
 use mathlib.Core.List.{List, _∷_}
 use Prim.Native.Nat.{ℕ, zero, suc, _≤_}
@@ -14,12 +14,12 @@ use Rattle.walk.specs.Walk.{everywhere}
 use Rattle.walk.proofs.Orders.{order-length}
 use Rattle.tables.specs.Project.{Project}
 use Rattle.tables.specs.Readings.{modules, chunks, isNormal, isAnalysed}
-use Rattle.tables.specs.Refusal.{moduleLimit, below, sizesFit, valuesFit, rowsRise, rowsAgree, refusal}
+use Rattle.tables.specs.Refusal.{moduleLimit, below, sizesFit, valuesFit, rowsRise, rowsAgree, newerFits, refusal}
 use Rattle.tables.specs.Answers.{numberOf, verdict}
 use Rattle.tables.specs.Accepted.{Accepted}
 use Rattle.tables.specs.declared.Answer.{Answer}
-use Rattle.table.specs.Table.{boundsFit, table, lent, answer}
-use Rattle.table.proofs.Laws.{lent-accepted}
+use Rattle.table.specs.Table.{boundsFit, table, current, lent, answer}
+use Rattle.table.proofs.Laws.{lent-current}
 use Rattle.sort_modules.specs.Sort.{staticsOf, visited, sorted}
 use Rattle.sort_modules.specs.OfProject.{sortedOf}
 use Rattle.expected_order.specs.OfProject.{expectedOf}
@@ -62,52 +62,57 @@ bit-few : (b : Bool) → bit b ≤ 1
 bit-few true = omega arith
 bit-few false = omega arith
 
--- a project's number is 4 at most
+-- a project's number is 4 at most, or 10
 
-refusal-most : (p : Project) → refusal p ≤ 4
+abbrev Known : ℕ → Type 0
+Known n = (n ≤ 4) ⊎ (n ≡ 10)
+
+refusal-known : (p : Project) → Known (refusal p)
 unfolding refusal
-refusal-most p = most (sizesFit p) (valuesFit p) (rowsRise p) (rowsAgree p)
+refusal-known p = known (sizesFit p) (valuesFit p) (rowsRise p) (rowsAgree p) (newerFits (p .newer))
   where
-    most : (a b c d : Bool) → cond a (cond b (cond c (cond d 0 4) 3) 2) 1 ≤ 4
-    most true true true true = omega arith
-    most true true true false = omega arith
-    most true true false d = omega arith
-    most true false c d = omega arith
-    most false b c d = omega arith
+    known : (a b c d e : Bool) → Known (cond a (cond b (cond c (cond d (cond e 0 10) 4) 3) 2) 1)
+    known true true true true true = inl (omega arith)
+    known true true true true false = inr refl
+    known true true true false e = inl (omega arith)
+    known true true false d e = inl (omega arith)
+    known true false c d e = inl (omega arith)
+    known false b c d e = inl (omega arith)
 
 -- the tests alone ask for no argument and no room
 tests-alone : (n : ℕ) → answer n 0 ≡ answer (verdict n true true) 0
 tests-alone zero = refl
 tests-alone (suc n) = refl
 
--- an answer by its number, of which 1 to 6 can be, and its count
+-- an answer by its number, of which 1 to 6 and 10 can be, and its count
 
 module _ (a : Answer) (r : ℕ) (code : r ≡ coded a) where
-  told : (n : ℕ) (fits room : Bool) (count : ℕ) → n ≤ 4 → (n ≡ 0 → count ≤ moduleLimit) → a ≡ answer (verdict n fits room) count → AcceptedWith a r ⊎ RefusedWith a r
-  told zero true true count most few e =
+  told : (n : ℕ) (fits room : Bool) (count : ℕ) → Known n → (n ≡ 0 → count ≤ moduleLimit) → a ≡ answer (verdict n fits room) count → AcceptedWith a r ⊎ RefusedWith a r
+  told zero true true count known few e =
       let q : r ≡ count = code ∙ ap coded e in
       let f = few refl in
       inl (record { accepted = rw q e; within = omega arith })
-  told zero true false count most few e = inr (record { number = 6; refused = e; code = code ∙ ap coded e; least = omega arith; greatest = omega arith })
-  told zero false room count most few e = inr (record { number = 5; refused = e; code = code ∙ ap coded e; least = omega arith; greatest = omega arith })
-  told (suc n) fits room count most few e = inr (record { number = suc n; refused = e; code = code ∙ ap coded e; least = omega arith; greatest = omega arith })
+  told zero true false count known few e = inr (record { number = 6; refused = e; code = code ∙ ap coded e; least = omega arith; known = inl (omega arith) })
+  told zero false room count known few e = inr (record { number = 5; refused = e; code = code ∙ ap coded e; least = omega arith; known = inl (omega arith) })
+  told (suc n) fits room count known few e = inr (record { number = suc n; refused = e; code = code ∙ ap coded e; least = omega arith; known = ⊎-map (λ l. omega arith) (λ q. q) known })
 
 module _ (runtime dynamic : ℕ) (bounds columns : List ℕ) where
+  -- the project as it is read
   abbrev p : Project
-  p = table runtime dynamic bounds columns
+  p = current (table runtime dynamic bounds columns)
 
-  number-most : lent runtime dynamic bounds columns .number ≤ 4
-  number-most = most (boundsFit bounds columns)
+  number-known : Known (lent runtime dynamic bounds columns .number)
+  number-known = known (boundsFit bounds columns)
     where
-      most : (b : Bool) → cond b (refusal p) 1 ≤ 4
-      most true = refusal-most p
-      most false = omega arith
+      known : (b : Bool) → Known (cond b (refusal (table runtime dynamic bounds columns)) 1)
+      known true = refusal-known (table runtime dynamic bounds columns)
+      known false = inl (omega arith)
 
   module _ (first second : List ℕ) (a : Answer) (r : ℕ) (first′ second′ : List ℕ) (code : r ≡ coded a) where
     by-number : (fits room : Bool) (count : ℕ) → (Accepted p → count ≤ moduleLimit)
         → a ≡ answer (verdict (lent runtime dynamic bounds columns .number) fits room) count → AcceptedWith a r ⊎ RefusedWith a r
     by-number fits room count few =
-        told a r code (lent runtime dynamic bounds columns .number) fits room count number-most (λ z. few (lent-accepted bounds columns p z))
+        told a r code (lent runtime dynamic bounds columns .number) fits room count number-known (λ z. few (lent-current bounds columns (table runtime dynamic bounds columns) z))
 
     by-promise : (call : Call) → Promise call (lent runtime dynamic bounds columns) first second a first′ second′ → AcceptedWith a r ⊎ RefusedWith a r
     by-promise Sort h = by-number true (leb (modules p) (length first) && leb (modules p) (length second)) (length (sortedOf p)) (λ ok. omega (arith, sorted-few p, ok .sizes .normal)) (h .answered)

@@ -18,13 +18,13 @@ pub record AcceptedWith (answer : Answer) (r : ℕ) : Type 0 where
   pub accepted : answer ≡ Counted r
   pub within : r ≤ moduleLimit
 
--- the call is refused, and r is 2 ^ 32 plus its number: 1 to 6
+-- the call is refused, and r is 2 ^ 32 plus its number: 1 to 6, or 10
 pub record RefusedWith (answer : Answer) (r : ℕ) : Type 0 where
   pub number : ℕ
   pub refused : answer ≡ Refused number
   pub code : r ≡ 2 ^ 32 + number
   pub least : 1 ≤ number
-  pub greatest : number ≤ 6
+  pub known : (number ≤ 6) ⊎ (number ≡ 10)
 
 -- every answer is one of the two
 unfoldable pub AnswersAreToldApart : Type 0

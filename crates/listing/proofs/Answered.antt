@@ -12,7 +12,7 @@ use Rattle.tables.specs.Refusal.{refusal}
 use Rattle.tables.specs.Answers.{numberOf, after}
 use Rattle.tables.specs.declared.Answer.{Answer}
 use Rattle.tables.specs.declared.Answer.the-variants.{Refused, Counted}
-use Rattle.table.specs.Table.{lent, lentAs}
+use Rattle.table.specs.Table.{current, lent, lentAs}
 use Rattle.table.proofs.Laws.{number-fit}
 use Rattle.form.proofs.Injective.{injective}
 use Rattle.listing.specs.Reading.{IsText, settingsOf, valuesOf, boundsOf, Reads}
@@ -37,9 +37,9 @@ module _ (s settings settings′ bounds bounds′ columns columns′ : List ℕ)
           a .5 ∙ ap (λ (q : Project). after 0 columns (valuesOf q)) e,
         )
 
-    -- and what was read is lent as p is: an operation on it is one on p
+    -- and what was read is lent as p is: an operation on it is one on p, read through `newer`
     pub reads-lent : (k : ℕ) → Reads s settings settings′ bounds bounds′ columns columns′ (Counted k)
-        → lent (getD settings′ 0 0) (getD settings′ 1 0) bounds′ (take k columns′) ≡ record { number = refusal p; project = p }
+        → lent (getD settings′ 0 0) (getD settings′ 1 0) bounds′ (take k columns′) ≡ record { number = refusal p; project = current p }
     reads-lent k a =
         let w = reads-as (Counted k) a in
         let n : k ≡ length (valuesOf p) = cc (w .0) in
@@ -47,4 +47,4 @@ module _ (s settings settings′ bounds bounds′ columns columns′ : List ℕ)
         ∙ ap (λ (x : List ℕ). lent (p .runtime) (p .dynamic) (boundsOf p) x)
         (ap₂ take n (w .3) ∙ take-append-seam (valuesOf p) (drop (length (valuesOf p)) columns))
         ∙ ap (lentAs (boundsOf p) (valuesOf p)) (table-of p)
-        ∙ ap (λ (x : ℕ). record { number = x; project = p }) (sym (number-fit (boundsOf p) (valuesOf p) p (bounds-fit p)))
+        ∙ ap (λ (x : ℕ). record { number = x; project = current p }) (sym (number-fit (boundsOf p) (valuesOf p) p (bounds-fit p)))

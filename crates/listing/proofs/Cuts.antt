@@ -65,7 +65,7 @@ pub record Cutting (rows ends values₀ bounds₀ values bounds : List ℕ) (l f
   pub below : l ≤ 15
   pub climbs : Climbs first (drop l ends) 32768
   pub back : to ≤ first
-  pub wide : j + total (drop l widths) ≡ 33
+  pub wide : j + total (drop l widths) ≡ 34
   pub put : sets values to (flatten (cut (drop l widths) (drop l ends) first rows)) ≡ sets values₀ 0 (flatten (all rows ends))
   pub noted : sets bounds (j + 1) (tails to (cut (drop l widths) (drop l ends) first rows)) ≡ sets bounds₀ 1 (tails 0 (all rows ends))
 
@@ -100,7 +100,7 @@ module _ (rows ends values₀ bounds₀ : List ℕ) where
       pub cut-up : first ≤ e
       cut-up = climbs-head climb .0
 
-      pub cut-wide : (0 < w) × (w < 8) × (j + w < 34)
+      pub cut-wide : (0 < w) × (w < 9) × (j + w < 35)
       unfolding total
       cut-wide =
           let n = narrow l t in

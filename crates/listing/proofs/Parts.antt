@@ -48,17 +48,17 @@ projectWith runtime dynamic cs =
     project runtime dynamic
     (at 0) (at 1) (at 2) (at 3) (at 4) (at 5) (at 6) (at 7) (at 8) (at 9) (at 10)
     (at 11) (at 12) (at 13) (at 14) (at 15) (at 16) (at 17) (at 18) (at 19) (at 20) (at 21)
-    (at 22) (at 23) (at 24) (at 25) (at 26) (at 27) (at 28) (at 29) (at 30) (at 31) (at 32)
+    (at 22) (at 23) (at 24) (at 25) (at 26) (at 27) (at 28) (at 29) (at 30) (at 31) (at 32) (at 33)
   where
     at : ℕ → List ℕ
     at k = getD cs k []
 
 -- the columns of a project, by their bounds, are a table of it
 module _ (p : Project) where
-  columns-of : map (columnAt (boundsOf p) (valuesOf p)) (upTo 33) ≡ columnsOf p
+  columns-of : map (columnAt (boundsOf p) (valuesOf p)) (upTo 34) ≡ columnsOf p
   unfolding flatten
   columns-of =
-      upTo-same (columnAt (boundsOf p) (valuesOf p)) (λ (k : ℕ). getD (columnsOf p) k []) 33
+      upTo-same (columnAt (boundsOf p) (valuesOf p)) (λ (k : ℕ). getD (columnsOf p) k []) 34
       (λ k h. ap (λ (v : List ℕ). columnAt (boundsOf p) v k) (sym (append-nil (valuesOf p))) ∙ column-of (columnsOf p) 0 [] [] k refl h)
       ∙ places [] (columnsOf p)
 
@@ -80,5 +80,5 @@ last-tail at (c ∷ cs) = last-tail (at + length c) cs ∙ omega (arith, length-
 pub bounds-fit : (p : Project) → boundsFit (boundsOf p) (valuesOf p) ≡ true
 unfolding boundsFit flatten
 bounds-fit p =
-    ap₂ _&&_ (eq-eqb (length (boundsOf p)) 34 (ap suc (tails-length 0 (columnsOf p))))
-    (ap₂ (λ (a b : Bool). a && b) (eq-eqb (getD (boundsOf p) 33 0) (length (valuesOf p)) (last-tail 0 (columnsOf p) ∙ omega arith)) (rises-tails 0 (columnsOf p)))
+    ap₂ _&&_ (eq-eqb (length (boundsOf p)) 35 (ap suc (tails-length 0 (columnsOf p))))
+    (ap₂ (λ (a b : Bool). a && b) (eq-eqb (getD (boundsOf p) 34 0) (length (valuesOf p)) (last-tail 0 (columnsOf p) ∙ omega arith)) (rises-tails 0 (columnsOf p)))

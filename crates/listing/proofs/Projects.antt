@@ -35,7 +35,7 @@ shaped-alike (w ∷ ws) ((c ∷ a) ∷ cs) ((d ∷ b) ∷ ds) (a-list h l s) (a-
 lists-shaped : (p : Project) → Shaped widths (lists p)
 lists-shaped p =
     a-list {w = 2} (omega arith) refl
-    (a-list {w = 7} (omega arith) refl
+    (a-list {w = 8} (omega arith) refl
     (a-list {w = 3} (omega arith) refl
     (a-list {w = 2} (omega arith) refl
     (a-list {w = 2} (omega arith) refl
@@ -273,7 +273,7 @@ module _ (s d e : List ℕ) (at k : ℕ) (d′ e′ : List ℕ) (a : AllRead s h
             n ∙ parts .size ∙ ap (λ (cs : List (List (List ℕ))). 2 + length (flatten (flatten (drop 1 cs)))) (sym result-lists)
 
         pub accepted : (settings settings′ bounds bounds′ columns columns′ : List ℕ) → length s ≤ 65536
-            → length settings ≡ 2 → length bounds ≡ 34 → length columns ≡ 32768
+            → length settings ≡ 2 → length bounds ≡ 35 → length columns ≡ 32768
             → settings′ ≡ sets settings 0 (getD d′ 0 0 ∷ getD d′ 1 0 ∷ [])
             → bounds′ ≡ sets bounds 0 (0 ∷ tails 0 (cut (drop 1 widths) (drop 1 e′) 2 d′))
             → columns′ ≡ sets columns 0 (flatten (cut (drop 1 widths) (drop 1 e′) 2 d′))
@@ -321,7 +321,7 @@ module _ {s d d′ e e′ : List ℕ} {r : Cursor} (a : Steps s heads d d′ e e
         pub accept-count : 2 ≤ k
         accept-count = omega (arith, result-size s d e at k d′ e′ lists-read le end two ld count-fits)
 
-        pub accept : (settings settings′ bounds bounds′ columns columns′ : List ℕ) → length settings ≡ 2 → length bounds ≡ 34 → length columns ≡ 32768
+        pub accept : (settings settings′ bounds bounds′ columns columns′ : List ℕ) → length settings ≡ 2 → length bounds ≡ 35 → length columns ≡ 32768
             → settings′ ≡ sets settings 0 (getD d′ 0 0 ∷ getD d′ 1 0 ∷ [])
             → bounds′ ≡ sets bounds 0 (0 ∷ tails 0 (cut (drop 1 widths) (drop 1 e′) 2 d′))
             → columns′ ≡ sets columns 0 (flatten (cut (drop 1 widths) (drop 1 e′) 2 d′))

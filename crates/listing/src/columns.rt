@@ -28,7 +28,7 @@ fn copy_column(
     columns: &mut [u32],
     to: usize,
 )
-    requires { ⌜ ((r : ℕ) → r < n → first + r * w < 32768) × (w < 8) × (to + n ≤ 32768) × (length (now columns) ≡ 32768) ⌝ }
+    requires { ⌜ ((r : ℕ) → r < n → first + r * w < 32768) × (w < 9) × (to + n ≤ 32768) × (length (now columns) ≡ 32768) ⌝ }
     ensures { λ _. ⌜ now (columns .exit) ≡ sets (now (columns .entry)) to (stripe w first n (now (rows .entry))) ⌝ }
 {
     let mut r = 0;
@@ -52,7 +52,7 @@ fn spread_list(
     to: usize,
     j: usize,
 ) -> usize
-    requires { ⌜ (first + n * w ≤ 32768) × (to + n * w ≤ 32768) × (w < 8) × (j + w < 34) × (length (now columns) ≡ 32768) × (length (now bounds) ≡ 34) ⌝ }
+    requires { ⌜ (first + n * w ≤ 32768) × (to + n * w ≤ 32768) × (w < 9) × (j + w < 35) × (length (now columns) ≡ 32768) × (length (now bounds) ≡ 35) ⌝ }
     ensures { λ r. ⌜ r ≡ to + n * w ⌝ }
     ensures { λ r. ⌜ now (columns .exit) ≡ sets (now (columns .entry)) to (flatten (stripes w first n (now (rows .entry)) (upTo w))) ⌝ }
     ensures { λ r. ⌜ now (bounds .exit) ≡ sets (now (bounds .entry)) (j + 1) (tails to (stripes w first n (now (rows .entry)) (upTo w))) ⌝ }
@@ -70,7 +70,7 @@ fn spread_list(
 
 // Copies the columns of every list but the settings, which end in rows where ends says, to columns from place 0.
 pub fn spread(rows: &[u32; 32768], ends: &[usize; 15], bounds: &mut [u32], columns: &mut [u32])
-    requires { ⌜ Climbs 2 (drop 1 (now ends)) 32768 × (length (now ends) ≡ 15) × (length (now columns) ≡ 32768) × (length (now bounds) ≡ 34) ⌝ }
+    requires { ⌜ Climbs 2 (drop 1 (now ends)) 32768 × (length (now ends) ≡ 15) × (length (now columns) ≡ 32768) × (length (now bounds) ≡ 35) ⌝ }
     ensures { λ _. ⌜ now (columns .exit) ≡ sets (now (columns .entry)) 0 (flatten (cut (drop 1 widths) (drop 1 (now (ends .entry))) 2 (now (rows .entry)))) ⌝ }
     ensures { λ _. ⌜ now (bounds .exit) ≡ sets (now (bounds .entry)) 0 (0 ∷ tails 0 (cut (drop 1 widths) (drop 1 (now (ends .entry))) 2 (now (rows .entry)))) ⌝ }
 {

@@ -17,24 +17,24 @@ use tables::Answer;
 const STARTS: [usize; 16] = [
     0,
     21,
-    129,
-    161,
-    188,
-    205,
-    223,
-    240,
-    253,
-    276,
-    296,
-    307,
-    337,
-    356,
-    373,
-    379,
+    143,
+    175,
+    202,
+    219,
+    237,
+    254,
+    267,
+    290,
+    310,
+    321,
+    351,
+    370,
+    387,
+    393,
 ];
 
 // How long each line of names is.
-const NAMES: [usize; 15] = [16, 51, 19, 18, 16, 17, 16, 12, 22, 19, 6, 13, 14, 12, 5];
+const NAMES: [usize; 15] = [16, 57, 19, 18, 16, 17, 16, 12, 22, 19, 6, 13, 14, 12, 5];
 
 // Puts a byte, if there is room for it.
 fn put_byte(text: &mut [u8], at: usize, b: u8) -> usize {
@@ -223,27 +223,13 @@ fn lists(listing: &[u8]) {
 // Texts and lists of the largest sizes, and one more.
 fn size_cases(listing: &[u8]) {
     // 0: 65,536 bytes
-    filled(
-        listing,
-        0,
-        2,
-        b"1 0 2\n",
-        10858,
-        b"1 0 10\n1 0 10\n1 0 10\n\n",
-    );
+    filled(listing, 0, 2, b"1 0 2\n", 10858, b"1 0 10\n\n");
     // 1: 65,537 bytes
-    filled(
-        listing,
-        1,
-        2,
-        b"1 0 2\n",
-        10857,
-        b"1 0 10\n1 0 10\n1 0 10\n1 0 10\n\n",
-    );
-    // 2: 4,096 modules
-    filled(listing, 2, 1, b"1 1 0 0 1 0 0\n", 4096, b"\n");
-    // 3: 4,097 modules
-    filled(listing, 3, 1, b"1 1 0 0 1 0 0\n", 4097, b"\n");
+    filled(listing, 1, 2, b"1 0 2\n", 10857, b"1 0 10\n1 0 10\n\n");
+    // 2: 4,000 modules
+    filled(listing, 2, 1, b"1 1 0 0 1 0 0 -\n", 4000, b"\n");
+    // 3: 4,096 modules: too long a text
+    filled(listing, 3, 1, b"1 1 0 0 1 0 0 -\n", 4096, b"\n");
     // 4: no module
     filled(listing, 4, 1, b"", 0, b"\n");
     // 5: 1,024 chunks
@@ -325,6 +311,45 @@ fn number_cases(listing: &[u8]) {
     replaced(listing, 34, 13, b"entry chunk\n1 -0\n\n");
 }
 
+// The modules' last field.
+fn newer_cases(listing: &[u8]) {
+    // 35: the line of names without it
+    replaced(
+        listing,
+        35,
+        1,
+        b"normal included sensitive reads exports wrap chunk\n1 1 0 0 1 0 -\n\n",
+    );
+    // 36: a row without it
+    replaced(
+        listing,
+        36,
+        1,
+        b"normal included sensitive reads exports wrap chunk newer\n1 1 0 0 1 0 -\n\n",
+    );
+    // 37: digits for the mark
+    replaced(
+        listing,
+        37,
+        1,
+        b"normal included sensitive reads exports wrap chunk newer\n1 1 0 0 1 0 - 4294967295\n\n",
+    );
+    // 38: 4294967294, in the last row
+    replaced(
+        listing,
+        38,
+        1,
+        b"normal included sensitive reads exports wrap chunk newer\n1 1 0 0 1 0 1 -\n1 1 1 0 1 0 0 -\n1 1 1 0 1 0 0 -\n1 1 1 0 1 0 1 4294967294\n\n",
+    );
+    // 39: a later row
+    replaced(
+        listing,
+        39,
+        1,
+        b"normal included sensitive reads exports wrap chunk newer\n1 1 0 0 1 0 1 -\n1 1 1 0 1 0 0 -\n1 1 1 0 1 0 0 3\n1 1 1 0 1 0 1 -\n\n",
+    );
+}
+
 fn line_answer(answer: Answer) {
     match answer {
         Answer::Refused(number) => print(b"refused", &[], &[number]),
@@ -367,6 +392,7 @@ fn main() {
     row_cases(&listing);
     end_cases(&listing);
     number_cases(&listing);
+    newer_cases(&listing);
     lists(&listing);
     line_cases(&[4294967295, 10]);
     print(b"largest", &[4294967294], &[0, 9, 10, 99, 100]);

@@ -23,7 +23,6 @@ use sensitivity::core::mark_table_sensitive;
 use table::CHUNK_LIMIT;
 use table::MODULE_LIMIT;
 use table::ORDER;
-use table::ROW_LIMIT;
 use table::rows;
 use visit_columns::core::PREPARED;
 use visit_columns::core::prepare_table;
@@ -111,7 +110,7 @@ fn mark_risks<'a>(
     requires made { λ p. ⌜ Made p (now labels) (now prepared) (now sensitives) (now eligibles) (length (now out)) ⌝ }
     ensures { λ p _. ⌜ now (out .exit) ≡ marksOf (risksOf p) (modules p) ⌝ }
 {
-    let mut roots = [0u32; ROW_LIMIT];
+    let mut roots = [0u32; MODULE_LIMIT];
     let count = list_table_roots(
         runtime,
         dynamic,

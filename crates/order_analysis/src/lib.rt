@@ -2,6 +2,7 @@
 ghost use Rattle.table.specs.Table.{lent, lentWith};
 ghost use Rattle.order_analysis.specs.Whole.{WholeAnalysis};
 use core::analyze;
+use current_columns::core::read_current;
 use refusal::refusal_number;
 use table::DEPENDENCY;
 use table::MEMBER;
@@ -9,6 +10,7 @@ use table::NORMAL;
 use table::RECORD_KIND;
 use table::RECORD_MODULE;
 use table::RECORD_TARGET;
+use table::ROW_LIMIT;
 use table::column;
 use table::rows;
 use tables::Answer;
@@ -37,7 +39,9 @@ pub fn analyze_execution_order_with_records<'a>(
     if marks.len() < n {
         return Answer::Refused(6);
     }
-    let count = analyze(
+    let mut read_targets = [0u32; ROW_LIMIT];
+    let mut read_dependencies = [0u32; ROW_LIMIT];
+    read_current(
         runtime,
         dynamic,
         bounds,
@@ -45,7 +49,20 @@ pub fn analyze_execution_order_with_records<'a>(
         importers,
         kinds,
         targets,
-        column(bounds, columns, DEPENDENCY),
+        &mut read_targets,
+        &mut read_dependencies,
+    );
+    let records = targets.len();
+    let dependency_rows = rows(bounds, columns, DEPENDENCY);
+    let count = analyze(
+        runtime,
+        dynamic,
+        bounds,
+        columns,
+        importers,
+        kinds,
+        &read_targets[..records],
+        &read_dependencies[..dependency_rows],
         column(bounds, columns, MEMBER),
         &mut marks[..n],
     );

@@ -279,7 +279,7 @@ pub fn build_order_wrap_plan<'a>(
     requires plan { λ p. ⌜ Marked p (now plan) ⌝ }
     ensures { λ p _. ⌜ now (plan .exit) ≡ closed p (now (plan .entry)) ⌝ }
 {
-    let mut roots = [0u32; ROW_LIMIT];
+    let mut roots = [0u32; MODULE_LIMIT];
     let count = list_table_roots(
         runtime,
         dynamic,

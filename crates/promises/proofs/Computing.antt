@@ -4,7 +4,9 @@ use mathlib.Core.List.{flatMap, zip}
 use Rattle.walk.specs.Walk.{visit, walk, postOrder}
 use Rattle.walk.specs.Close.{rounds, close}
 use Rattle.tables.specs.Readings.{rowsOf, resolved, targetsOf, valuesOf, isAnalysed, entryChunkOf, analysed}
-use Rattle.tables.specs.Refusal.{sized, sizesFit, below, belowOrMissing, valuesFit, rises, rowsRise, allNormal, usesOwn, dependedResolved, plainSymbols, entriesOnce, importsOnce, rowsAgree, refusal}
+use Rattle.tables.specs.Refusal.{sized, sizesFit, below, belowOrMissing, valuesFit, rises, rowsRise, allNormal, usesOwn, dependedResolved, plainSymbols, entriesOnce, importsOnce, rowsAgree, newerFits, refusal}
+use Rattle.replacement.specs.Replacement.{through, latest}
+use Rattle.table.specs.Table.{read, current}
 use Rattle.sort_modules.specs.Sort.{visited, numbers, sorted}
 use Rattle.sort_modules.specs.OfProject.{numbersOf, sortedOf}
 use Rattle.expected_order.specs.Expected.{expected}
@@ -27,5 +29,5 @@ use Rattle.wrap_plan.specs.Planned.{planOf}
 use Rattle.order_analysis.specs.Whole.{seedsOf, wholePlan}
 
 unfoldable pub computing : Unit {0}
-unfolding visit walk postOrder rounds close rowsOf resolved targetsOf valuesOf isAnalysed entryChunkOf analysed sizesFit below belowOrMissing valuesFit rises rowsRise allNormal usesOwn dependedResolved plainSymbols entriesOnce importsOnce rowsAgree refusal visited numbers sorted numbersOf sortedOf expected expectedOf entriesOrder expectedOfEntries sortBy loadOrder triggered execute eagerMembers executeMembers visitChunk runFrom runOf actualOf hostsOf connected component cyclic label labels reachesCycle labelsOf cyclicOf reachesCycleOf cycles.reached wakes usesWrapped sensitive eligible early isFlagged orderRisk cycleRisk riskOf expectedSensitiveOf orderRiskOfEntry cycleRiskOfEntry riskOfEntry suffixAsks componentAsks leads importAsks symbolTouches referenceTouches readAsks asked start planFrom plan.reached ordersOf planOf seedsOf wholePlan flatMap sized zip actualSensitiveOf
+unfolding visit walk postOrder rounds close rowsOf resolved targetsOf valuesOf isAnalysed entryChunkOf analysed sizesFit below belowOrMissing valuesFit rises rowsRise allNormal usesOwn dependedResolved plainSymbols entriesOnce importsOnce rowsAgree newerFits refusal through latest read current visited numbers sorted numbersOf sortedOf expected expectedOf entriesOrder expectedOfEntries sortBy loadOrder triggered execute eagerMembers executeMembers visitChunk runFrom runOf actualOf hostsOf connected component cyclic label labels reachesCycle labelsOf cyclicOf reachesCycleOf cycles.reached wakes usesWrapped sensitive eligible early isFlagged orderRisk cycleRisk riskOf expectedSensitiveOf orderRiskOfEntry cycleRiskOfEntry riskOfEntry suffixAsks componentAsks leads importAsks symbolTouches referenceTouches readAsks asked start planFrom plan.reached ordersOf planOf seedsOf wholePlan flatMap sized zip actualSensitiveOf
 computing = tt

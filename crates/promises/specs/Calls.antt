@@ -7,7 +7,7 @@ use Rattle.lists.specs.Words.{ones, bit}
 use Rattle.tables.specs.Project.{Project}
 use Rattle.tables.specs.Refusal.{refusal}
 use Rattle.tables.specs.Answers.{counted, after}
-use Rattle.table.specs.Table.{Lent}
+use Rattle.table.specs.Table.{current, Lent}
 use Rattle.sort_modules.specs.OfProject.{numbersOf, sortedOf}
 use Rattle.sort_modules.specs.Promise.{sortVerdict}
 use Rattle.expected_order.specs.OfProject.{expectedOf}
@@ -66,6 +66,6 @@ outcomeOf t (planFromSeeds seeds marks) =
     outcome (planVerdict t seeds (length marks)) (ones (planOf (t .project) seeds)) ((marks, planOf (t .project) seeds) ∷ [])
 outcomeOf t (wholeAnalysis marks) = outcome (wholeVerdict t (length marks)) (ones (wholePlan (t .project))) ((marks, wholePlan (t .project)) ∷ [])
 
--- a project as a table that fits lends it: its number is that of the tests 1 to 4
+-- a project as a table that fits lends it: its number is that of the tests 1 to 4 and 10, and it is read through `newer`
 abbrev pub lentBy : Project → Lent
-lentBy p = record { number = refusal p; project = p }
+lentBy p = record { number = refusal p; project = current p }

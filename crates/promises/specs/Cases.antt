@@ -4,7 +4,7 @@ use mathlib.Core.Path.{_≡_}
 use mathlib.Core.List.{List, [], _∷_, map}
 use Prim.Native.Nat.{ℕ}
 use Rattle.tables.specs.Project.{Project, missing}
-use Rattle.promises.specs.Changes.{withImports, withNormal}
+use Rattle.promises.specs.Changes.{withImports, withNormal, withNewer}
 use Rattle.promises.specs.Listing.{listing}
 use Rattle.promises.specs.Calls.{Call, sort, expectedOrder, entriesTogether, actualOrder, chunkLabels, orderRiskOfAnEntry, cycleRiskOfAnEntry, planFromSeeds, wholeAnalysis, Outcome, outcomeOf, lentBy}
 
@@ -84,4 +84,27 @@ markedCases =
     ∷ accepts listing (entriesTogether (1 ∷ []) lent) 3 ((2 ∷ 3 ∷ 1 ∷ 6 ∷ 5 ∷ []) ∷ [])
     ∷ accepts external3 (entriesTogether (3 ∷ 2 ∷ []) lent) 1 ((2 ∷ 8 ∷ 7 ∷ 6 ∷ 5 ∷ []) ∷ [])
     ∷ refuses listing (entriesTogether (1 ∷ 4 ∷ []) lent) 5 (lent ∷ [])
+    ∷ []
+
+-- 02's replaced modules, on the same listing: 3 supersedes 2
+abbrev pub replaced2 : Project
+replaced2 = withNewer listing (missing ∷ missing ∷ 3 ∷ missing ∷ [])
+
+-- a `newer` that isn't a later row: the row itself, an earlier one, none
+abbrev pub newerOf2 : ℕ → Project
+newerOf2 m = withNewer listing (missing ∷ missing ∷ m ∷ missing ∷ [])
+
+unfoldable pub replacedCases : List Case
+replacedCases =
+    -- both records and both dependencies lead to 3; what is packed stays
+    accepts replaced2 (sort lent lent) 3 ((0 ∷ 2 ∷ missing ∷ 1 ∷ 5 ∷ []) ∷ (0 ∷ 3 ∷ 1 ∷ 6 ∷ 5 ∷ []) ∷ [])
+    ∷ accepts replaced2 (expectedOrder 1 lent) 2 ((3 ∷ 1 ∷ 7 ∷ 6 ∷ 5 ∷ []) ∷ [])
+    ∷ accepts replaced2 (actualOrder 1 lent lent) 4 ((0 ∷ 3 ∷ 2 ∷ 1 ∷ 5 ∷ []) ∷ (missing ∷ missing ∷ missing ∷ missing ∷ 5 ∷ []) ∷ [])
+    -- an entry and a seed are read as written
+    ∷ accepts replaced2 (expectedOrder 2 lent) 1 ((2 ∷ 8 ∷ 7 ∷ 6 ∷ 5 ∷ []) ∷ [])
+    ∷ accepts replaced2 (planFromSeeds (2 ∷ []) lent) 1 ((0 ∷ 0 ∷ 1 ∷ 0 ∷ 5 ∷ []) ∷ [])
+    -- 10, and before 5 and 6
+    ∷ refuses (newerOf2 2) (sort lent lent) 10 (lent ∷ lent ∷ [])
+    ∷ refuses (newerOf2 1) (expectedOrder 4 lent) 10 (lent ∷ [])
+    ∷ refuses (newerOf2 4) (sort three three) 10 (three ∷ three ∷ [])
     ∷ []

@@ -7,7 +7,7 @@ use mathlib.Core.List.{List, [], _∷_}
 use Prim.Native.Nat.{ℕ}
 use Rattle.lists.specs.Words.{isZero, any, every, elem, has}
 use Rattle.walk.specs.Joining.{setOf, Joins}
-use Rattle.tables.specs.Project.{Project, project}
+use Rattle.tables.specs.Project.{Project, project, missing}
 use Rattle.tables.specs.Readings.{modules}
 use Rattle.tables.specs.Refusal.{refusal}
 use Rattle.tables.specs.declared.Answer.the-variants.{Counted}
@@ -23,7 +23,7 @@ use Rattle.promises.specs.Late.{MembersAre, MayJoin, marked}
 
 -- entry 3 imports module 1, and entry 4 imports module 2
 abbrev pub twoEntries : Project
-twoEntries = project 0 0 (1 ∷ 1 ∷ 1 ∷ 1 ∷ 1 ∷ []) (1 ∷ 1 ∷ 1 ∷ 1 ∷ 1 ∷ []) (0 ∷ 1 ∷ 1 ∷ 1 ∷ 1 ∷ []) (0 ∷ 0 ∷ 0 ∷ 0 ∷ 0 ∷ []) (1 ∷ 1 ∷ 1 ∷ 1 ∷ 1 ∷ []) (0 ∷ 0 ∷ 0 ∷ 0 ∷ 0 ∷ []) (0 ∷ 0 ∷ 1 ∷ 0 ∷ 1 ∷ []) (3 ∷ 4 ∷ []) (0 ∷ 0 ∷ []) (1 ∷ 2 ∷ []) [] [] [] [] [] [] [] [] [] [] [] [] [] [] [] (0 ∷ 1 ∷ []) (0 ∷ 0 ∷ 0 ∷ 1 ∷ 1 ∷ []) (0 ∷ 1 ∷ 3 ∷ 2 ∷ 4 ∷ []) [] [] (3 ∷ 4 ∷ []) (0 ∷ 1 ∷ []) []
+twoEntries = project 0 0 (1 ∷ 1 ∷ 1 ∷ 1 ∷ 1 ∷ []) (1 ∷ 1 ∷ 1 ∷ 1 ∷ 1 ∷ []) (0 ∷ 1 ∷ 1 ∷ 1 ∷ 1 ∷ []) (0 ∷ 0 ∷ 0 ∷ 0 ∷ 0 ∷ []) (1 ∷ 1 ∷ 1 ∷ 1 ∷ 1 ∷ []) (0 ∷ 0 ∷ 0 ∷ 0 ∷ 0 ∷ []) (0 ∷ 0 ∷ 1 ∷ 0 ∷ 1 ∷ []) (missing ∷ missing ∷ missing ∷ missing ∷ missing ∷ []) (3 ∷ 4 ∷ []) (0 ∷ 0 ∷ []) (1 ∷ 2 ∷ []) [] [] [] [] [] [] [] [] [] [] [] [] [] [] [] (0 ∷ 1 ∷ []) (0 ∷ 0 ∷ 0 ∷ 1 ∷ 1 ∷ []) (0 ∷ 1 ∷ 3 ∷ 2 ∷ 4 ∷ []) [] [] (3 ∷ 4 ∷ []) (0 ∷ 1 ∷ []) []
 
 -- the plan from 1 has 3 besides; 2 comes later, and then 4 joins; the later seed is lent twice
 pub record LateSeedsWitness : Type 0 where

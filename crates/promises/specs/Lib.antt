@@ -15,3 +15,4 @@ pub mod Risks
 pub mod OwnTerms
 pub mod OfCalls
 pub mod Together
+pub mod AsRead

@@ -1,7 +1,7 @@
 -- The listing of document 01, "One listing, whole", as a project.
 -- Assumes nothing.
 use mathlib.Core.List.{[], _∷_}
-use Rattle.tables.specs.Project.{Project}
+use Rattle.tables.specs.Project.{Project, missing}
 
 abbrev pub listing : Project
 listing = record {
@@ -14,6 +14,7 @@ listing = record {
   exports = 1 ∷ 1 ∷ 1 ∷ 1 ∷ [];
   wrap = 0 ∷ 0 ∷ 0 ∷ 0 ∷ [];
   chunk = 1 ∷ 0 ∷ 0 ∷ 1 ∷ [];
+  newer = missing ∷ missing ∷ missing ∷ missing ∷ [];
   recordModule = 1 ∷ 1 ∷ [];
   recordKind = 0 ∷ 0 ∷ [];
   recordTarget = 2 ∷ 3 ∷ [];

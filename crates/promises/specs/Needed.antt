@@ -96,7 +96,7 @@ absent3 = withMembers (withExports listing (1 ∷ 1 ∷ 1 ∷ 2 ∷ [])) (0 ∷ 
 
 -- the runtime is external, and the first module, CommonJs, is sensitive and no import of the entry
 abbrev phantom : Project
-phantom = project 4 0 (1 ∷ 1 ∷ 1 ∷ 1 ∷ 0 ∷ []) (1 ∷ 1 ∷ 1 ∷ 1 ∷ 1 ∷ []) (1 ∷ 1 ∷ 1 ∷ 1 ∷ 0 ∷ []) (0 ∷ 0 ∷ 0 ∷ 0 ∷ 0 ∷ []) (2 ∷ 1 ∷ 1 ∷ 1 ∷ 0 ∷ []) (0 ∷ 0 ∷ 0 ∷ 0 ∷ 0 ∷ []) (1 ∷ 0 ∷ 0 ∷ 1 ∷ missing ∷ []) (1 ∷ 1 ∷ []) (0 ∷ 0 ∷ []) (2 ∷ 3 ∷ []) [] [] [] [] [] [] [] [] [] [] [] [] [] [] [] (1 ∷ 0 ∷ []) (0 ∷ 0 ∷ 1 ∷ 1 ∷ []) (2 ∷ 1 ∷ 0 ∷ 3 ∷ []) (0 ∷ []) (1 ∷ []) (1 ∷ []) (0 ∷ []) []
+phantom = project 4 0 (1 ∷ 1 ∷ 1 ∷ 1 ∷ 0 ∷ []) (1 ∷ 1 ∷ 1 ∷ 1 ∷ 1 ∷ []) (1 ∷ 1 ∷ 1 ∷ 1 ∷ 0 ∷ []) (0 ∷ 0 ∷ 0 ∷ 0 ∷ 0 ∷ []) (2 ∷ 1 ∷ 1 ∷ 1 ∷ 0 ∷ []) (0 ∷ 0 ∷ 0 ∷ 0 ∷ 0 ∷ []) (1 ∷ 0 ∷ 0 ∷ 1 ∷ missing ∷ []) (missing ∷ missing ∷ missing ∷ missing ∷ missing ∷ []) (1 ∷ 1 ∷ []) (0 ∷ 0 ∷ []) (2 ∷ 3 ∷ []) [] [] [] [] [] [] [] [] [] [] [] [] [] [] [] (1 ∷ 0 ∷ []) (0 ∷ 0 ∷ 1 ∷ 1 ∷ []) (2 ∷ 1 ∷ 0 ∷ 3 ∷ []) (0 ∷ []) (1 ∷ []) (1 ∷ []) (0 ∷ []) []
 
 -- the entry has no chunk
 abbrev unplaced : Project
@@ -141,7 +141,7 @@ EachPremiseIsNeeded =
 -- The whole analysis isn't kept by more imports: chunk 1 loads chunk 2 first, the order is right, and nothing is at risk.
 
 abbrev threeChunks : Project
-threeChunks = project 0 0 (1 ∷ 1 ∷ 1 ∷ 1 ∷ []) (1 ∷ 1 ∷ 1 ∷ 1 ∷ []) (0 ∷ 1 ∷ 1 ∷ 1 ∷ []) (0 ∷ 0 ∷ 0 ∷ 0 ∷ []) (1 ∷ 1 ∷ 1 ∷ 1 ∷ []) (0 ∷ 0 ∷ 0 ∷ 0 ∷ []) (0 ∷ 0 ∷ 2 ∷ 1 ∷ []) (1 ∷ 1 ∷ []) (0 ∷ 0 ∷ []) (2 ∷ 3 ∷ []) [] [] [] [] [] [] [] [] [] [] [] [] [] [] [] (2 ∷ 0 ∷ 1 ∷ []) (0 ∷ 0 ∷ 1 ∷ 2 ∷ []) (0 ∷ 1 ∷ 3 ∷ 2 ∷ []) (0 ∷ 0 ∷ []) (1 ∷ 2 ∷ []) (1 ∷ []) (0 ∷ []) []
+threeChunks = project 0 0 (1 ∷ 1 ∷ 1 ∷ 1 ∷ []) (1 ∷ 1 ∷ 1 ∷ 1 ∷ []) (0 ∷ 1 ∷ 1 ∷ 1 ∷ []) (0 ∷ 0 ∷ 0 ∷ 0 ∷ []) (1 ∷ 1 ∷ 1 ∷ 1 ∷ []) (0 ∷ 0 ∷ 0 ∷ 0 ∷ []) (0 ∷ 0 ∷ 2 ∷ 1 ∷ []) (missing ∷ missing ∷ missing ∷ missing ∷ []) (1 ∷ 1 ∷ []) (0 ∷ 0 ∷ []) (2 ∷ 3 ∷ []) [] [] [] [] [] [] [] [] [] [] [] [] [] [] [] (2 ∷ 0 ∷ 1 ∷ []) (0 ∷ 0 ∷ 1 ∷ 2 ∷ []) (0 ∷ 1 ∷ 3 ∷ 2 ∷ []) (0 ∷ 0 ∷ []) (1 ∷ 2 ∷ []) (1 ∷ []) (0 ∷ []) []
 
 unfoldable pub lostByImports : List Case
 lostByImports =

@@ -9,7 +9,7 @@ ghost use Rattle.import_edges.specs.inner.Spread.{ModuleGraph};
 ghost use Rattle.reached_modules.specs.inner.Roots.{rootsOver, Written, Reaching, Chosen, Choosing};
 ghost use Rattle.tables.specs.Project.{Project};
 ghost use Rattle.table.specs.Table.{table, read};
-ghost use Rattle.tables.specs.Refusal.{rowLimit};
+ghost use Rattle.tables.specs.Refusal.{moduleLimit};
 ghost use Rattle.table.specs.Places.{Room};
 ghost use Rattle.wrap_rules.specs.Plan.{roots as rootsOf};
 ghost use Rattle.wrap_rules.specs.inner.Passes.{candidateMarks};
@@ -115,7 +115,7 @@ pub fn list_table_roots<'a>(
 ) -> usize
     ghost { Project }
     requires project { λ p. ⌜ read (table runtime dynamic (now bounds) (now columns)) (now importers) (now kinds) (now targets) (now dependencies) (now members) ≡ p ⌝ }
-    requires room { λ p. ⌜ Room p rowLimit (length (now list)) ⌝ }
+    requires room { λ p. ⌜ Room p moduleLimit (length (now list)) ⌝ }
     ensures { λ p r. ⌜ Written (rootsOf p) (now (list .entry)) (now (list .exit)) r ⌝ }
 {
     list_roots(

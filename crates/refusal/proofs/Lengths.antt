@@ -11,7 +11,7 @@ use borrow.Author.Tests.{lt-ltb}
 use Rattle.lists.specs.Words.{isZero, every}
 use Rattle.lists.proofs.Laws.{every-append}
 use Rattle.tables.specs.Refusal.{sized}
-use Rattle.column_tests.proofs.Chain.{and-4}
+use Rattle.column_tests.proofs.Chain.{and-5}
 
 -- one is there
 some-one : (n : ℕ) → ltb 0 n ≡ not (isZero n)
@@ -30,13 +30,13 @@ sized-append limit column some others =
     ap (λ (b : Bool). leb (length column) limit && b) (every-append same some others)
     ∙ and-shared (leb (length column) limit) (every same some) (every same others)
 
--- the list of modules, which has a row and six columns beside the first, two columns at a time
-pub six-columns : (limit : ℕ) (column a b c d e f : List ℕ) {r s t : Bool}
-    → r ≡ sized limit column (a ∷ b ∷ []) → s ≡ sized limit column (c ∷ d ∷ []) → t ≡ sized limit column (e ∷ f ∷ [])
-    → (((ltb 0 (length column) && r) && s) && t) ≡ (not (isZero (length column)) && sized limit column (a ∷ b ∷ c ∷ d ∷ e ∷ f ∷ []))
-six-columns limit column a b c d e f x y z =
-    and-4 (some-one (length column)) x y z
-    ∙ rw (sized-append limit column (a ∷ b ∷ []) (c ∷ d ∷ e ∷ f ∷ []), sized-append limit column (c ∷ d ∷ []) (e ∷ f ∷ []))
+-- the list of modules, which has a row and seven columns beside the first, two columns at a time
+pub seven-columns : (limit : ℕ) (column a b c d e f g : List ℕ) {r s t u : Bool}
+    → r ≡ sized limit column (a ∷ b ∷ []) → s ≡ sized limit column (c ∷ d ∷ []) → t ≡ sized limit column (e ∷ f ∷ []) → u ≡ sized limit column (g ∷ [])
+    → ((((ltb 0 (length column) && r) && s) && t) && u) ≡ (not (isZero (length column)) && sized limit column (a ∷ b ∷ c ∷ d ∷ e ∷ f ∷ g ∷ []))
+seven-columns limit column a b c d e f g x y z w =
+    and-5 (some-one (length column)) x y z w
+    ∙ rw (sized-append limit column (a ∷ b ∷ []) (c ∷ d ∷ e ∷ f ∷ g ∷ []), sized-append limit column (c ∷ d ∷ []) (e ∷ f ∷ g ∷ []), sized-append limit column (e ∷ f ∷ []) (g ∷ []))
 
 pub three-column : (limit : ℕ) (column a b : List ℕ) → sized limit column (a ∷ b ∷ []) ≡ (sized limit column (a ∷ []) && eqb (length b) (length column))
 unfolding sized

@@ -1,14 +1,17 @@
-// The tests 1 to 4 of a table, with its import records beside it.
+// The tests 1 to 4 and 10 of a table, with its import records beside it.
 ghost use mathlib.Core.Path.{_≡_};
 ghost use Rattle.table.specs.Table.{table, boundsFit, withRecords, lentWith};
 ghost use Rattle.tables.specs.Refusal.{refusal};
 use agree::rows_agree;
 use agree::rows_rise;
 use column_tests::core::is_rising;
+use column_tests::core::newer_fits;
 use sizes::chunks_sized;
 use sizes::code_sized;
 use sizes::symbols_sized;
 use table::COLUMNS;
+use table::NEWER;
+use table::column;
 use values::chunks_in;
 use values::code_in;
 use values::symbols_in;
@@ -17,7 +20,7 @@ mod agree;
 mod sizes;
 mod values;
 
-// Whether the columns' bounds fit: 34 that rise from 0 to the end.
+// Whether the columns' bounds fit: 35 that rise from 0 to the end.
 fn bounds_fit(bounds: &[u32], columns: &[u32]) -> bool
     ensures { λ r. ⌜ r ≡ boundsFit (now (bounds .entry)) (now (columns .entry)) ⌝ }
 {
@@ -27,7 +30,7 @@ fn bounds_fit(bounds: &[u32], columns: &[u32]) -> bool
     (bounds[0] == 0) & (bounds[COLUMNS] as usize == columns.len()) & is_rising(bounds)
 }
 
-// The lowest number of document 01's tests 1 to 4 that applies to the project of a table, or 0.
+// The first number of the tests 1 to 4 and 10 that applies to the project of a table, or 0.
 fn project_number<'a>(
     runtime: u32,
     dynamic: u32,
@@ -56,6 +59,9 @@ fn project_number<'a>(
     }
     if !rows_agree(runtime, dynamic, bounds, columns, importers, kinds, targets) {
         return 4;
+    }
+    if !newer_fits(column(bounds, columns, NEWER)) {
+        return 10;
     }
     0
 }

@@ -18,6 +18,7 @@ use table::IMPORT_CHUNK;
 use table::INCLUDED;
 use table::MEMBER_CHUNK;
 use table::MODULE_LIMIT;
+use table::NEWER;
 use table::NORMAL;
 use table::ORDER;
 use table::OWNER;
@@ -61,13 +62,15 @@ fn modules_sized<'a>(
     exports: &'a [u32],
     wrap: &'a [u32],
     chunk: &'a [u32],
+    newer: &'a [u32],
 ) -> bool
-    ensures { λ r. ⌜ r ≡ (not (isZero (length (now (normal .entry)))) && sized moduleLimit (now (normal .entry)) (now (included .entry) ∷ now (sensitive .entry) ∷ now (reads .entry) ∷ now (exports .entry) ∷ now (wrap .entry) ∷ now (chunk .entry) ∷ [])) ⌝ }
+    ensures { λ r. ⌜ r ≡ (not (isZero (length (now (normal .entry)))) && sized moduleLimit (now (normal .entry)) (now (included .entry) ∷ now (sensitive .entry) ∷ now (reads .entry) ∷ now (exports .entry) ∷ now (wrap .entry) ∷ now (chunk .entry) ∷ now (newer .entry) ∷ [])) ⌝ }
 {
     (0 < normal.len())
         & three_sized(MODULE_LIMIT, normal, included, sensitive)
         & three_sized(MODULE_LIMIT, normal, reads, exports)
         & three_sized(MODULE_LIMIT, normal, wrap, chunk)
+        & two_sized(MODULE_LIMIT, normal, newer)
 }
 
 // A list of one column, of two or of three, from column k on.
@@ -120,6 +123,7 @@ pub fn code_sized<'a>(
         column(bounds, columns, EXPORTS),
         column(bounds, columns, WRAP),
         column(bounds, columns, CHUNK),
+        column(bounds, columns, NEWER),
     )
         & three_sized(ROW_LIMIT, importers, kinds, targets)
         & two_at(bounds, columns, ROW_LIMIT, DEPENDENCY_MODULE)

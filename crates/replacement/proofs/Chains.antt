@@ -1,6 +1,6 @@
 -- Chains of `newer` rise, so that each ends, and what is read for a module is the last of its chain.
 -- Assumes nothing.
-use mathlib.Core.Path.{_≡_, refl, sym, ap, subst, _∙_}
+use mathlib.Core.Path.{_≡_, refl, sym, ap, ap₂, subst, _∙_}
 use mathlib.Core.Logic.{_⊎_, inl, inr, ⊎-elim}
 use mathlib.Core.Bool.{Bool, true, false, cond, _&&_, _||_}
 use mathlib.Core.List.{List, [], _∷_, _++_, map, map-append}
@@ -14,8 +14,8 @@ use borrow.Author.Tests.{eqb-true, eqb-false, eq-eqb, ne-eqb, ltb-true, lt-ltb, 
 use Rattle.lists.specs.Words.{upTo, every}
 use Rattle.lists.proofs.Laws.{both, and-parts, or-parts, every-mem, upTo-mem, getD-in, getD-map-upTo, length-map-upTo, take-more}
 use Rattle.tables.specs.Project.{missing}
-use Rattle.tables.specs.Refusal.{moduleLimit}
-use Rattle.replacement.specs.Replacement.{through, latest, fitsAt, newerFits}
+use Rattle.tables.specs.Refusal.{moduleLimit, fitsAt, newerFits}
+use Rattle.replacement.specs.Replacement.{through, latest, asRead}
 use Rattle.replacement.specs.inner.Passes.{Found, foundAt}
 
 -- a chain ends where nothing supersedes
@@ -150,3 +150,15 @@ found-all newer found f =
 -- one more of a column, mapped
 pub map-more : (f : ℕ → ℕ) (xs : List ℕ) (i : ℕ) → i < length xs → map f (take i xs) ++ (f (getD xs i 0) ∷ []) ≡ map f (take (i + 1) xs)
 map-more f xs i l = sym (map-append f (take i xs) (getD xs i 0 ∷ [])) ∙ ap (map f) (take-more xs i l)
+
+-- a column by what was found is the column as it is read
+pub found-all-read : (newer column : List ℕ) → map (foundAt (map (latest newer) (upTo (length newer)))) column ≡ asRead newer column
+found-all-read newer [] = refl
+found-all-read newer (x ∷ xs) = ap₂ _∷_ (found-read newer x (under x)) (found-all-read newer xs)
+  where
+    under : (m : ℕ) → (m < length newer) ⊎ (length newer ≤ m)
+    under m = go (decLt m (length newer))
+      where
+        go : Dec (m < length newer) → (m < length newer) ⊎ (length newer ≤ m)
+        go (yes h) = inl h
+        go (no h) = inr (omega arith)

@@ -1,11 +1,10 @@
 -- "Each module row gains a last field `newer`, the module that supersedes it, or `-`."
 -- Assumes nothing.
-use mathlib.Core.Bool.{Bool, cond, _&&_, _||_}
+use mathlib.Core.Bool.{cond}
 use mathlib.Core.List.{List, map}
 use Prim.Native.Nat.{ℕ, zero, suc}
 use lib.ListN.{length, getD}
-use lib.Dec.{eqb, ltb}
-use Rattle.lists.specs.Words.{upTo, every}
+use lib.Dec.{eqb}
 use Rattle.tables.specs.Project.{missing}
 
 -- "read through it until a module with `-` is reached", k steps at most; the mark itself stays
@@ -20,11 +19,3 @@ latest newer m = through newer (length newer) m
 -- a column as it is read
 abbrev pub asRead : List ℕ → List ℕ → List ℕ
 asRead newer column = map (latest newer) column
-
--- "missing" or "the number of a later module row"
-abbrev pub fitsAt : List ℕ → ℕ → Bool
-fitsAt newer m = eqb (getD newer m 0) missing || (ltb m (getD newer m 0) && ltb (getD newer m 0) (length newer))
-
--- 10: no "`newer` that is neither missing nor the number of a later module row"
-unfoldable pub newerFits : List ℕ → Bool
-newerFits newer = every (fitsAt newer) (upTo (length newer))

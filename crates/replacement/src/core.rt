@@ -5,8 +5,8 @@ ghost use mathlib.Core.List.{map};
 ghost use Prim.Native.Nat.{_+_, _<_, _≤_};
 ghost use lib.ListN.{length};
 ghost use Rattle.lists.specs.Words.{upTo};
-ghost use Rattle.tables.specs.Refusal.{moduleLimit};
-ghost use Rattle.replacement.specs.Replacement.{latest, newerFits};
+ghost use Rattle.tables.specs.Refusal.{moduleLimit, newerFits};
+ghost use Rattle.replacement.specs.Replacement.{latest};
 ghost use Rattle.replacement.specs.inner.Passes.{Found, foundAt};
 use tables::ModuleIdx;
 

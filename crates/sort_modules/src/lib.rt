@@ -2,6 +2,7 @@
 ghost use Rattle.table.specs.Table.{lent, lentWith};
 ghost use Rattle.sort_modules.specs.Promise.{SortModules};
 use core::sort_table;
+use current_columns::core::read_current;
 use refusal::refusal_number;
 use table::DEPENDENCY;
 use table::MEMBER;
@@ -10,6 +11,7 @@ use table::NORMAL;
 use table::RECORD_KIND;
 use table::RECORD_MODULE;
 use table::RECORD_TARGET;
+use table::ROW_LIMIT;
 use table::column;
 use table::rows;
 use tables::Answer;
@@ -42,6 +44,21 @@ pub fn sort_modules_with_records<'a>(
     if sorted.len() < modules {
         return Answer::Refused(6);
     }
+    let mut read_targets = [0u32; ROW_LIMIT];
+    let mut read_dependencies = [0u32; ROW_LIMIT];
+    read_current(
+        runtime,
+        dynamic,
+        bounds,
+        columns,
+        importers,
+        kinds,
+        targets,
+        &mut read_targets,
+        &mut read_dependencies,
+    );
+    let records = targets.len();
+    let dependency_rows = rows(bounds, columns, DEPENDENCY);
     let mut marks = [0u32; MODULE_LIMIT];
     let count = sort_table(
         runtime,
@@ -50,8 +67,8 @@ pub fn sort_modules_with_records<'a>(
         columns,
         importers,
         kinds,
-        targets,
-        column(bounds, columns, DEPENDENCY),
+        &read_targets[..records],
+        &read_dependencies[..dependency_rows],
         column(bounds, columns, MEMBER),
         &mut marks[..modules],
         &mut numbers[..modules],

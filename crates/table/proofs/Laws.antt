@@ -1,6 +1,6 @@
 -- What a column is, by its bounds, and a project read with its own columns.
 -- Assumes nothing.
-use mathlib.Core.Path.{_≡_, refl, sym}
+use mathlib.Core.Path.{_≡_, refl, sym, ap}
 use mathlib.Core.Bool.{Bool, true, false, cond}
 use mathlib.Core.List.{List, []}
 use Prim.Native.Nat.{ℕ, _+_, _-_, _≤_, _<_}
@@ -13,7 +13,8 @@ use Rattle.tables.specs.Accepted.{Accepted}
 use Rattle.tables.specs.declared.Answer.the-variants.{Refused, Counted}
 use Rattle.tables.proofs.Accepted.{accepted}
 use Rattle.tables.proofs.Answering.{not-zero}
-use Rattle.table.specs.Table.{part, columnAt, table, read, withRecords, boundsFit, Lent, lentAs, lent, lentWith, answer}
+use Rattle.table.specs.Table.{part, columnAt, table, read, withRecords, current, boundsFit, Lent, lentAs, lent, lentWith, answer}
+use Rattle.table.proofs.Current.{current-accepted}
 
 module _ (bounds columns : List ℕ) (k start end : ℕ) (from : start ≡ getD bounds k 0) (to : end ≡ getD bounds (k + 1) 0) where
   pub column-part : start ≤ end → end ≤ length columns → take (end - start) (drop start columns) ≡ columnAt bounds columns k
@@ -40,25 +41,25 @@ read-own p = refl
 
 -- and so is a table read with what was cut from it
 pub read-cut : (runtime dynamic : ℕ) (bounds columns : List ℕ) {importers kinds targets dependencies members : List ℕ}
-    → importers ≡ columnAt bounds columns 7 → kinds ≡ columnAt bounds columns 8 → targets ≡ columnAt bounds columns 9
-    → dependencies ≡ columnAt bounds columns 11 → members ≡ columnAt bounds columns 27
+    → importers ≡ columnAt bounds columns 8 → kinds ≡ columnAt bounds columns 9 → targets ≡ columnAt bounds columns 10
+    → dependencies ≡ columnAt bounds columns 12 → members ≡ columnAt bounds columns 28
     → read (table runtime dynamic bounds columns) importers kinds targets dependencies members ≡ table runtime dynamic bounds columns
 unfolding table
 read-cut runtime dynamic bounds columns e1 e2 e3 e4 e5 = rw (e1, e2, e3, e4, e5) (read-own (table runtime dynamic bounds columns))
 
 -- with its dependencies and members cut from it, only its records are others
 pub records-cut : (runtime dynamic : ℕ) (bounds columns importers kinds targets : List ℕ) {dependencies members : List ℕ}
-    → dependencies ≡ columnAt bounds columns 11 → members ≡ columnAt bounds columns 27
+    → dependencies ≡ columnAt bounds columns 12 → members ≡ columnAt bounds columns 28
     → read (table runtime dynamic bounds columns) importers kinds targets dependencies members ≡ withRecords (table runtime dynamic bounds columns) importers kinds targets
 unfolding table
 records-cut runtime dynamic bounds columns importers kinds targets e1 e2 = rw (e1, e2)
 
 -- a table read with the record columns that were cut from it is the table
 pub lent-cut : (runtime dynamic : ℕ) (bounds columns : List ℕ) {importers kinds targets : List ℕ}
-    → importers ≡ columnAt bounds columns 7 → kinds ≡ columnAt bounds columns 8 → targets ≡ columnAt bounds columns 9
+    → importers ≡ columnAt bounds columns 8 → kinds ≡ columnAt bounds columns 9 → targets ≡ columnAt bounds columns 10
     → lentWith runtime dynamic bounds columns importers kinds targets ≡ lent runtime dynamic bounds columns
 unfolding table read
-lent-cut runtime dynamic bounds columns e1 e2 e3 = rw (e1, e2, e3)
+lent-cut runtime dynamic bounds columns e1 e2 e3 = ap (lentAs bounds columns) (rw (e1, e2, e3))
 
 -- the number of a lent project, and what one without a number has
 
@@ -69,12 +70,19 @@ module _ (bounds columns : List ℕ) (p : Project) where
   pub number-fit : boundsFit bounds columns ≡ true → refusal p ≡ lentAs bounds columns p .number
   number-fit e = rw e
 
-  pub lent-accepted : lentAs bounds columns p .number ≡ 0 → Accepted p
-  lent-accepted z = accepted p (go (boundsFit bounds columns) z)
+  pub lent-tested : lentAs bounds columns p .number ≡ 0 → refusal p ≡ 0
+  lent-tested z = go (boundsFit bounds columns) z
     where
       go : (b : Bool) → cond b (refusal p) 1 ≡ 0 → refusal p ≡ 0
       go true e = e
       go false e = absurd (omega arith)
+
+  pub lent-accepted : lentAs bounds columns p .number ≡ 0 → Accepted p
+  lent-accepted z = accepted p (lent-tested z)
+
+  -- and so is what is read of it
+  pub lent-current : lentAs bounds columns p .number ≡ 0 → Accepted (current p)
+  lent-current z = current-accepted p (lent-tested z)
 
 -- what an operation answers, by its number
 

@@ -10,6 +10,7 @@ use Rattle.tables.specs.Refusal.{rises, refusal}
 use Rattle.tables.specs.declared.Answer.{Answer}
 use Rattle.tables.specs.declared.Answer.the-variants.{Refused, Counted}
 use Rattle.lists.specs.Words.{isZero}
+use Rattle.replacement.specs.Replacement.{asRead}
 
 -- the part from one place to another, empty where they don't fit
 unfoldable pub part : List ℕ → ℕ → ℕ → List ℕ
@@ -32,32 +33,33 @@ table runtime dynamic bounds columns =
       exports = columnAt bounds columns 4;
       wrap = columnAt bounds columns 5;
       chunk = columnAt bounds columns 6;
-      recordModule = columnAt bounds columns 7;
-      recordKind = columnAt bounds columns 8;
-      recordTarget = columnAt bounds columns 9;
-      dependencyModule = columnAt bounds columns 10;
-      dependency = columnAt bounds columns 11;
-      statementModule = columnAt bounds columns 12;
-      statementIncluded = columnAt bounds columns 13;
-      useStatement = columnAt bounds columns 14;
-      useRecord = columnAt bounds columns 15;
-      owner = columnAt bounds columns 16;
-      canonical = columnAt bounds columns 17;
-      chainSymbol = columnAt bounds columns 18;
-      chainLink = columnAt bounds columns 19;
-      referenceStatement = columnAt bounds columns 20;
-      referenceForm = columnAt bounds columns 21;
-      referenceSymbol = columnAt bounds columns 22;
-      dependedReference = columnAt bounds columns 23;
-      depended = columnAt bounds columns 24;
-      order = columnAt bounds columns 25;
-      memberChunk = columnAt bounds columns 26;
-      member = columnAt bounds columns 27;
-      importChunk = columnAt bounds columns 28;
-      imports = columnAt bounds columns 29;
-      entry = columnAt bounds columns 30;
-      entryChunk = columnAt bounds columns 31;
-      seed = columnAt bounds columns 32;
+      newer = columnAt bounds columns 7;
+      recordModule = columnAt bounds columns 8;
+      recordKind = columnAt bounds columns 9;
+      recordTarget = columnAt bounds columns 10;
+      dependencyModule = columnAt bounds columns 11;
+      dependency = columnAt bounds columns 12;
+      statementModule = columnAt bounds columns 13;
+      statementIncluded = columnAt bounds columns 14;
+      useStatement = columnAt bounds columns 15;
+      useRecord = columnAt bounds columns 16;
+      owner = columnAt bounds columns 17;
+      canonical = columnAt bounds columns 18;
+      chainSymbol = columnAt bounds columns 19;
+      chainLink = columnAt bounds columns 20;
+      referenceStatement = columnAt bounds columns 21;
+      referenceForm = columnAt bounds columns 22;
+      referenceSymbol = columnAt bounds columns 23;
+      dependedReference = columnAt bounds columns 24;
+      depended = columnAt bounds columns 25;
+      order = columnAt bounds columns 26;
+      memberChunk = columnAt bounds columns 27;
+      member = columnAt bounds columns 28;
+      importChunk = columnAt bounds columns 29;
+      imports = columnAt bounds columns 30;
+      entry = columnAt bounds columns 31;
+      entryChunk = columnAt bounds columns 32;
+      seed = columnAt bounds columns 33;
     }
 
 -- a project with other import records, dependencies and members in the place of its own
@@ -73,6 +75,7 @@ read p importers kinds targets dependencies members =
       exports = p .exports;
       wrap = p .wrap;
       chunk = p .chunk;
+      newer = p .newer;
       recordModule = importers;
       recordKind = kinds;
       recordTarget = targets;
@@ -101,21 +104,25 @@ read p importers kinds targets dependencies members =
       seed = p .seed;
     }
 
--- the columns' places: 34 bounds that rise from 0 to the end
+-- the columns' places: 35 bounds that rise from 0 to the end
 unfoldable pub boundsFit : List ℕ → List ℕ → Bool
-boundsFit bounds columns = eqb (length bounds) 34 && (eqb (getD bounds 0 0) 0 && (eqb (getD bounds 33 0) (length columns) && rises bounds))
+boundsFit bounds columns = eqb (length bounds) 35 && (eqb (getD bounds 0 0) 0 && (eqb (getD bounds 34 0) (length columns) && rises bounds))
 
 -- a project whose import records are lent beside it
 abbrev pub withRecords : Project → List ℕ → List ℕ → List ℕ → Project
 withRecords p importers kinds targets = read p importers kinds targets (p .dependency) (p .member)
 
--- a project as it was lent, with the number of its tests: 1 where the bounds don't fit, else the project's
+-- a project as it is read: "record targets and dependencies are read through" `newer`, all else as written
+unfoldable pub current : Project → Project
+current p = read p (p .recordModule) (p .recordKind) (asRead (p .newer) (p .recordTarget)) (asRead (p .newer) (p .dependency)) (p .member)
+
+-- a project as it is read, with the number of its tests as it was lent: 1 where the bounds don't fit, else the project's
 pub record Lent : Type 0 where
   pub number : ℕ
   pub project : Project
 
 abbrev pub lentAs : List ℕ → List ℕ → Project → Lent
-lentAs bounds columns p = record { number = cond (boundsFit bounds columns) (refusal p) 1; project = p }
+lentAs bounds columns p = record { number = cond (boundsFit bounds columns) (refusal p) 1; project = current p }
 
 -- a table as it was lent
 abbrev pub lent : ℕ → ℕ → List ℕ → List ℕ → Lent

@@ -28,60 +28,62 @@ pub const WRAP: usize = 5;
 
 pub const CHUNK: usize = 6;
 
-pub const RECORD_MODULE: usize = 7;
+pub const NEWER: usize = 7;
 
-pub const RECORD_KIND: usize = 8;
+pub const RECORD_MODULE: usize = 8;
 
-pub const RECORD_TARGET: usize = 9;
+pub const RECORD_KIND: usize = 9;
 
-pub const DEPENDENCY_MODULE: usize = 10;
+pub const RECORD_TARGET: usize = 10;
 
-pub const DEPENDENCY: usize = 11;
+pub const DEPENDENCY_MODULE: usize = 11;
 
-pub const STATEMENT_MODULE: usize = 12;
+pub const DEPENDENCY: usize = 12;
 
-pub const STATEMENT_INCLUDED: usize = 13;
+pub const STATEMENT_MODULE: usize = 13;
 
-pub const USE_STATEMENT: usize = 14;
+pub const STATEMENT_INCLUDED: usize = 14;
 
-pub const USE_RECORD: usize = 15;
+pub const USE_STATEMENT: usize = 15;
 
-pub const OWNER: usize = 16;
+pub const USE_RECORD: usize = 16;
 
-pub const CANONICAL: usize = 17;
+pub const OWNER: usize = 17;
 
-pub const CHAIN_SYMBOL: usize = 18;
+pub const CANONICAL: usize = 18;
 
-pub const CHAIN_LINK: usize = 19;
+pub const CHAIN_SYMBOL: usize = 19;
 
-pub const REFERENCE_STATEMENT: usize = 20;
+pub const CHAIN_LINK: usize = 20;
 
-pub const REFERENCE_FORM: usize = 21;
+pub const REFERENCE_STATEMENT: usize = 21;
 
-pub const REFERENCE_SYMBOL: usize = 22;
+pub const REFERENCE_FORM: usize = 22;
 
-pub const DEPENDED_REFERENCE: usize = 23;
+pub const REFERENCE_SYMBOL: usize = 23;
 
-pub const DEPENDED: usize = 24;
+pub const DEPENDED_REFERENCE: usize = 24;
 
-pub const ORDER: usize = 25;
+pub const DEPENDED: usize = 25;
 
-pub const MEMBER_CHUNK: usize = 26;
+pub const ORDER: usize = 26;
 
-pub const MEMBER: usize = 27;
+pub const MEMBER_CHUNK: usize = 27;
 
-pub const IMPORT_CHUNK: usize = 28;
+pub const MEMBER: usize = 28;
 
-pub const IMPORTS: usize = 29;
+pub const IMPORT_CHUNK: usize = 29;
 
-pub const ENTRY: usize = 30;
+pub const IMPORTS: usize = 30;
 
-pub const ENTRY_CHUNK: usize = 31;
+pub const ENTRY: usize = 31;
 
-pub const SEED: usize = 32;
+pub const ENTRY_CHUNK: usize = 32;
+
+pub const SEED: usize = 33;
 
 // How many columns there are.
-pub const COLUMNS: usize = 33;
+pub const COLUMNS: usize = 34;
 
 // Bound k, 0 past the last.
 fn bound(bounds: &[u32], k: usize) -> usize

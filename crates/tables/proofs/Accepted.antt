@@ -13,7 +13,7 @@ use Rattle.lists.specs.Words.{isZero, upTo, any, every, twice, Distinct}
 use Rattle.lists.proofs.Laws.{and-parts, and-join, or-parts, not-true, every-mem, upTo-mem, mem-elem, mem-any}
 use Rattle.tables.specs.Project.{Project, missing}
 use Rattle.tables.specs.Readings.{modules, isNormal}
-use Rattle.tables.specs.Refusal.{moduleLimit, chunkLimit, rowLimit, sized, codeSized, symbolsSized, chunksSized, sizesFit, below, belowOrMissing, codeIn, symbolsIn, chunksIn, valuesFit, rowsRise, samePair, allNormal, usesOwn, dependedResolved, plainSymbols, entriesOnce, importsOnce, rowsAgree, refusal}
+use Rattle.tables.specs.Refusal.{moduleLimit, chunkLimit, rowLimit, sized, codeSized, symbolsSized, chunksSized, sizesFit, below, belowOrMissing, codeIn, symbolsIn, chunksIn, valuesFit, rowsRise, samePair, allNormal, usesOwn, dependedResolved, plainSymbols, entriesOnce, importsOnce, rowsAgree, newerFits, refusal}
 use Rattle.tables.specs.Accepted.{Below, BelowOrMissing, Sizes, Values, Rises, Agrees, Accepted}
 use Rattle.tables.proofs.Rise.{rises-rising}
 
@@ -66,7 +66,7 @@ sizes-fit p e =
     let k1 = and-parts _ _ (k0 .1) in
     let k2 = and-parts _ _ (k1 .1) in
     let k3 = and-parts _ _ (k2 .1) in
-    let l0 = sized-list moduleLimit (p .normal) (p .included ∷ p .sensitive ∷ p .reads ∷ p .exports ∷ p .wrap ∷ p .chunk ∷ []) (m .1) in
+    let l0 = sized-list moduleLimit (p .normal) (p .included ∷ p .sensitive ∷ p .reads ∷ p .exports ∷ p .wrap ∷ p .chunk ∷ p .newer ∷ []) (m .1) in
     let l1 = sized-list rowLimit (p .recordModule) (p .recordKind ∷ p .recordTarget ∷ []) (c1 .0) in
     let l2 = sized-list rowLimit (p .dependencyModule) (p .dependency ∷ []) (c2 .0) in
     let l3 = sized-list rowLimit (p .statementModule) (p .statementIncluded ∷ []) (c2 .1) in
@@ -89,6 +89,7 @@ sizes-fit p e =
       exports = l0 .1 .1 .1 .1 .0;
       wrap = l0 .1 .1 .1 .1 .1 .0;
       chunk = l0 .1 .1 .1 .1 .1 .1 .0;
+      newer = l0 .1 .1 .1 .1 .1 .1 .1 .0;
       recordModule = l1 .0;
       recordKind = l1 .1 .0;
       recordTarget = l1 .1 .1 .0;
@@ -305,15 +306,21 @@ rows-agree p e =
     }
 
 -- the number is 0 only if every test passes
-all-pass : (a b c d : Bool) → _≡_ {A = ℕ} (cond a (cond b (cond c (cond d 0 4) 3) 2) 1) 0 → (a ≡ true) × (b ≡ true) × (c ≡ true) × (d ≡ true)
-all-pass true true true true e = (refl, refl, refl, refl)
-all-pass true true true false e = absurd (omega arith)
-all-pass true true false d e = absurd (omega arith)
-all-pass true false c d e = absurd (omega arith)
-all-pass false b c d e = absurd (omega arith)
+all-pass : (a b c d e : Bool) → _≡_ {A = ℕ} (cond a (cond b (cond c (cond d (cond e 0 10) 4) 3) 2) 1) 0
+    → (a ≡ true) × (b ≡ true) × (c ≡ true) × (d ≡ true) × (e ≡ true)
+all-pass true true true true true z = (refl, refl, refl, refl, refl)
+all-pass true true true true false z = absurd (omega arith)
+all-pass true true true false e z = absurd (omega arith)
+all-pass true true false d e z = absurd (omega arith)
+all-pass true false c d e z = absurd (omega arith)
+all-pass false b c d e z = absurd (omega arith)
+
+-- the tests of a project without a number
+pub all-passed : (p : Project) → refusal p ≡ 0 → (sizesFit p ≡ true) × (valuesFit p ≡ true) × (rowsRise p ≡ true) × (rowsAgree p ≡ true) × (newerFits (p .newer) ≡ true)
+unfolding refusal
+all-passed p e = all-pass (sizesFit p) (valuesFit p) (rowsRise p) (rowsAgree p) (newerFits (p .newer)) e
 
 pub accepted : (p : Project) → refusal p ≡ 0 → Accepted p
-unfolding refusal
 accepted p e =
-    let t = all-pass (sizesFit p) (valuesFit p) (rowsRise p) (rowsAgree p) e in
-    record { sizes = sizes-fit p (t .0); values = values-fit p (t .1); rises = rows-rise p (t .2); agrees = rows-agree p (t .3) }
+    let t = all-passed p e in
+    record { sizes = sizes-fit p (t .0); values = values-fit p (t .1); rises = rows-rise p (t .2); agrees = rows-agree p (t .3); newer = t .4 }

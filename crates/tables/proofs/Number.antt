@@ -3,7 +3,7 @@
 use mathlib.Core.Path.{_≡_}
 use mathlib.Core.Bool.{true, false}
 use Rattle.tables.specs.Project.{Project}
-use Rattle.tables.specs.Refusal.{sizesFit, valuesFit, rowsRise, rowsAgree, refusal}
+use Rattle.tables.specs.Refusal.{sizesFit, valuesFit, rowsRise, rowsAgree, newerFits, refusal}
 
 module _ (p : Project) where
   pub number-1 : sizesFit p ≡ false → 1 ≡ refusal p
@@ -22,6 +22,10 @@ module _ (p : Project) where
   unfolding refusal
   number-4 e f g h = rw (e, f, g, h)
 
-  pub number-0 : sizesFit p ≡ true → valuesFit p ≡ true → rowsRise p ≡ true → rowsAgree p ≡ true → 0 ≡ refusal p
+  pub number-10 : sizesFit p ≡ true → valuesFit p ≡ true → rowsRise p ≡ true → rowsAgree p ≡ true → newerFits (p .newer) ≡ false → 10 ≡ refusal p
   unfolding refusal
-  number-0 e f g h = rw (e, f, g, h)
+  number-10 e f g h i = rw (e, f, g, h, i)
+
+  pub number-0 : sizesFit p ≡ true → valuesFit p ≡ true → rowsRise p ≡ true → rowsAgree p ≡ true → newerFits (p .newer) ≡ true → 0 ≡ refusal p
+  unfolding refusal
+  number-0 e f g h i = rw (e, f, g, h, i)

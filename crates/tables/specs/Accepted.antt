@@ -1,4 +1,4 @@
--- What the tests 1 to 4 give of a project, row by row. Each field is named after the column that it is about.
+-- What the tests 1 to 4 and 10 give of a project, row by row. Each field is named after the column that it is about.
 -- Assumes nothing.
 use mathlib.Core.Path.{_≡_}
 use mathlib.Core.Logic.{_⊎_}
@@ -9,7 +9,7 @@ use lib.ListN.{length, getD}
 use Rattle.lists.specs.Words.{Distinct}
 use Rattle.tables.specs.Project.{Project, missing, largest}
 use Rattle.tables.specs.Readings.{modules, chunks, isNormal}
-use Rattle.tables.specs.Refusal.{moduleLimit, chunkLimit, rowLimit}
+use Rattle.tables.specs.Refusal.{moduleLimit, chunkLimit, rowLimit, newerFits}
 use Rattle.tables.specs.Lookups.{Rising}
 
 -- every row is below n
@@ -30,6 +30,7 @@ pub record Sizes (p : Project) : Type 0 where
   pub exports : length (p .exports) ≡ modules p
   pub wrap : length (p .wrap) ≡ modules p
   pub chunk : length (p .chunk) ≡ modules p
+  pub newer : length (p .newer) ≡ modules p
   pub recordModule : length (p .recordModule) ≤ rowLimit
   pub recordKind : length (p .recordKind) ≡ length (p .recordModule)
   pub recordTarget : length (p .recordTarget) ≡ length (p .recordModule)
@@ -124,3 +125,5 @@ pub record Accepted (p : Project) : Type 0 where
   pub values : Values p
   pub rises : Rises p
   pub agrees : Agrees p
+  -- 10
+  pub newer : newerFits (p .newer) ≡ true

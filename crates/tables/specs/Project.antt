@@ -1,4 +1,4 @@
--- The project: two settings and fourteen row lists, as 33 columns in 01's order and under 01's words.
+-- The project: two settings and fourteen row lists, as 34 columns in 01's order and under 01's words (`newer` is 02's).
 -- Assumes nothing.
 use mathlib.Core.Path.{_≡_}
 use mathlib.Core.List.{List}
@@ -16,7 +16,7 @@ pub record Project : Type 0 where
   -- `runtime dynamic`
   pub runtime : ℕ
   pub dynamic : ℕ
-  -- `normal included sensitive reads exports wrap chunk`: a module a row
+  -- `normal included sensitive reads exports wrap chunk newer`: a module a row
   pub normal : List ℕ
   pub included : List ℕ
   pub sensitive : List ℕ
@@ -24,6 +24,7 @@ pub record Project : Type 0 where
   pub exports : List ℕ
   pub wrap : List ℕ
   pub chunk : List ℕ
+  pub newer : List ℕ
   -- `module kind target`: import records
   pub recordModule : List ℕ
   pub recordKind : List ℕ
@@ -64,9 +65,9 @@ pub record Project : Type 0 where
   -- `seed`
   pub seed : List ℕ
 
--- the project of two settings and 33 columns
-abbrev pub project : ℕ → ℕ → List ℕ → List ℕ → List ℕ → List ℕ → List ℕ → List ℕ → List ℕ → List ℕ → List ℕ → List ℕ → List ℕ → List ℕ → List ℕ → List ℕ → List ℕ → List ℕ → List ℕ → List ℕ → List ℕ → List ℕ → List ℕ → List ℕ → List ℕ → List ℕ → List ℕ → List ℕ → List ℕ → List ℕ → List ℕ → List ℕ → List ℕ → List ℕ → List ℕ → Project
-project runtime dynamic normal included sensitive reads exports wrap chunk recordModule recordKind recordTarget dependencyModule dependency statementModule statementIncluded useStatement useRecord owner canonical chainSymbol chainLink referenceStatement referenceForm referenceSymbol dependedReference depended order memberChunk member importChunk imports entry entryChunk seed = record {
+-- the project of two settings and 34 columns
+abbrev pub project : ℕ → ℕ → List ℕ → List ℕ → List ℕ → List ℕ → List ℕ → List ℕ → List ℕ → List ℕ → List ℕ → List ℕ → List ℕ → List ℕ → List ℕ → List ℕ → List ℕ → List ℕ → List ℕ → List ℕ → List ℕ → List ℕ → List ℕ → List ℕ → List ℕ → List ℕ → List ℕ → List ℕ → List ℕ → List ℕ → List ℕ → List ℕ → List ℕ → List ℕ → List ℕ → List ℕ → Project
+project runtime dynamic normal included sensitive reads exports wrap chunk newer recordModule recordKind recordTarget dependencyModule dependency statementModule statementIncluded useStatement useRecord owner canonical chainSymbol chainLink referenceStatement referenceForm referenceSymbol dependedReference depended order memberChunk member importChunk imports entry entryChunk seed = record {
   runtime = runtime;
   dynamic = dynamic;
   normal = normal;
@@ -76,6 +77,7 @@ project runtime dynamic normal included sensitive reads exports wrap chunk recor
   exports = exports;
   wrap = wrap;
   chunk = chunk;
+  newer = newer;
   recordModule = recordModule;
   recordKind = recordKind;
   recordTarget = recordTarget;

@@ -1,4 +1,4 @@
--- 01's tests 1 to 4 of a project, in its words and order, and the lowest number that applies.
+-- 01's tests 1 to 4 of a project and 02's test 10, in their words and order, and the number that applies first.
 -- Assumes nothing.
 use mathlib.Core.Bool.{Bool, true, false, cond, not, _&&_, _||_}
 use mathlib.Core.List.{List, [], _∷_, zip}
@@ -26,7 +26,7 @@ sized limit column others = leb (length column) limit && every (λ (other : List
 -- 1, modules (of which one is there at least), records, dependencies and statements
 abbrev pub codeSized : Project → Bool
 codeSized p =
-    (not (isZero (modules p)) && sized moduleLimit (p .normal) (p .included ∷ p .sensitive ∷ p .reads ∷ p .exports ∷ p .wrap ∷ p .chunk ∷ []))
+    (not (isZero (modules p)) && sized moduleLimit (p .normal) (p .included ∷ p .sensitive ∷ p .reads ∷ p .exports ∷ p .wrap ∷ p .chunk ∷ p .newer ∷ []))
     && (sized rowLimit (p .recordModule) (p .recordKind ∷ p .recordTarget ∷ [])
     && (sized rowLimit (p .dependencyModule) (p .dependency ∷ [])
     && sized rowLimit (p .statementModule) (p .statementIncluded ∷ [])))
@@ -164,6 +164,14 @@ rowsAgree p =
     && (plainSymbols (p .referenceForm) (p .referenceSymbol)
     && (entriesOnce (p .entry) && importsOnce (p .importChunk) (p .imports))))))
 
--- "The lowest that applies is given", 0 for none
+-- "missing" or "the number of a later module row"
+abbrev pub fitsAt : List ℕ → ℕ → Bool
+fitsAt newer m = eqb (getD newer m 0) missing || (ltb m (getD newer m 0) && ltb (getD newer m 0) (length newer))
+
+-- 10: no "`newer` that is neither missing nor the number of a later module row"
+unfoldable pub newerFits : List ℕ → Bool
+newerFits newer = every (fitsAt newer) (upTo (length newer))
+
+-- "The lowest that applies is given", and 10 "after 4"; 0 for none
 unfoldable pub refusal : Project → ℕ
-refusal p = cond (sizesFit p) (cond (valuesFit p) (cond (rowsRise p) (cond (rowsAgree p) 0 4) 3) 2) 1
+refusal p = cond (sizesFit p) (cond (valuesFit p) (cond (rowsRise p) (cond (rowsAgree p) (cond (newerFits (p .newer)) 0 10) 4) 3) 2) 1

@@ -19,11 +19,11 @@ use Rattle.text_rows.specs.declared.core.Cursor.{Cursor}
 use Rattle.text_rows.specs.declared.core.Cursor.the-variants.{On}
 use Rattle.text_rows.proofs.Listed.{steps-none, steps-more}
 
--- every list has a column, and seven at most
-pub narrow : (l : ℕ) → l < 15 → (0 < getD widths l 0) × (getD widths l 0 < 8)
+-- every list has a column, and eight at most
+pub narrow : (l : ℕ) → l < 15 → (0 < getD widths l 0) × (getD widths l 0 < 9)
 narrow l h =
-    let t = and-true _ _ (every-at (λ (w : ℕ). ltb 0 w && ltb w 8) widths 0 l refl h) in
-    (ltb-true 0 (getD widths l 0) (t .0), ltb-true (getD widths l 0) 8 (t .1))
+    let t = and-true _ _ (every-at (λ (w : ℕ). ltb 0 w && ltb w 9) widths 0 l refl h) in
+    (ltb-true 0 (getD widths l 0) (t .0), ltb-true (getD widths l 0) 9 (t .1))
 
 -- the l-th of some heads
 abbrev pub nth : List Head → ℕ → Head

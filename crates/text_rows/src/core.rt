@@ -9,7 +9,7 @@ use crate::fields::Field;
 use crate::fields::read_cell;
 
 // How many columns each list has.
-const WIDTHS: [usize; 15] = [2, 7, 3, 2, 2, 2, 2, 2, 3, 2, 1, 2, 2, 2, 1];
+const WIDTHS: [usize; 15] = [2, 8, 3, 2, 2, 2, 2, 2, 3, 2, 1, 2, 2, 2, 1];
 
 pub fn width(l: usize) -> usize
     requires { ⌜ l < 15 ⌝ }
@@ -144,9 +144,9 @@ fn read_noted(
 }
 
 // The lines of names of a project's lists.
-const NAMES: [u8; 256] = *b"\
+const NAMES: [u8; 262] = *b"\
 runtime dynamic\n\
-normal included sensitive reads exports wrap chunk\n\
+normal included sensitive reads exports wrap chunk newer\n\
 module kind target\n\
 module dependency\n\
 module included\n\
@@ -165,20 +165,20 @@ seed\n";
 const STARTS: [usize; 16] = [
     0,
     16,
-    67,
-    86,
-    104,
-    120,
-    137,
-    153,
-    165,
-    187,
-    206,
+    73,
+    92,
+    110,
+    126,
+    143,
+    159,
+    171,
+    193,
     212,
-    225,
-    239,
-    251,
-    256,
+    218,
+    231,
+    245,
+    257,
+    262,
 ];
 
 fn start(l: usize) -> usize

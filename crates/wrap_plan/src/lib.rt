@@ -2,6 +2,7 @@
 ghost use Rattle.table.specs.Table.{lent, lentWith};
 ghost use Rattle.wrap_plan.specs.Planned.{PlanFromSeeds};
 use core::plan_seeds;
+use current_columns::core::read_current;
 use refusal::refusal_number;
 use seeds::core::seeds_fit;
 use table::DEPENDENCY;
@@ -10,6 +11,7 @@ use table::NORMAL;
 use table::RECORD_KIND;
 use table::RECORD_MODULE;
 use table::RECORD_TARGET;
+use table::ROW_LIMIT;
 use table::column;
 use table::rows;
 use tables::Answer;
@@ -42,7 +44,9 @@ pub fn plan_from_seeds_with_records<'a>(
     if marks.len() < n {
         return Answer::Refused(6);
     }
-    let count = plan_seeds(
+    let mut read_targets = [0u32; ROW_LIMIT];
+    let mut read_dependencies = [0u32; ROW_LIMIT];
+    read_current(
         runtime,
         dynamic,
         bounds,
@@ -50,7 +54,20 @@ pub fn plan_from_seeds_with_records<'a>(
         importers,
         kinds,
         targets,
-        column(bounds, columns, DEPENDENCY),
+        &mut read_targets,
+        &mut read_dependencies,
+    );
+    let records = targets.len();
+    let dependency_rows = rows(bounds, columns, DEPENDENCY);
+    let count = plan_seeds(
+        runtime,
+        dynamic,
+        bounds,
+        columns,
+        importers,
+        kinds,
+        &read_targets[..records],
+        &read_dependencies[..dependency_rows],
         column(bounds, columns, MEMBER),
         seeds,
         &mut marks[..n],

@@ -5,7 +5,7 @@
 pub const MISSING: u32 = u32::MAX;
 
 /// How many columns a table has.
-pub const COLUMNS: usize = 33;
+pub const COLUMNS: usize = 34;
 
 /// A project: the two settings, where each column starts, with where the last ends, and all columns one after the other.
 #[derive(Clone, Copy, Debug)]
@@ -16,7 +16,7 @@ pub struct Table<'a> {
   pub columns: &'a [u32],
 }
 
-/// The number of a refusal, 1 to 6. No output was changed.
+/// The number of a refusal, 1 to 6 or 10. No output was changed.
 #[derive(Clone, Copy, Debug, PartialEq, Eq)]
 pub struct Refused(pub u32);
 

@@ -2,7 +2,7 @@
 use jolmuqter::{COLUMNS, MISSING, Refused, Table};
 
 /// How many columns each list has.
-const WIDTHS: [usize; 14] = [7, 3, 2, 2, 2, 2, 2, 3, 2, 1, 2, 2, 2, 1];
+const WIDTHS: [usize; 14] = [8, 3, 2, 2, 2, 2, 2, 3, 2, 1, 2, 2, 2, 1];
 
 /// The rows of each list.
 type Lists = Vec<Vec<Vec<u32>>>;
@@ -10,10 +10,10 @@ type Lists = Vec<Vec<Vec<u32>>>;
 /// The listing.
 fn listing() -> Lists {
   let modules = vec![
-    vec![1, 1, 0, 0, 1, 0, 1],
-    vec![1, 1, 1, 0, 1, 0, 0],
-    vec![1, 1, 1, 0, 1, 0, 0],
-    vec![1, 1, 1, 0, 1, 0, 1],
+    vec![1, 1, 0, 0, 1, 0, 1, MISSING],
+    vec![1, 1, 1, 0, 1, 0, 0, MISSING],
+    vec![1, 1, 1, 0, 1, 0, 0, MISSING],
+    vec![1, 1, 1, 0, 1, 0, 1, MISSING],
   ];
   let mut lists = vec![modules, vec![vec![1, 0, 2], vec![1, 0, 3]], vec![vec![1, 2], vec![1, 3]]];
   lists.extend(vec![Vec::new(); 6]);
@@ -199,8 +199,8 @@ fn refuses_bounds_that_do_not_fit() {
   let mut order = [9; 4];
   let mut ask = |table: Table| table.expected_order(1, &mut order);
   assert_eq!(with(unchanged, |table| ask(Table { bounds: &[], ..table })), Err(Refused(1)));
-  assert_eq!(with(unchanged, |table| ask(Table { bounds: &table.bounds[..33], ..table })), Err(Refused(1)));
-  for (bound, value) in [(0, 1), (7, 0), (7, MISSING), (33, 51), (33, 53)] {
+  assert_eq!(with(unchanged, |table| ask(Table { bounds: &table.bounds[..34], ..table })), Err(Refused(1)));
+  for (bound, value) in [(0, 1), (7, 0), (7, MISSING), (34, 55), (34, 57)] {
     let mut bounds = with(unchanged, |table| table.bounds.to_vec());
     bounds[bound] = value;
     assert_eq!(with(unchanged, |table| ask(Table { bounds: &bounds, ..table })), Err(Refused(1)));
@@ -220,5 +220,30 @@ fn refuses_columns_of_one_list_that_differ_in_length() {
       bounds[column + 1] -= 1;
       assert_eq!(with(unchanged, |table| Table { bounds: &bounds, ..table }.refusal()), Err(Refused(1)));
     }
+  }
+}
+
+/// Module 2 superseded by a module.
+fn newer(module: u32) -> impl Fn(&mut Lists) {
+  move |lists| lists[MODULES][2][7] = module
+}
+
+#[test]
+fn reads_through_replacements() {
+  let mut order = [9; 4];
+  assert_eq!(with(newer(3), |table| table.expected_order(1, &mut order)), Ok(2));
+  assert_eq!(order, [3, 1, 9, 9]);
+  let (mut numbers, mut sorted) = ([9; 4], [9; 4]);
+  assert_eq!(with(newer(3), |table| table.sort_modules(&mut numbers, &mut sorted)), Ok(3));
+  assert_eq!((numbers, sorted), ([0, 2, MISSING, 1], [0, 3, 1, 9]));
+}
+
+#[test]
+fn refuses_a_newer_that_is_no_later_row() {
+  for module in [2, 1, 0, 4, MISSING - 1] {
+    let mut order = [9; 3];
+    assert_eq!(with(newer(module), |table| table.refusal()), Err(Refused(10)));
+    assert_eq!(with(newer(module), |table| table.expected_order(4, &mut order)), Err(Refused(10)));
+    assert_eq!(order, [9; 3]);
   }
 }

@@ -46,8 +46,29 @@ fn rising(set: impl IntoIterator<Item = ModuleIdx>) -> Vec<u32> {
   list
 }
 
+/// The records and dependencies after replacement (C-18): a module that another supersedes is that one, and so on.
+fn after_replacement(p: &Project) -> Project {
+  let newer = &p[project::column::NEWER];
+  let mut last: Vec<u32> = (0..newer.len() as u32).collect();
+  for module in (0..newer.len()).rev() {
+    if newer[module] != MARK {
+      last[module] = last[newer[module] as usize];
+    }
+  }
+  let mut replaced = p.clone();
+  for column in [project::column::RECORD_TARGET, project::column::DEPENDENCY] {
+    for module in &mut replaced[column] {
+      if *module != MARK {
+        *module = last[*module as usize];
+      }
+    }
+  }
+  replaced
+}
+
 impl Original {
   pub fn of(p: &Project) -> Self {
+    let p = &after_replacement(p);
     let options = carriers::options(p);
     let mut stage = carriers::link_stage(p, &options);
     stage.sort();

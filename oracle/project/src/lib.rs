@@ -5,7 +5,7 @@ pub mod text;
 /// The missing mark, `-` in text.
 pub const MARK: u32 = u32::MAX;
 
-/// The 33 columns, by place.
+/// The 34 columns, by place.
 pub mod column {
   pub const NORMAL: usize = 0;
   pub const INCLUDED: usize = 1;
@@ -14,35 +14,36 @@ pub mod column {
   pub const EXPORTS: usize = 4;
   pub const WRAP: usize = 5;
   pub const CHUNK: usize = 6;
-  pub const RECORD_MODULE: usize = 7;
-  pub const RECORD_KIND: usize = 8;
-  pub const RECORD_TARGET: usize = 9;
-  pub const DEPENDENCY_MODULE: usize = 10;
-  pub const DEPENDENCY: usize = 11;
-  pub const STATEMENT_MODULE: usize = 12;
-  pub const STATEMENT_INCLUDED: usize = 13;
-  pub const USE_STATEMENT: usize = 14;
-  pub const USE_RECORD: usize = 15;
-  pub const OWNER: usize = 16;
-  pub const CANONICAL: usize = 17;
-  pub const CHAIN_SYMBOL: usize = 18;
-  pub const CHAIN_LINK: usize = 19;
-  pub const REFERENCE_STATEMENT: usize = 20;
-  pub const REFERENCE_FORM: usize = 21;
-  pub const REFERENCE_SYMBOL: usize = 22;
-  pub const DEPENDED_REFERENCE: usize = 23;
-  pub const DEPENDED: usize = 24;
-  pub const ORDER: usize = 25;
-  pub const MEMBER_CHUNK: usize = 26;
-  pub const MEMBER: usize = 27;
-  pub const IMPORT_CHUNK: usize = 28;
-  pub const IMPORTS: usize = 29;
-  pub const ENTRY: usize = 30;
-  pub const ENTRY_CHUNK: usize = 31;
-  pub const SEED: usize = 32;
+  pub const NEWER: usize = 7;
+  pub const RECORD_MODULE: usize = 8;
+  pub const RECORD_KIND: usize = 9;
+  pub const RECORD_TARGET: usize = 10;
+  pub const DEPENDENCY_MODULE: usize = 11;
+  pub const DEPENDENCY: usize = 12;
+  pub const STATEMENT_MODULE: usize = 13;
+  pub const STATEMENT_INCLUDED: usize = 14;
+  pub const USE_STATEMENT: usize = 15;
+  pub const USE_RECORD: usize = 16;
+  pub const OWNER: usize = 17;
+  pub const CANONICAL: usize = 18;
+  pub const CHAIN_SYMBOL: usize = 19;
+  pub const CHAIN_LINK: usize = 20;
+  pub const REFERENCE_STATEMENT: usize = 21;
+  pub const REFERENCE_FORM: usize = 22;
+  pub const REFERENCE_SYMBOL: usize = 23;
+  pub const DEPENDED_REFERENCE: usize = 24;
+  pub const DEPENDED: usize = 25;
+  pub const ORDER: usize = 26;
+  pub const MEMBER_CHUNK: usize = 27;
+  pub const MEMBER: usize = 28;
+  pub const IMPORT_CHUNK: usize = 29;
+  pub const IMPORTS: usize = 30;
+  pub const ENTRY: usize = 31;
+  pub const ENTRY_CHUNK: usize = 32;
+  pub const SEED: usize = 33;
 }
 
-pub const COLUMNS: usize = 33;
+pub const COLUMNS: usize = 34;
 
 /// A row list: its line of names, its first column and how many it has.
 pub struct List {
@@ -60,7 +61,7 @@ pub const SETTINGS: &str = "runtime dynamic";
 
 /// The fourteen row lists, in order.
 pub const LISTS: [List; 14] = [
-  list("normal included sensitive reads exports wrap chunk", column::NORMAL, 7),
+  list("normal included sensitive reads exports wrap chunk newer", column::NORMAL, 8),
   list("module kind target", column::RECORD_MODULE, 3),
   list("module dependency", column::DEPENDENCY_MODULE, 2),
   list("module included", column::STATEMENT_MODULE, 2),

@@ -13,17 +13,17 @@ use Rattle.tables.specs.Project.{Project}
 use Rattle.tables.specs.Readings.{chunks}
 use Rattle.tables.specs.Refusal.{chunkLimit}
 use Rattle.tables.specs.Accepted.{Accepted}
-use Rattle.table.specs.Table.{table, read, withRecords, Lent, lentWith}
+use Rattle.table.specs.Table.{table, read, withRecords, current, Lent, lentWith}
 use Rattle.table.specs.Places.{Places}
 use Rattle.table.proofs.Laws.{records-cut, lent-accepted}
 use Rattle.chunk_cycles.specs.Cycles.{labelsOf, reachesCycleOf}
 use Rattle.chunk_cycles.specs.inner.OverTable.{TableLabelled, Reaching}
-use Rattle.chunk_cycles.proofs.Promise.{reach-refused, reach-unfit, reach-done}
+use Rattle.chunk_cycles.proofs.Promise.{reach-refused, reach-unfit, reach-done, reach-read}
 use borrow.Author.Needs.{needs}
 use Rattle.chunk_cycles.proofs.chunk_reach_with_records.Statement.{statement}
 use Rattle.chunk_cycles.proofs.chunk_reach_with_records.Tie as tie
 
--- the entry, what was lent and its project, and the chunk count
+-- the entry, what was lent and its project as it is written, which has the same chunks, and the chunk count
 
 abbrev lents : tie.Start → Lent
 lents e = let a = e .args in lentWith (a .runtime) (a .dynamic) (a .bounds .now) (a .columns .now) (a .importers .now) (a .kinds .now) (a .targets .now)
@@ -41,6 +41,10 @@ counted : (k : tie.After-rows) → count k ≡ chunks (of (entry k))
 unfolding table read
 counted k = k .rows .ensures
 
+counted-read : (k : tie.After-rows) → count k ≡ chunks (current (of (entry k)))
+unfolding table read current
+counted-read k = k .rows .ensures
+
 accepts : (k : tie.After-rows) → lents (entry k) .number ≡ 0
 accepts k = sym (k .before .before .refusal-number .ensures) ∙ k .before .if1 .left
 
@@ -55,12 +59,12 @@ part : (k : tie.After-rows) → length {A = ℕ} (take (count k) (replicate chun
 part k = length-take-le (count k) (replicate chunkLimit 0) (few k)
 
 -- the project that the core reads is the one that was lent
-abbrev current : tie.After-column2 → Project
-current k =
+abbrev reading : tie.After-column2 → Project
+reading k =
     let a = entry (k .before .before .before) .args in
     read (table (a .runtime) (a .dynamic) (a .bounds .now) (a .columns .now)) (a .importers .now) (a .kinds .now) (a .targets .now) (k .before .column .result .now) (k .column2 .result .now)
 
-own : (k : tie.After-column2) → current k ≡ of (entry (k .before .before .before))
+own : (k : tie.After-column2) → reading k ≡ of (entry (k .before .before .before))
 own k =
     let a = entry (k .before .before .before) .args in
     records-cut (a .runtime) (a .dynamic) (a .bounds .now) (a .columns .now) (a .importers .now) (a .kinds .now) (a .targets .now) (k .before .column .ensures) (k .column2 .ensures)
@@ -76,7 +80,7 @@ returns : tie.Need-returns
 returns c = let e = c .before .before .before .before .before .before .before in reach-refused (lents e) (e .args .chunk) (c .before .refusal-number .result) (c .before .refusal-number .ensures) (c .if1 .taken)
 
 returns-2 : tie.Need-returns-2
-returns-2 c = let k = c .before in let e = entry k in reach-unfit (lents e) (e .args .chunk) (accepts k) (omega (arith, counted k, c .if2 .taken))
+returns-2 c = let k = c .before in let e = entry k in reach-unfit (lents e) (e .args .chunk) (accepts k) (omega (arith, counted-read k, c .if2 .taken))
 
 array-borrow-prefix-labels : tie.Need-array-borrow-prefix-labels
 array-borrow-prefix-labels c = few (c .before .before .before)
@@ -102,7 +106,7 @@ reaches-table-requires c κs =
     let k = c .before .before .before .before .before .before .before in
     let e = entry k in
     let labels : List ℕ = made m in
-    subst (λ (l : List ℕ). Reaching (current (c .before .before .before .before)) l (e .args .chunk)) (sym (take-at labels _ (count k) (made-length m)))
+    subst (λ (l : List ℕ). Reaching (reading (c .before .before .before .before)) l (e .args .chunk)) (sym (take-at labels _ (count k) (made-length m)))
     (subst (λ (p : Project). Reaching p labels (e .args .chunk)) (sym (own (c .before .before .before .before)))
     (record {
       accepted = ok k;
@@ -115,8 +119,8 @@ returns-3 c =
     let k = c .before .before .before .before .before .before .before .before in
     let e = entry k in
     let reaches : Bool = c .reaches-table .result in
-    reach-done (lents e) (e .args .chunk) (accepts k) (omega (arith, counted k, c .before .before .before .before .before .before .before .if2 .left))
-    (ap bit (subst (λ (p : Project). reaches ≡ reachesCycleOf p (e .args .chunk)) (own (c .before .before .before .before .before)) (c .reaches-table .ensures)))
+    reach-done (lents e) (e .args .chunk) (accepts k) (omega (arith, counted-read k, c .before .before .before .before .before .before .before .if2 .left))
+    (ap bit (subst (λ (p : Project). reaches ≡ reachesCycleOf p (e .args .chunk)) (own (c .before .before .before .before .before)) (c .reaches-table .ensures) ∙ sym (reach-read (of e) (e .args .chunk))))
 
 pub chunk-reach-with-records-spec : {M : Type 1} → statement M
 chunk-reach-with-records-spec =

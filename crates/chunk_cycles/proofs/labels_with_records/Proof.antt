@@ -10,17 +10,17 @@ use Rattle.tables.specs.Project.{Project}
 use Rattle.tables.specs.Readings.{chunks}
 use Rattle.tables.specs.Accepted.{Accepted}
 use Rattle.tables.specs.declared.Answer.the-variants.{Counted}
-use Rattle.table.specs.Table.{table, read, withRecords, Lent, lentWith}
+use Rattle.table.specs.Table.{table, read, withRecords, current, Lent, lentWith}
 use Rattle.table.specs.Places.{Places}
 use Rattle.table.proofs.Laws.{records-cut, lent-accepted}
 use Rattle.chunk_cycles.specs.Promise.{LabelsPromise}
 use Rattle.chunk_cycles.specs.inner.OverTable.{TableLabelled}
-use Rattle.chunk_cycles.proofs.Promise.{labels-refused, labels-short, labels-done}
+use Rattle.chunk_cycles.proofs.Promise.{labels-refused, labels-short, labels-done, labels-read}
 use borrow.Author.Needs.{needs}
 use Rattle.chunk_cycles.proofs.labels_with_records.Statement.{statement}
 use Rattle.chunk_cycles.proofs.labels_with_records.Tie as tie
 
--- the entry, what was lent and its project, and the chunk count
+-- the entry, what was lent and its project as it is written, which has the same chunks, and the chunk count
 
 abbrev lents : tie.Start → Lent
 lents e = let a = e .args in lentWith (a .runtime) (a .dynamic) (a .bounds .now) (a .columns .now) (a .importers .now) (a .kinds .now) (a .targets .now)
@@ -37,6 +37,10 @@ count k = k .rows .result
 counted : (k : tie.After-rows) → count k ≡ chunks (of (entry k))
 unfolding table read
 counted k = k .rows .ensures
+
+counted-read : (k : tie.After-rows) → count k ≡ chunks (current (of (entry k)))
+unfolding table read current
+counted-read k = k .rows .ensures
 
 accepts : (k : tie.After-rows) → lents (entry k) .number ≡ 0
 accepts k = sym (k .before .before .refusal-number .ensures) ∙ k .before .if1 .left
@@ -58,7 +62,7 @@ returns : tie.Need-returns
 returns c = let e = c .before .before .before .before .before .before .before .before in labels-refused (lents e) (e .args .labels .now) (c .before .refusal-number .result) (c .before .refusal-number .ensures) (c .if1 .taken)
 
 returns-2 : tie.Need-returns-2
-returns-2 c = let k = c .before in let e = entry k in labels-short (lents e) (e .args .labels .now) (accepts k) (omega (arith, counted k, c .if2 .taken))
+returns-2 c = let k = c .before in let e = entry k in labels-short (lents e) (e .args .labels .now) (accepts k) (omega (arith, counted-read k, c .if2 .taken))
 
 slice-aggregate-label-table : tie.Need-slice-aggregate-label-table
 slice-aggregate-label-table c = sym (part (c .before .before .before))
@@ -77,9 +81,9 @@ returns-3 c =
     let e = entry k in
     let done = c .before .before .label-table in
     let made : List ℕ = done .last .1 .1 .1 .1 .1 .1 .1 .1 .1 .0 in
-    subst (λ (n : ℕ). LabelsPromise (lents e) (e .args .labels .now) (Counted (done .result)) (made ++ drop n (e .args .labels .now))) (sym (counted k))
-    (labels-done (lents e) (e .args .labels .now) (accepts k) (omega (arith, counted k, f .if2 .left))
-    (subst (λ (p : Project). TableLabelled p made (done .result)) (own (c .before .before .before .before)) (done .ensures)))
+    subst (λ (n : ℕ). LabelsPromise (lents e) (e .args .labels .now) (Counted (done .result)) (made ++ drop n (e .args .labels .now))) (sym (counted-read k))
+    (labels-done (lents e) (e .args .labels .now) (accepts k) (omega (arith, counted-read k, f .if2 .left))
+    (labels-read (of e) made (done .result) (subst (λ (p : Project). TableLabelled p made (done .result)) (own (c .before .before .before .before)) (done .ensures))))
 
 pub labels-with-records-spec : {M : Type 1} → statement M
 labels-with-records-spec =

@@ -16,17 +16,17 @@ use Rattle.refusal.proofs.bounds_fit.Statement.{statement}
 use Rattle.refusal.proofs.bounds_fit.Tie as tie
 
 -- the tests of as many bounds as there have to be
-fitting : (bounds columns : List ℕ) {r : Bool} → length bounds ≡ 34 → r ≡ rises bounds
-    → ((eqb (getD bounds 0 0) 0 && eqb (getD bounds 33 0) (length columns)) && r) ≡ boundsFit bounds columns
+fitting : (bounds columns : List ℕ) {r : Bool} → length bounds ≡ 35 → r ≡ rises bounds
+    → ((eqb (getD bounds 0 0) 0 && eqb (getD bounds 34 0) (length columns)) && r) ≡ boundsFit bounds columns
 unfolding boundsFit
-fitting bounds columns {r} n e = rw (eq-eqb (length bounds) 34 n, e, and-assoc)
+fitting bounds columns {r} n e = rw (eq-eqb (length bounds) 35 n, e, and-assoc)
 
 returns : tie.Need-returns
 unfolding boundsFit
-returns c = rw (ne-eqb (length (c .before .before .before .args .bounds .now)) 34 (c .if1 .taken))
+returns c = rw (ne-eqb (length (c .before .before .before .args .bounds .now)) 35 (c .if1 .taken))
 
 cast-result : tie.Need-cast-result
-cast-result c = omega (arith, c .shared-slice-known4 .given 33)
+cast-result c = omega (arith, c .shared-slice-known4 .given 34)
 
 returns-2 : tie.Need-returns-2
 returns-2 c = let a = c .before .before .before .before .before .before .args in fitting (a .bounds .now) (a .columns .now) (c .before .before .before .if1 .left) (c .is-rising .ensures)

@@ -3,9 +3,10 @@
 use mathlib.Core.Path.{_≡_}
 use mathlib.Core.Bool.{true, _&&_}
 use Rattle.tables.specs.Project.{Project}
-use Rattle.tables.specs.Refusal.{sizesFit, valuesFit, rowsRise, rowsAgree}
-use Rattle.tables.proofs.Number.{number-0, number-1, number-2, number-3, number-4}
+use Rattle.tables.specs.Refusal.{sizesFit, valuesFit, rowsRise, rowsAgree, newerFits}
+use Rattle.tables.proofs.Number.{number-0, number-1, number-2, number-3, number-4, number-10}
 use Rattle.table.specs.Table.{table, read, withRecords}
+use Rattle.table.proofs.Cut.{given1}
 use Rattle.column_tests.proofs.Chain.{failed, passed}
 use Rattle.refusal.proofs.Groups.{sizes-joined, values-joined}
 use borrow.Author.Needs.{needs}
@@ -52,10 +53,20 @@ rows-agree-requires c κs = record { sizes = sizes-passed (c .before .before .be
 returns-4 : tie.Need-returns-4
 returns-4 c = number-4 (of (c .before .before .before .before .before .before .before .before .before .before .before .before .before .before .before .before .before)) (sizes-passed (c .before .before .before .before .before .before .before .before)) (values-passed (c .before .before .before .before)) (rise-passed (c .before .before)) (failed {a = rowsAgree (of (c .before .before .before .before .before .before .before .before .before .before .before .before .before .before .before .before .before))} (c .before .rows-agree .ensures) (c .if4 .taken))
 
+agree-passed : (c : tie.Else4) → rowsAgree (of (c .before .before .before .before .before .before .before .before .before .before .before .before .before .before .before .before .before)) ≡ true
+agree-passed c = passed {a = rowsAgree (of (c .before .before .before .before .before .before .before .before .before .before .before .before .before .before .before .before .before))} (c .before .rows-agree .ensures) (c .if4 .left)
+
+newer-tested : (k : tie.After-newer-fits) → k .newer-fits .result ≡ newerFits (of (k .before .before .before .before .before .before .before .before .before .before .before .before .before .before .before .before .before .before .before) .newer)
+unfolding table read
+newer-tested k = given1 (λ newer. k .newer-fits .result ≡ newerFits newer) (k .before .column .ensures) (k .newer-fits .ensures)
+
 returns-5 : tie.Need-returns-5
-returns-5 c = number-0 (of (c .before .before .before .before .before .before .before .before .before .before .before .before .before .before .before .before .before)) (sizes-passed (c .before .before .before .before .before .before .before .before)) (values-passed (c .before .before .before .before)) (rise-passed (c .before .before)) (passed {a = rowsAgree (of (c .before .before .before .before .before .before .before .before .before .before .before .before .before .before .before .before .before))} (c .before .rows-agree .ensures) (c .if4 .left))
+returns-5 c = let p = of (c .before .before .before .before .before .before .before .before .before .before .before .before .before .before .before .before .before .before .before .before) in number-10 p (sizes-passed (c .before .before .before .before .before .before .before .before .before .before .before)) (values-passed (c .before .before .before .before .before .before .before)) (rise-passed (c .before .before .before .before .before)) (agree-passed (c .before .before .before)) (failed {a = newerFits (p .newer)} (newer-tested (c .before)) (c .if5 .taken))
+
+returns-6 : tie.Need-returns-6
+returns-6 c = let p = of (c .before .before .before .before .before .before .before .before .before .before .before .before .before .before .before .before .before .before .before .before) in number-0 p (sizes-passed (c .before .before .before .before .before .before .before .before .before .before .before)) (values-passed (c .before .before .before .before .before .before .before)) (rise-passed (c .before .before .before .before .before)) (agree-passed (c .before .before .before)) (passed {a = newerFits (p .newer)} (newer-tested (c .before)) (c .if5 .left))
 
 pub project-number-spec : {M : Type 1} → statement M
 project-number-spec =
     tie.close
-    (tie.spec (λ c κs. search needs) (λ c κs. search needs) (λ c κs. search needs) returns (λ c κs. search needs) (λ c κs. search needs) (λ c κs. search needs) returns-2 (λ c κs. search needs) returns-3 rows-agree-requires returns-4 returns-5)
+    (tie.spec (λ c κs. search needs) (λ c κs. search needs) (λ c κs. search needs) returns (λ c κs. search needs) (λ c κs. search needs) (λ c κs. search needs) returns-2 (λ c κs. search needs) returns-3 rows-agree-requires returns-4 (λ c κs. search needs) (λ c κs. search needs) returns-5 returns-6)

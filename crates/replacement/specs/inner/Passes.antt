@@ -6,8 +6,8 @@ use mathlib.Core.List.{List}
 use Prim.Native.Nat.{ℕ, _≤_, _<_}
 use lib.ListN.{length, getD}
 use lib.Dec.{ltb}
-use Rattle.tables.specs.Refusal.{moduleLimit}
-use Rattle.replacement.specs.Replacement.{latest, newerFits}
+use Rattle.tables.specs.Refusal.{moduleLimit, newerFits}
+use Rattle.replacement.specs.Replacement.{latest}
 
 -- what is read for the modules from m on is found
 pub record Found (newer found : List ℕ) (m : ℕ) : Type 0 where

@@ -4,44 +4,53 @@ use mathlib.Core.Path.{_≡_, sym, subst, _∙_}
 use mathlib.Core.List.{List}
 use Prim.Native.Nat.{ℕ, _≤_}
 use native.Mathlib.Omega.{arith}
-use lib.ListN.{length, take, replicate}
+use lib.ListN.{length, take, replicate, length-replicate}
 use lib.Seq.{length-take-le}
 use borrow.Author.Needs.{needs}
 use Rattle.tables.specs.Project.{Project}
 use Rattle.tables.specs.Readings.{modules}
-use Rattle.tables.specs.Refusal.{moduleLimit}
+use Rattle.tables.specs.Refusal.{moduleLimit, rowLimit}
 use Rattle.tables.specs.Accepted.{Accepted}
-use Rattle.table.specs.Table.{table, read, withRecords, Lent, lentWith}
-use Rattle.table.proofs.Laws.{records-cut, lent-accepted}
+use Rattle.table.specs.Table.{table, read, withRecords, current, Lent, lentWith}
+use Rattle.table.proofs.Laws.{lent-accepted, lent-current}
+use Rattle.current_columns.proofs.Read.{current-cut, targets-room, targets-size, dependencies-room, dependencies-size}
 use Rattle.sort_modules.specs.OfProject.{numbersOf, sortedOf}
 use Rattle.sort_modules.specs.Sorting.{Sortable, Sorted}
 use Rattle.sort_modules.proofs.Promise.{project-refused, numbers-refused, sorted-refused, order-sorted}
 use Rattle.sort_modules.proofs.sort_modules_with_records.Statement.{statement}
 use Rattle.sort_modules.proofs.sort_modules_with_records.Tie as tie
 
--- the entry, what was lent and its project, and the module count
+-- the entry, what was lent, and its project as it is written and as it is read
 
 abbrev lents : tie.Start → Lent
 lents e = let a = e .args in lentWith (a .runtime) (a .dynamic) (a .bounds .now) (a .columns .now) (a .importers .now) (a .kinds .now) (a .targets .now)
 
+abbrev written : tie.Start → Project
+written e = let a = e .args in withRecords (table (a .runtime) (a .dynamic) (a .bounds .now) (a .columns .now)) (a .importers .now) (a .kinds .now) (a .targets .now)
+
 abbrev of : tie.Start → Project
-of e = let a = e .args in withRecords (table (a .runtime) (a .dynamic) (a .bounds .now) (a .columns .now)) (a .importers .now) (a .kinds .now) (a .targets .now)
+of e = current (written e)
 
 abbrev entry : tie.After-rows → tie.Start
 entry k = k .before .before .before .before .before .before .before .before .before .before
+
+accepts : (k : tie.After-rows) → lents (entry k) .number ≡ 0
+accepts k = sym (k .before .before .refusal-number .ensures) ∙ k .before .if1 .left
+
+tested : (k : tie.After-rows) → Accepted (written (entry k))
+tested k = let a = entry k .args in lent-accepted (a .bounds .now) (a .columns .now) (written (entry k)) (accepts k)
+
+ok : (k : tie.After-rows) → Accepted (of (entry k))
+ok k = let a = entry k .args in lent-current (a .bounds .now) (a .columns .now) (written (entry k)) (accepts k)
+
+-- the module count
 
 abbrev count : tie.After-rows → ℕ
 count k = k .rows .result
 
 counted : (k : tie.After-rows) → count k ≡ modules (of (entry k))
-unfolding table read
+unfolding table read current
 counted k = k .rows .ensures
-
-accepts : (k : tie.After-rows) → lents (entry k) .number ≡ 0
-accepts k = sym (k .before .before .refusal-number .ensures) ∙ k .before .if1 .left
-
-ok : (k : tie.After-rows) → Accepted (of (entry k))
-ok k = let a = entry k .args in lent-accepted (a .bounds .now) (a .columns .now) (of (entry k)) (accepts k)
 
 -- there are no more modules than the working array has places
 few : (k : tie.After-rows) → count k ≤ moduleLimit
@@ -55,11 +64,18 @@ marks-len k = length-take-le (count k) (replicate moduleLimit 0) (few k)
 numbers-len : (c : tie.Else2) → length (take (count (c .before)) (entry (c .before) .args .numbers .now)) ≡ count (c .before)
 numbers-len c = length-take-le (count (c .before)) (entry (c .before) .args .numbers .now) (c .if2 .left)
 
--- the project that the core reads is the one that was lent
-own : (k : tie.After-column2) → let a = entry (k .before .before .before .before) .args in read (table (a .runtime) (a .dynamic) (a .bounds .now) (a .columns .now)) (a .importers .now) (a .kinds .now) (a .targets .now) (k .before .column .result .now) (k .column2 .result .now) ≡ of (entry (k .before .before .before .before))
+-- the columns that were read, and the project that the core reads with them
+
+abbrev made-targets : tie.After-read-current → List ℕ
+made-targets k = k .read-current .last .1 .1 .1 .1 .1 .1 .1 .0
+
+abbrev made-dependencies : tie.After-read-current → List ℕ
+made-dependencies k = k .read-current .last .1 .1 .1 .1 .1 .1 .1 .1 .0
+
+own : (k : tie.After-column) → let a = k .before .before .before .before .before .before .before .before .before .before .before .before .before .before .before .before .before .before .before .before .before .args in read (table (a .runtime) (a .dynamic) (a .bounds .now) (a .columns .now)) (a .importers .now) (a .kinds .now) (take (length (a .targets .now)) (made-targets (k .before .before .before .before .before .before))) (take (k .before .before .before .rows2 .result) (made-dependencies (k .before .before .before .before .before .before))) (k .column .result .now) ≡ of (k .before .before .before .before .before .before .before .before .before .before .before .before .before .before .before .before .before .before .before .before .before)
 own k =
-    let a = entry (k .before .before .before .before) .args in
-    records-cut (a .runtime) (a .dynamic) (a .bounds .now) (a .columns .now) (a .importers .now) (a .kinds .now) (a .targets .now) (k .before .column .ensures) (k .column2 .ensures)
+    let a = k .before .before .before .before .before .before .before .before .before .before .before .before .before .before .before .before .before .before .before .before .before .args in
+    current-cut (a .runtime) (a .dynamic) (a .bounds .now) (a .columns .now) (a .importers .now) (a .kinds .now) (a .targets .now) (k .before .before .before .before .before .before .read-current .ensures) (k .before .before .before .rows2 .ensures) (k .column .ensures)
 
 returns : tie.Need-returns
 returns c = let e = c .before .before .before .before .before .before .before .before .before in project-refused (lents e) (e .args .numbers .now) (e .args .sorted .now) (c .before .refusal-number .result) (c .before .refusal-number .ensures) (c .if1 .taken)
@@ -73,42 +89,65 @@ returns-3 c =
     let e = entry k in
     sorted-refused (lents e) (e .args .numbers .now) (e .args .sorted .now) (accepts k) (omega (arith, counted k, c .before .if2 .left)) (omega (arith, counted k, c .if3 .taken))
 
-array-borrow-prefix-marks : tie.Need-array-borrow-prefix-marks
-array-borrow-prefix-marks c = few (c .before .before .before .before)
+read-current-requires : tie.Need-read-current-requires
+read-current-requires c κs = (tested (c .before .before .before .before), (length-replicate {A = ℕ} rowLimit 0, length-replicate {A = ℕ} rowLimit 0))
+
+array-share-prefix-read-targets : tie.Need-array-share-prefix-read-targets
+array-share-prefix-read-targets c =
+    let a = c .before .before .before .before .before .before .before .before .before .before .before .before .before .before .before .before .before .before .args in
+    targets-room (a .runtime) (a .dynamic) (a .bounds .now) (a .columns .now) (a .importers .now) (a .kinds .now) (a .targets .now) (tested (c .before .before .before .before .before .before .before .before)) (c .before .before .before .read-current .ensures)
 
 slice-aggregate-sort-table : tie.Need-slice-aggregate-sort-table
-slice-aggregate-sort-table c = sym (marks-len (c .before .before .before .before .before))
+slice-aggregate-sort-table c =
+    let a = c .before .before .before .before .before .before .before .before .before .before .before .before .before .before .before .before .before .before .before .args in
+    targets-size (a .runtime) (a .dynamic) (a .bounds .now) (a .columns .now) (a .importers .now) (a .kinds .now) (a .targets .now) (tested (c .before .before .before .before .before .before .before .before .before)) (c .before .before .before .before .read-current .ensures)
 
-slice-relend-prefix-sort-table : tie.Need-slice-relend-prefix-sort-table
-slice-relend-prefix-sort-table c = c .before .before .before .before .if2 .left
+array-share-prefix-read-dependencies : tie.Need-array-share-prefix-read-dependencies
+array-share-prefix-read-dependencies c =
+    let a = c .before .before .before .before .before .before .before .before .before .before .before .before .before .before .before .before .before .before .before .args in
+    dependencies-room (a .runtime) (a .dynamic) (a .bounds .now) (a .columns .now) (a .importers .now) (a .kinds .now) (a .targets .now) (tested (c .before .before .before .before .before .before .before .before .before)) (c .before .before .before .before .read-current .ensures) (c .before .rows2 .ensures)
 
 slice-aggregate-sort-table-2 : tie.Need-slice-aggregate-sort-table-2
-slice-aggregate-sort-table-2 c = sym (numbers-len (c .before .before .before .before .before))
+slice-aggregate-sort-table-2 c =
+    let a = c .before .before .before .before .before .before .before .before .before .before .before .before .before .before .before .before .before .before .before .before .args in
+    dependencies-size (a .runtime) (a .dynamic) (a .bounds .now) (a .columns .now) (a .importers .now) (a .kinds .now) (a .targets .now) (tested (c .before .before .before .before .before .before .before .before .before .before)) (c .before .before .before .before .before .read-current .ensures) (c .before .before .rows2 .ensures)
+
+array-borrow-prefix-marks : tie.Need-array-borrow-prefix-marks
+array-borrow-prefix-marks c = few (c .before .before .before .before .before .before .before .before .before .before .before)
+
+slice-aggregate-sort-table-3 : tie.Need-slice-aggregate-sort-table-3
+slice-aggregate-sort-table-3 c = sym (marks-len (c .before .before .before .before .before .before .before .before .before .before .before .before))
+
+slice-relend-prefix-sort-table : tie.Need-slice-relend-prefix-sort-table
+slice-relend-prefix-sort-table c = c .before .before .before .before .before .before .before .before .before .before .before .if2 .left
+
+slice-aggregate-sort-table-4 : tie.Need-slice-aggregate-sort-table-4
+slice-aggregate-sort-table-4 c = sym (numbers-len (c .before .before .before .before .before .before .before .before .before .before .before .before))
 
 sort-table-requires : tie.Need-sort-table-requires
 sort-table-requires c κs =
-    let k = c .before .before .before .before .before .before .before in
+    let k = c .before .before .before .before .before .before .before .before .before .before .before .before .before .before in
     let e = entry k in
     subst (λ (p : Project). Sortable p (length {A = ℕ} (take (count k) (replicate moduleLimit 0))) (length (take (count k) (e .args .numbers .now))) (length (e .args .sorted .now))) (sym (own (c .before .before .before)))
     (record {
       accepted = ok k;
       size = marks-len k ∙ counted k;
-      places = numbers-len (c .before .before .before .before .before .before) ∙ sym (marks-len k);
-      room = omega (arith, marks-len k, c .before .before .before .before .before .if3 .left);
+      places = numbers-len (c .before .before .before .before .before .before .before .before .before .before .before .before .before) ∙ sym (marks-len k);
+      room = omega (arith, marks-len k, c .before .before .before .before .before .before .before .before .before .before .before .before .if3 .left);
     })
 
 returns-4 : tie.Need-returns-4
 returns-4 c =
-    let k = c .before .before .before .before .before .before .before .before .before .before .before .before .before in
+    let k = c .before .before .before .before .before .before .before .before .before .before .before .before .before .before .before .before .before .before .before .before in
     let e = entry k in
     let done = c .before .before .before .before .before .sort-table in
     let marks : List ℕ = done .last .1 .1 .1 .1 .1 .1 .1 .1 .1 .0 in
     let numbers : List ℕ = done .last .1 .1 .1 .1 .1 .1 .1 .1 .1 .1 .0 in
     let sorted : List ℕ = done .last .1 .1 .1 .1 .1 .1 .1 .1 .1 .1 .1 .0 in
-    order-sorted (lents e) (e .args .numbers .now) (e .args .sorted .now) (accepts k) (omega (arith, counted k, c .before .before .before .before .before .before .before .before .before .before .before .before .if2 .left)) (omega (arith, counted k, c .before .before .before .before .before .before .before .before .before .before .before .if3 .left)) (count k) (counted k)
+    order-sorted (lents e) (e .args .numbers .now) (e .args .sorted .now) (accepts k) (omega (arith, counted k, c .before .before .before .before .before .before .before .before .before .before .before .before .before .before .before .before .before .before .before .if2 .left)) (omega (arith, counted k, c .before .before .before .before .before .before .before .before .before .before .before .before .before .before .before .before .before .before .if3 .left)) (count k) (counted k)
     (subst (λ (p : Project). Sorted (numbersOf p) (sortedOf p) (take (count k) (replicate moduleLimit 0)) (e .args .sorted .now) marks numbers sorted (done .result)) (own (c .before .before .before .before .before .before .before .before .before)) (done .ensures))
 
 pub sort-modules-with-records-spec : {M : Type 1} → statement M
 sort-modules-with-records-spec =
     tie.close
-    (tie.spec (λ c κs. search needs) returns (λ c κs. search needs) returns-2 returns-3 (λ c κs. search needs) (λ c κs. search needs) array-borrow-prefix-marks slice-aggregate-sort-table slice-relend-prefix-sort-table slice-aggregate-sort-table-2 sort-table-requires (λ c. search needs) (λ c. search needs) returns-4)
+    (tie.spec (λ c κs. search needs) returns (λ c κs. search needs) returns-2 returns-3 (λ c. search needs) (λ c. search needs) read-current-requires (λ c κs. search needs) array-share-prefix-read-targets slice-aggregate-sort-table array-share-prefix-read-dependencies slice-aggregate-sort-table-2 (λ c κs. search needs) array-borrow-prefix-marks slice-aggregate-sort-table-3 slice-relend-prefix-sort-table slice-aggregate-sort-table-4 sort-table-requires (λ c. search needs) (λ c. search needs) returns-4)

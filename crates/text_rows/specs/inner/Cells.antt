@@ -51,7 +51,7 @@ listed h vs = h .name ++ 10 ∷ body (h .last) vs
 
 -- how many columns each list has
 abbrev pub widths : List ℕ
-widths = 2 ∷ 7 ∷ 3 ∷ 2 ∷ 2 ∷ 2 ∷ 2 ∷ 2 ∷ 3 ∷ 2 ∷ 1 ∷ 2 ∷ 2 ∷ 2 ∷ 1 ∷ []
+widths = 2 ∷ 8 ∷ 3 ∷ 2 ∷ 2 ∷ 2 ∷ 2 ∷ 2 ∷ 3 ∷ 2 ∷ 1 ∷ 2 ∷ 2 ∷ 2 ∷ 1 ∷ []
 
 abbrev pub headsOf : List String → List ℕ → List Head
 headsOf [] ws = []

@@ -8,6 +8,7 @@ use Rattle.reached_modules.specs.inner.Roots.{rootsOver, Written}
 use Prim.Native.Nat.{_≤_}
 use Rattle.table.proofs.Cut.{given1, given3, asked1, asked2}
 use Rattle.reached_modules.proofs.Reached.{roots-over}
+use Rattle.reached_modules.proofs.Few.{entries-few}
 use Rattle.tables.specs.Project.{Project}
 use Rattle.table.specs.Table.{table, read}
 use borrow.Author.Needs.{needs}
@@ -31,7 +32,7 @@ list-roots-requires c κs =
       asked2 (λ included entries. Below (length included) entries) (k .before .before .column .ensures) (k .before .column2 .ensures) (λ i l. omega (arith, ok .values .entry i l, ok .sizes .included)),
       (
         asked2 (λ entries entryChunks. length entryChunks ≡ length entries) (k .before .column2 .ensures) (k .column3 .ensures) (ok .sizes .entryChunk),
-        asked1 (λ entries. length entries ≤ length (e .args .list .now)) (k .before .column2 .ensures) (omega (arith, ok .sizes .entry, e .pre .fits)),
+        asked1 (λ entries. length entries ≤ length (e .args .list .now)) (k .before .column2 .ensures) (omega (arith, entries-few (of e) ok, ok .sizes .normal, e .pre .fits)),
       ),
     )
 

@@ -1,0 +1,2 @@
+-- `Read`: a table that is read with what was made.
+pub mod Read

@@ -1,0 +1,2 @@
+-- Columns as they are read.
+pub mod inner
