@@ -15,9 +15,11 @@ use Rattle.tables.specs.Readings.{modules, analysedRow, isAnalysed, analysed, e
 use Rattle.tables.specs.Refusal.{refusal}
 use Rattle.tables.specs.Answers.{numberOf, countOf, after}
 use Rattle.tables.specs.declared.Answer.{Answer}
+use Rattle.tables.specs.Accepted.{Accepted}
 use Rattle.tables.proofs.Accepted.{accepted}
 use Rattle.table.specs.Table.{Lent, answer}
 use Rattle.chunk_cycles.specs.Cycles.{labelsOf, reachesCycleOf}
+use Rattle.chunk_cycles.specs.Paths.{MoreImports}
 use Rattle.chunk_cycles.proofs.OverTable.{accepted-fit}
 use Rattle.chunk_cycles.proofs.Paths.{component-grows}
 use Rattle.expected_order.specs.OfProject.{expectedOf}
@@ -77,15 +79,21 @@ moreSeedRowsKeepTheWholePlan p rows h m e =
         (λ r. row-seed (withSeed p rows) x (h x r))
         (seed-cases p x s)
 
-pub moreImportsKeepThePlan : MoreImportsKeepThePlan
-unfolding MoreImportsKeepThePlan planOf Within
-moreImportsKeepThePlan p froms tos seeds ok ok′ more =
+-- of accepted projects
+pub more-imports : (p : Project) (froms tos seeds : List ℕ) → Accepted p → Accepted (withImports p froms tos) → MoreImports p (withImports p froms tos)
+    → (m : ℕ) → has (planOf p seeds) m ≡ true → has (planOf (withImports p froms tos) seeds) m ≡ true
+unfolding planOf Within
+more-imports p froms tos seeds ok ok′ more =
     let q : Project = withImports p froms tos in
     plan-rises (ordersOf p) (ordersOf q) (labelsOf p) (labelsOf q) p q seeds seeds refl (λ m e s. (imports-eligible p froms tos m ∙ e, s))
     (λ rule S n m e.
     ap (λ (orders : List (List ℕ)). asks orders (labelsOf q) q rule S m) (imports-orders p froms tos)
     ∙ imports-asks p froms tos (ordersOf p) (labelsOf q) rule S m
-    ∙ asks-labels (labelsOf p) (labelsOf q) (component-grows p q more (accepted-fit p (accepted p ok)) (accepted-fit q (accepted q ok′)) refl) (ordersOf p) p rule S m e)
+    ∙ asks-labels (labelsOf p) (labelsOf q) (component-grows p q more (accepted-fit p ok) (accepted-fit q ok′) refl) (ordersOf p) p rule S m e)
+
+pub moreImportsKeepThePlan : MoreImportsKeepThePlan
+unfolding MoreImportsKeepThePlan
+moreImportsKeepThePlan p froms tos seeds ok ok′ = more-imports p froms tos seeds (accepted p ok) (accepted (withImports p froms tos) ok′)
 
 -- an analysed entry is one of the roots
 pub analysed-root : (p : Project) (root : ℕ) → isAnalysed p root ≡ true → List·Memᴰ root (roots p)

@@ -1,0 +1,1 @@
+// Demand 3 for callers: statements alone, no code.
