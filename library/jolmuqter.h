@@ -89,6 +89,10 @@ uint64_t jolmuqter_order_risk(JOLMUQTER_TABLE, uint32_t root, uint32_t *risk, si
  * Packing chunks anew lessens it. A module may be in both risks; the whole analysis takes the two together. Count: that of ones. */
 uint64_t jolmuqter_cycle_risk(JOLMUQTER_TABLE, uint32_t root, uint32_t *risk, size_t risk_len);
 
+/* grounds: why each module is sensitive: 1 for its own flag, 2 for a use that triggers a wrapped module, 3 for both; 0 for one that isn't sensitive, as
+ * the runtime, an external and one that isn't included. Count: that of the grounds above 0. */
+uint64_t jolmuqter_grounds(JOLMUQTER_TABLE, uint32_t *grounds, size_t grounds_len);
+
 /* plan: 0 or 1 for each module, from these seeds (the table's seed rows aren't used). Count: that of ones. */
 uint64_t jolmuqter_plan_from_seeds(JOLMUQTER_TABLE, const uint32_t *seeds, size_t seeds_len, uint32_t *plan, size_t plan_len);
 

@@ -172,6 +172,11 @@ static void answers(void) {
   EXPECT(jolmuqter_cycle_risk(TABLE(back), 1, a, 4), 3);
   HOLD(a, 0, 1, 1, 1);
 
+  EXPECT(jolmuqter_grounds(TABLE(t), a, 3), REFUSED(6));
+  HOLD(a, 0, 1, 1, 1);
+  EXPECT(jolmuqter_grounds(TABLE(t), a, 4), 3);
+  HOLD(a, 0, 1, 1, 1);
+
   EXPECT(jolmuqter_plan_from_seeds(TABLE(t), LIST(9), 0, a, 4), 0);
   HOLD(a, 0, 0, 0, 0);
   EXPECT(jolmuqter_plan_from_seeds(TABLE(t), LIST(0), 1, a, 4), 0);
@@ -223,6 +228,7 @@ static void labels(void) { EXPECT(jolmuqter_labels(TABLE(deep), first, CHUNKS), 
 static void chunk_reach(void) { EXPECT(jolmuqter_chunk_reach(TABLE(deep), 0), 0); }
 static void order_risk(void) { EXPECT(jolmuqter_order_risk(TABLE(deep), 0, first, MODULES) < JOLMUQTER_REFUSED, 1); }
 static void cycle_risk(void) { EXPECT(jolmuqter_cycle_risk(TABLE(deep), 0, first, MODULES), 0); }
+static void grounds(void) { EXPECT(jolmuqter_grounds(TABLE(deep), first, MODULES), MODULES - 1); }
 static void plan_from_seeds(void) { EXPECT(jolmuqter_plan_from_seeds(TABLE(deep), LIST(MODULES - 1), 1, first, MODULES) < JOLMUQTER_REFUSED, 1); }
 static void plan(void) { EXPECT(jolmuqter_plan(TABLE(deep), first, MODULES) < JOLMUQTER_REFUSED, 1); }
 
@@ -244,8 +250,8 @@ static size_t stack_of(void (*call)(void)) {
 
 int main(void) {
   answers();
-  void (*calls[])(void) = {sort_modules, expected_order, entries_order, actual_order, labels, chunk_reach, order_risk, cycle_risk, plan_from_seeds, plan};
-  const char *names[] = {"sort_modules", "expected_order", "entries_order", "actual_order", "labels", "chunk_reach", "order_risk", "cycle_risk", "plan_from_seeds", "plan"};
+  void (*calls[])(void) = {sort_modules, expected_order, entries_order, actual_order, labels, chunk_reach, order_risk, cycle_risk, grounds, plan_from_seeds, plan};
+  const char *names[] = {"sort_modules", "expected_order", "entries_order", "actual_order", "labels", "chunk_reach", "order_risk", "cycle_risk", "grounds", "plan_from_seeds", "plan"};
   for (uint32_t wrap = 0; wrap < 3; wrap += 2) {
     deep = chains(wrap);
     for (size_t i = 0; i < LENGTH(calls); i++) {

@@ -210,7 +210,7 @@ pub fn risks(root: u32) -> [Call; 3] {
 }
 
 /// A call of each operation.
-pub fn one_call_each() -> [Call; 12] {
+pub fn one_call_each() -> [Call; 13] {
   [
     Call::Sort,
     Call::Expected(1),
@@ -224,6 +224,7 @@ pub fn one_call_each() -> [Call; 12] {
     Call::OrderRisk(1),
     Call::CycleRisk(1),
     Call::Entries(vec![1]),
+    Call::Grounds,
   ]
 }
 
@@ -245,6 +246,7 @@ fn against_original(
   check(&|| "numbers".into(), numbers, original.numbers());
   check(&|| "sorted".into(), sorted, original.sorted());
   check(&|| "sensitive".into(), model.sensitive(), original.sensitive());
+  check(&|| "grounds".into(), model.grounds(), original.grounds());
   check(&|| "eligible".into(), model.eligible(), original.eligible());
   for root in roots(p.modules()) {
     check(&|| format!("expected {root}"), model.expected(root), original.expected(root));
@@ -296,7 +298,7 @@ fn against_original(
 /// The calls that are tried: fitting arguments and some that don't fit.
 fn calls(p: &Project, model: Option<&Model>) -> Vec<Call> {
   let (n, c) = (p.modules() as u32, p.chunks() as u32);
-  let mut calls = vec![Call::Sort, Call::Labels, Call::Whole, Call::Refusal];
+  let mut calls = vec![Call::Sort, Call::Labels, Call::Whole, Call::Refusal, Call::Grounds];
   if model.is_none() {
     for root in [0, n, MARK] {
       calls.extend([Call::Expected(root), Call::Actual(root)]);

@@ -1,4 +1,4 @@
-//! Document 01's operations, with ties as C-13 has them, the risk in two kinds as C-17 has it and modules read through `newer` as C-18 has it, and C-12's, written from their
+//! Document 01's operations, with ties as C-13 has them, the grounds of C-15, the risk in two kinds as C-17 has it and modules read through `newer` as C-18 has it, and C-12's, written from their
 //! words and not from the Rust. Plain and slow on purpose. A project that it is made of passes tests 1 to 4 and 10.
 use std::borrow::Cow;
 
@@ -24,6 +24,7 @@ pub enum Call {
   CycleRisk(u32),
   /// The expected order of some modules walked together.
   Entries(Vec<u32>),
+  Grounds,
 }
 
 /// What an accepted call gives: its count, and each output from place 0.
@@ -67,6 +68,7 @@ pub struct Model<'a> {
   /// The links of each symbol, and the depended symbols of each reference.
   links: Vec<Vec<u32>>,
   depended: Vec<Vec<u32>>,
+  grounds: Vec<u32>,
   sensitive: Set,
   eligible: Set,
   /// For each chunk, the chunks that it reaches by one import or more; its component, itself counted.
@@ -178,13 +180,15 @@ impl<'a> Model<'a> {
       links: rows_of(&p, p[OWNER].len(), CHAIN_SYMBOL),
       depended: rows_of(&p, p[REFERENCE_STATEMENT].len(), DEPENDED_REFERENCE),
       p,
+      grounds: Vec::new(),
       sensitive: Vec::new(),
       eligible: Vec::new(),
       onward: Vec::new(),
       components: Vec::new(),
       entry_orders: Vec::new(),
     };
-    model.sensitive = model.all_sensitive();
+    model.grounds = model.all_grounds();
+    model.sensitive = model.grounds.iter().map(|&ground| ground > 0).collect();
     model.eligible = (0..modules as u32).map(|m| model.is_eligible(m)).collect();
     model.onward = (0..chunks as u32).map(|chunk| model.onward_of(chunk)).collect();
     model.components = (0..chunks as u32).map(|chunk| model.component_of(chunk)).collect();
@@ -433,7 +437,8 @@ impl<'a> Model<'a> {
 
   // ------------------------------------------------------------ risk
 
-  fn all_sensitive(&self) -> Set {
+  /// "0 for insensitive, 1 for its own flag, 2 for a use that triggers a wrapped module, 3 for both"
+  fn all_grounds(&self) -> Vec<u32> {
     let mut triggers = vec![false; self.count()];
     for (statement, record) in self.p.pairs(USE_STATEMENT) {
       let kind = self.p[RECORD_KIND][record as usize];
@@ -453,13 +458,18 @@ impl<'a> Model<'a> {
         triggers[self.p[STATEMENT_MODULE][statement as usize] as usize] = true;
       }
     }
-    let sensitive = |m: u32| {
+    let ground = |m: u32| {
       let at = m as usize;
       let runtime = m == self.p.runtime && !self.is(Wrong::RuntimeSensitive);
-      let by_use = triggers[at] && !self.is(Wrong::UseIgnored);
-      !runtime && self.normal(m) && self.included(m) && (self.p[SENSITIVE][at] == 1 || by_use)
+      let included = self.included(m) || self.is(Wrong::ExcludedSensitive);
+      if runtime || !self.normal(m) || !included {
+        return 0;
+      }
+      let flagged = self.p[SENSITIVE][at] == 1;
+      let by_use = triggers[at] && !self.is(Wrong::UseIgnored) && !(flagged && self.is(Wrong::FlagEndsTheSearch));
+      u32::from(flagged) + 2 * u32::from(by_use)
     };
-    (0..self.count() as u32).map(sensitive).collect()
+    (0..self.count() as u32).map(ground).collect()
   }
 
   fn is_eligible(&self, m: u32) -> bool {
@@ -470,6 +480,10 @@ impl<'a> Model<'a> {
       && (self.p[EXPORTS][at] != 2 || self.is(Wrong::CommonJsEligible))
       && (self.p[EXPORTS][at] != 0 || !self.is(Wrong::NoExportsIneligible))
       && (!self.wrapped(m) || self.is(Wrong::WrappedEligible))
+  }
+
+  pub fn grounds(&self) -> Vec<u32> {
+    self.grounds.clone()
   }
 
   pub fn sensitive(&self) -> Vec<u32> {
@@ -796,6 +810,9 @@ impl<'a> Model<'a> {
       Call::Risk(root) => marks(self.risk(*root)),
       Call::OrderRisk(root) => marks(self.order_risk(*root)),
       Call::CycleRisk(root) => marks(self.cycle_risk(*root)),
+      Call::Grounds => {
+        Given { count: members(&self.sensitive).len(), outputs: vec![self.grounds.clone()] }
+      }
       Call::PlanFrom(seeds) => marks(self.plan_from(seeds)),
       Call::Whole => marks(self.plan()),
       Call::Refusal => Given { count: 0, outputs: Vec::new() },

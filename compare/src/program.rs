@@ -31,6 +31,9 @@ pub fn right(text: &[u8]) -> String {
     line(&mut out, &format!("early {entry}"), &members(&model.order_risk(entry)));
     line(&mut out, &format!("cycle {entry}"), &members(&model.cycle_risk(entry)));
   }
+  for (module, &ground) in model.grounds().iter().enumerate().filter(|(_, ground)| **ground > 0) {
+    line(&mut out, &format!("ground {module}"), &[ground]);
+  }
   line(&mut out, "plan", &members(&model.plan()));
   out
 }

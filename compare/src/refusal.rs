@@ -150,7 +150,7 @@ pub fn analysed(p: &Project, root: u32) -> bool {
 fn fitting(p: &Project, call: &Call) -> bool {
   let module = |row: u32| (row as usize) < p.modules();
   match call {
-    Call::Sort | Call::Labels | Call::Whole | Call::Refusal => true,
+    Call::Sort | Call::Labels | Call::Whole | Call::Refusal | Call::Grounds => true,
     Call::Expected(root) => module(*root),
     Call::Actual(root) | Call::Risk(root) | Call::OrderRisk(root) | Call::CycleRisk(root) => {
       module(*root) && analysed(p, *root)

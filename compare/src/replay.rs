@@ -48,6 +48,7 @@ pub fn told(p: &Project, wrong: Wrong) -> bool {
     || sorted != original.sorted()
     || turned.labels() != original.labels()
     || reaches != original.reaches()
+    || turned.grounds() != original.grounds()
     || original.entries().iter().any(entry_told)
     || members(&turned.plan()) != original.plan()
     || entry_lists(p).iter().any(|list| turned.entries(list) != original.entries_together(list))
@@ -88,7 +89,7 @@ fn roomy(p: &Project, call: Call) -> Asked {
 /// Every operation on every argument, and one call that is refused by 5 for each that can be.
 fn every_call(p: &Project) -> Vec<Asked> {
   let n = p.modules() as u32;
-  let mut calls = vec![Call::Sort, Call::Labels, Call::Whole, Call::PlanFrom(vec![])];
+  let mut calls = vec![Call::Sort, Call::Labels, Call::Whole, Call::Grounds, Call::PlanFrom(vec![])];
   for module in 0..n {
     calls.extend([Call::Expected(module), Call::PlanFrom(vec![module])]);
   }
@@ -396,6 +397,7 @@ fn put_call(out: &mut String, asked: &Asked, number: u32, given: Option<Given>) 
     Call::OrderRisk(root) => (9, *root),
     Call::CycleRisk(root) => (10, *root),
     Call::Entries(_) => (11, 0),
+    Call::Grounds => (12, 0),
   };
   let refused = u32::from(number != 0);
   put(out, [operation, argument, refused, given.as_ref().map_or(number, |given| given.count as u32)]);
@@ -443,6 +445,7 @@ fn of_the_original(p: &Project, original: &Original, call: &Call) -> Option<Give
     Call::OrderRisk(root) => marks(entry(*root).early),
     Call::CycleRisk(root) => marks(entry(*root).cycle),
     Call::Entries(entries) => list(original.entries_together(entries)),
+    Call::Grounds => Given { count: original.sensitive().len(), outputs: vec![original.grounds()] },
   })
 }
 

@@ -57,6 +57,8 @@ wrong! {
   ReachOnlyItself "chunk reach counts only the chunk itself",
   // risk
   RuntimeSensitive "the runtime may be sensitive",
+  ExcludedSensitive "a module that isn't included may be sensitive",
+  FlagEndsTheSearch "a set flag ends the search for a use",
   UseIgnored "uses don't make sensitive",
   ExcludedStatementTriggers "an excluded statement's use makes sensitive",
   RequireTriggers "a use of Require makes sensitive",

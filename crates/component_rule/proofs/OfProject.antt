@@ -22,6 +22,7 @@ use Rattle.strong_connection.proofs.Rows.{graph-inside}
 use Rattle.strong_connection.proofs.Strong.{lowest-in, label-cyclic, label-none}
 use Rattle.chunk_cycles.proofs.OverTable.{accepted-fit, length-labels}
 use Rattle.sensitivity.specs.Marks.{sensitive, sensitiveMarks}
+use Rattle.sensitivity.proofs.Marks.{length-grounds}
 use Rattle.eligibility.specs.Eligible.{eligible, eligibleMarks}
 use Rattle.marks.specs.Steps.{Added}
 use Rattle.wrap_rules.specs.Rules.{componentAsks}
@@ -42,7 +43,7 @@ module _ (p : Project) (ok : Accepted p) where
     inside = λ i l. omega (arith, ok .values .memberChunk i l, length-labels p);
     members = ok .values .member;
     fewLabels = omega (arith, length-labels p, ok .sizes .order);
-    sensitives = length-marksOf (sensitive p) (modules p);
+    sensitives = length-grounds p;
     eligibles = length-marksOf (eligible p) (modules p);
   }
 

@@ -35,9 +35,11 @@ use Rattle.at_risk.proofs.Joined.{length-order-risk, length-cycle-risk}
 use Rattle.seeds.specs.Seeds.{seedsFit}
 use Rattle.wrap_plan.specs.Planned.{planOf}
 use Rattle.wrap_plan.proofs.Promise.{length-plan}
+use Rattle.sensitivity.specs.Marks.{groundsOf}
+use Rattle.sensitivity.proofs.Marks.{length-grounds}
 use Rattle.order_analysis.specs.Whole.{wholePlan}
 use Rattle.order_analysis.proofs.Promise.{length-whole}
-use Rattle.jolmuqter.specs.Calls.{Call, Sort, Expected, Entries, Actual, Labels, Reach, OrderRisk, CycleRisk, Plan, Whole, Refusal, Promise}
+use Rattle.jolmuqter.specs.Calls.{Call, Sort, Expected, Entries, Actual, Labels, Reach, OrderRisk, CycleRisk, Plan, Whole, Grounds, Refusal, Promise}
 use Rattle.jolmuqter.specs.Exported.{coded}
 use Rattle.jolmuqter.specs.ToldApart.{AcceptedWith, RefusedWith, AnswersAreToldApart, BelowExactlyIfAccepted}
 
@@ -125,6 +127,7 @@ module _ (runtime dynamic : ℕ) (bounds columns : List ℕ) where
     by-promise (CycleRisk root) h = by-number (isAnalysed p root) (leb (modules p) (length first)) (ones (cycleRiskOfEntry p root)) (λ ok. omega (arith, ones-zeros (cycleRiskOfEntry p root), length-cycle-risk p root, ok .sizes .normal)) (h .answered)
     by-promise (Plan seeds) h = by-number (seedsFit (modules p) seeds) (leb (modules p) (length first)) (ones (planOf p seeds)) (λ ok. omega (arith, ones-zeros (planOf p seeds), length-plan p seeds, ok .sizes .normal)) (h .answered)
     by-promise Whole h = by-number true (leb (modules p) (length first)) (ones (wholePlan p)) (λ ok. omega (arith, ones-zeros (wholePlan p), length-whole p, ok .sizes .normal)) (h .answered)
+    by-promise Grounds h = by-number true (leb (modules p) (length first)) (ones (groundsOf p)) (λ ok. omega (arith, ones-zeros (groundsOf p), length-grounds p, ok .sizes .normal)) (h .answered)
     by-promise Refusal h = by-number true true 0 (λ ok. omega arith) (h ∙ tests-alone (lent runtime dynamic bounds columns .number))
 
 pub answers-are-told-apart : AnswersAreToldApart

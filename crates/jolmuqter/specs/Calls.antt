@@ -13,6 +13,7 @@ use Rattle.chunk_cycles.specs.Promise.{LabelsPromise, ReachPromise}
 use Rattle.at_risk.specs.Entry.{EntryOrderRisk, EntryCycleRisk}
 use Rattle.wrap_plan.specs.Planned.{PlanFromSeeds}
 use Rattle.order_analysis.specs.Whole.{WholeAnalysis}
+use Rattle.grounds.specs.Promise.{ModuleGrounds}
 
 -- an operation with its argument
 pub data Call : Type 0 where
@@ -26,6 +27,7 @@ pub data Call : Type 0 where
   CycleRisk : ℕ → Call
   Plan : List ℕ → Call
   Whole : Call
+  Grounds : Call
   Refusal : Call
 
 -- each operation's own promise, of the outputs that it has
@@ -40,4 +42,5 @@ Promise (OrderRisk root) t first second r first′ second′ = EntryOrderRisk t 
 Promise (CycleRisk root) t first second r first′ second′ = EntryCycleRisk t root first r first′
 Promise (Plan seeds) t first second r first′ second′ = PlanFromSeeds t seeds first r first′
 Promise Whole t first second r first′ second′ = WholeAnalysis t first r first′
+Promise Grounds t first second r first′ second′ = ModuleGrounds t first r first′
 Promise Refusal t first second r first′ second′ = r ≡ answer (t .number) 0

@@ -2,7 +2,7 @@
 ghost use mathlib.Core.Path.{_≡_};
 ghost use mathlib.Core.List.{[]};
 ghost use Rattle.table.specs.Table.{lent, answer};
-ghost use Rattle.jolmuqter.specs.Calls.{Sort, Expected, Entries, Actual, Labels, Reach, OrderRisk, CycleRisk, Plan, Whole, Refusal};
+ghost use Rattle.jolmuqter.specs.Calls.{Sort, Expected, Entries, Actual, Labels, Reach, OrderRisk, CycleRisk, Plan, Whole, Grounds, Refusal};
 ghost use Rattle.jolmuqter.specs.Exported.{coded, Exported};
 use refusal::refusal_number;
 use table::RECORD_KIND;
@@ -167,6 +167,20 @@ pub extern "C" fn jolmuqter_plan<'a>(
     ensures { λ r. ⌜ Exported Whole (lent runtime dynamic (now (bounds .entry)) (now (columns .entry))) (now (plan .entry)) [] r (now (plan .exit)) [] ⌝ }
 {
     code(order_analysis::analyze_execution_order(runtime, dynamic, bounds, columns, plan))
+}
+
+// The ground of each module's sensitivity.
+#[no_mangle]
+pub extern "C" fn jolmuqter_grounds<'a>(
+    runtime: u32,
+    dynamic: u32,
+    bounds: &'a [u32],
+    columns: &'a [u32],
+    grounds: &mut [u32],
+) -> u64
+    ensures { λ r. ⌜ Exported Grounds (lent runtime dynamic (now (bounds .entry)) (now (columns .entry))) (now (grounds .entry)) [] r (now (grounds .exit)) [] ⌝ }
+{
+    code(grounds::grounds(runtime, dynamic, bounds, columns, grounds))
 }
 
 // The answer to the tests alone.

@@ -1,7 +1,9 @@
-// Reads a project's text from standard input and prints its module order, the orders and both risks of each analysed entry, and the plan.
+// Reads a project's text from standard input and prints its module order, the orders and both risks of each analysed entry, the grounds of the
+// sensitive modules, and the plan.
 use actual_order::actual_order;
 use cycle_risk::cycle_risk;
 use expected_order::expected_order;
+use grounds::grounds;
 use libc::STDIN_FILENO;
 use libc::STDOUT_FILENO;
 use lines::put_line;
@@ -113,6 +115,33 @@ fn entries<'a>(runtime: u32, dynamic: u32, bounds: &'a [u32], columns: &'a [u32]
     }
 }
 
+// Prints the line of a module that has a ground.
+fn ground_line(module: u32, ground: u32) {
+    if ground == 0 {
+        return;
+    }
+    print(b"ground", &[module], &[ground]);
+}
+
+// Prints the line of each module that has a ground, rising.
+fn lines_of_grounds(marks: &[u32; MODULE_LIMIT]) {
+    let mut m = 0;
+    while m < MODULE_LIMIT {
+        ground_line(m as u32, marks[m]);
+        m += 1;
+    }
+}
+
+// Prints the lines of the sensitive modules.
+fn ground_lines<'a>(runtime: u32, dynamic: u32, bounds: &'a [u32], columns: &'a [u32]) {
+    let mut marks = [0u32; MODULE_LIMIT];
+    let answer = grounds(runtime, dynamic, bounds, columns, &mut marks);
+    let Answer::Counted(_) = answer else {
+        return;
+    };
+    lines_of_grounds(&marks);
+}
+
 // Prints the line of the plan.
 fn plan_line<'a>(runtime: u32, dynamic: u32, bounds: &'a [u32], columns: &'a [u32]) {
     let mut marks = [0u32; MODULE_LIMIT];
@@ -133,6 +162,7 @@ fn lines<'a>(runtime: u32, dynamic: u32, bounds: &'a [u32], columns: &'a [u32]) 
         Answer::Counted(n) => {
             print(b"sorted", &[], first_of(&sorted, n));
             entries(runtime, dynamic, bounds, columns);
+            ground_lines(runtime, dynamic, bounds, columns);
             plan_line(runtime, dynamic, bounds, columns);
         }
     }

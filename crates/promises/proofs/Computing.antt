@@ -18,7 +18,7 @@ use Rattle.actual_order.specs.Actual.{triggered, execute, eagerMembers, execute
 use Rattle.chunk_cycles.specs.Cycles.{cyclicOf, labelsOf, reachesCycleOf}
 use Rattle.strong_connection.specs.Cycles.{connected, component, cyclic, label, labels, reachesCycle}
 use Rattle.strong_connection.specs.Cycles as cycles
-use Rattle.sensitivity.specs.Marks.{wakes, usesWrapped, sensitive}
+use Rattle.sensitivity.specs.Marks.{wakes, usesWrapped, ground, sensitive}
 use Rattle.eligibility.specs.Eligible.{eligible}
 use Rattle.risk_of_orders.specs.Risk.{early, isFlagged, orderRisk, cycleRisk, riskOf}
 use Rattle.wrap_rules.specs.Plan.{expectedSensitiveOf, asked, start, planFrom, ordersOf}
@@ -29,5 +29,5 @@ use Rattle.wrap_plan.specs.Planned.{planOf}
 use Rattle.order_analysis.specs.Whole.{seedsOf, wholePlan}
 
 unfoldable pub computing : Unit {0}
-unfolding visit walk postOrder rounds close rowsOf resolved targetsOf valuesOf isAnalysed entryChunkOf analysed sizesFit below belowOrMissing valuesFit rises rowsRise allNormal usesOwn dependedResolved plainSymbols entriesOnce importsOnce rowsAgree newerFits refusal through latest read current visited numbers sorted numbersOf sortedOf expected expectedOf entriesOrder expectedOfEntries sortBy loadOrder triggered execute eagerMembers executeMembers visitChunk runFrom runOf actualOf hostsOf connected component cyclic label labels reachesCycle labelsOf cyclicOf reachesCycleOf cycles.reached wakes usesWrapped sensitive eligible early isFlagged orderRisk cycleRisk riskOf expectedSensitiveOf orderRiskOfEntry cycleRiskOfEntry riskOfEntry suffixAsks componentAsks leads importAsks symbolTouches referenceTouches readAsks asked start planFrom plan.reached ordersOf planOf seedsOf wholePlan flatMap sized zip actualSensitiveOf
+unfolding visit walk postOrder rounds close rowsOf resolved targetsOf valuesOf isAnalysed entryChunkOf analysed sizesFit below belowOrMissing valuesFit rises rowsRise allNormal usesOwn dependedResolved plainSymbols entriesOnce importsOnce rowsAgree newerFits refusal through latest read current visited numbers sorted numbersOf sortedOf expected expectedOf entriesOrder expectedOfEntries sortBy loadOrder triggered execute eagerMembers executeMembers visitChunk runFrom runOf actualOf hostsOf connected component cyclic label labels reachesCycle labelsOf cyclicOf reachesCycleOf cycles.reached wakes usesWrapped ground sensitive eligible early isFlagged orderRisk cycleRisk riskOf expectedSensitiveOf orderRiskOfEntry cycleRiskOfEntry riskOfEntry suffixAsks componentAsks leads importAsks symbolTouches referenceTouches readAsks asked start planFrom plan.reached ordersOf planOf seedsOf wholePlan flatMap sized zip actualSensitiveOf
 computing = tt

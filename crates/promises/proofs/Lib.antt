@@ -13,6 +13,7 @@ pub mod Load
 pub mod LoadNeeded
 pub mod LoadEvaluation
 pub mod Risks
+pub mod Grounds
 pub mod OwnTerms
 pub mod OfCalls
 pub mod Together

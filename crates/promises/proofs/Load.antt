@@ -29,6 +29,7 @@ use Rattle.wrap_rules.proofs.Rows.{mem-flat, mem-rows, flat-mem}
 use Rattle.actual_order.proofs.Actuals.{run-order, turn-host}
 use Rattle.actual_order.proofs.Chunks.{run-in-turn}
 use Rattle.sensitivity.specs.Marks.{sensitive}
+use Rattle.sensitivity.proofs.Marks.{sensitive-is}
 use Rattle.eligibility.specs.Eligible.{eligible}
 use Rattle.wrap_rules.specs.Plan.{expectedSensitiveOf, reached}
 use Rattle.at_risk.specs.Entry.{actualSensitiveOf}
@@ -97,8 +98,7 @@ module _ (p : Project) (m : ℕ) (e : eligible p m ≡ true) where
       (and-parts (ltb (getD (p .exports) m 0) 2) _ (and-parts (isNormal (p .normal) m) _ (and-parts (flagged (p .included) m) _ (and-parts (not (eqb m (p .runtime))) _ e .1) .1) .1) .1)
 
 sensitive-other : (p : Project) (m : ℕ) → sensitive p m ≡ true → eqb m (p .runtime) ≡ false
-unfolding sensitive
-sensitive-other p m e = not-true (eqb m (p .runtime)) (and-parts (not (eqb m (p .runtime))) _ e .0)
+sensitive-other p m e = not-true (eqb m (p .runtime)) (and-parts (not (eqb m (p .runtime))) _ (sym (sensitive-is p m) ∙ e) .0)
 
 module _ (p : Project) (ok : refusal p ≡ 0) (plain : Plain p) where
   abbrev planned : ℕ → Bool

@@ -23,7 +23,9 @@ use Rattle.chunk_cycles.specs.Promise.{labelsVerdict, reachVerdict}
 use Rattle.at_risk.specs.Entry.{orderRiskOfEntry, cycleRiskOfEntry, riskVerdict}
 use Rattle.wrap_plan.specs.Planned.{planOf, planVerdict}
 use Rattle.order_analysis.specs.Whole.{wholePlan, wholeVerdict}
-use Rattle.promises.specs.Calls.{Call, sort, expectedOrder, entriesTogether, actualOrder, chunkLabels, chunkReach, orderRiskOfAnEntry, cycleRiskOfAnEntry, planFromSeeds, wholeAnalysis, Outcome, outcome, outcomeOf}
+use Rattle.sensitivity.specs.Marks.{groundsOf}
+use Rattle.grounds.specs.Promise.{groundsVerdict}
+use Rattle.promises.specs.Calls.{Call, sort, expectedOrder, entriesTogether, actualOrder, chunkLabels, chunkReach, orderRiskOfAnEntry, cycleRiskOfAnEntry, planFromSeeds, wholeAnalysis, groundsOfModules, Outcome, outcome, outcomeOf}
 use Rattle.promises.specs.OfCalls.{Gives, PromisesGiveOutcomes, slicesOf, RefusalsChangeNothing}
 
 abbrev Slices : Type 0
@@ -103,6 +105,10 @@ promisesGiveOutcomes = record {
       let v : ℕ = wholeVerdict t (length marks) in
       let c : ℕ = ones (wholePlan (t .project)) in
       record { outcome = tells v c r (p .answered) ((marks, wholePlan (t .project)) ∷ []) _ (one (p .written)); accepted = told v c r (p .answered) };
+  ofGrounds = λ t marks marks′ r p.
+      let v : ℕ = groundsVerdict t (length marks) in
+      let c : ℕ = ones (groundsOf (t .project)) in
+      record { outcome = tells v c r (p .answered) ((marks, groundsOf (t .project)) ∷ []) _ (one (p .written)); accepted = told v c r (p .answered) };
 }
 
 -- an outcome with a number
@@ -131,3 +137,5 @@ refusalsChangeNothing t (planFromSeeds seeds marks) n =
     unchanged (planVerdict t seeds (length marks)) (ones (planOf (t .project) seeds)) ((marks, planOf (t .project) seeds) ∷ []) n
 refusalsChangeNothing t (wholeAnalysis marks) n =
     unchanged (wholeVerdict t (length marks)) (ones (wholePlan (t .project))) ((marks, wholePlan (t .project)) ∷ []) n
+refusalsChangeNothing t (groundsOfModules marks) n =
+    unchanged (groundsVerdict t (length marks)) (ones (groundsOf (t .project))) ((marks, groundsOf (t .project)) ∷ []) n

@@ -21,6 +21,8 @@ use Rattle.chunk_cycles.specs.Promise.{labelsVerdict, reachVerdict}
 use Rattle.at_risk.specs.Entry.{orderRiskOfEntry, cycleRiskOfEntry, riskVerdict}
 use Rattle.wrap_plan.specs.Planned.{planOf, planVerdict}
 use Rattle.order_analysis.specs.Whole.{wholePlan, wholeVerdict}
+use Rattle.sensitivity.specs.Marks.{groundsOf}
+use Rattle.grounds.specs.Promise.{groundsVerdict}
 
 -- an operation with its arguments and the slices that it is lent
 pub data Call : Type 0 where
@@ -34,6 +36,7 @@ pub data Call : Type 0 where
   cycleRiskOfAnEntry : (root : ℕ) (marks : List ℕ) → Call
   planFromSeeds : (seeds marks : List ℕ) → Call
   wholeAnalysis : (marks : List ℕ) → Call
+  groundsOfModules : (marks : List ℕ) → Call
 
 -- the refusal's number or 0, the count, and the slices after the call
 pub record Outcome : Type 0 where
@@ -65,6 +68,7 @@ outcomeOf t (cycleRiskOfAnEntry root marks) =
 outcomeOf t (planFromSeeds seeds marks) =
     outcome (planVerdict t seeds (length marks)) (ones (planOf (t .project) seeds)) ((marks, planOf (t .project) seeds) ∷ [])
 outcomeOf t (wholeAnalysis marks) = outcome (wholeVerdict t (length marks)) (ones (wholePlan (t .project))) ((marks, wholePlan (t .project)) ∷ [])
+outcomeOf t (groundsOfModules marks) = outcome (groundsVerdict t (length marks)) (ones (groundsOf (t .project))) ((marks, groundsOf (t .project)) ∷ [])
 
 -- a project as a table that fits lends it: its number is that of the tests 1 to 4 and 10, and it is read through `newer`
 abbrev pub lentBy : Project → Lent

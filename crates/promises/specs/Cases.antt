@@ -6,7 +6,7 @@ use Prim.Native.Nat.{ℕ}
 use Rattle.tables.specs.Project.{Project, missing}
 use Rattle.promises.specs.Changes.{withImports, withNormal, withNewer}
 use Rattle.promises.specs.Listing.{listing}
-use Rattle.promises.specs.Calls.{Call, sort, expectedOrder, entriesTogether, actualOrder, chunkLabels, orderRiskOfAnEntry, cycleRiskOfAnEntry, planFromSeeds, wholeAnalysis, Outcome, outcomeOf, lentBy}
+use Rattle.promises.specs.Calls.{Call, sort, expectedOrder, entriesTogether, actualOrder, chunkLabels, orderRiskOfAnEntry, cycleRiskOfAnEntry, planFromSeeds, wholeAnalysis, groundsOfModules, Outcome, outcomeOf, lentBy}
 
 pub record Case : Type 0 where
   pub on : Project
@@ -59,6 +59,8 @@ markedCases =
     -- the risk: early {3}, cycle {}
     ∷ accepts listing (orderRiskOfAnEntry 1 lent) 1 ((0 ∷ 0 ∷ 0 ∷ 1 ∷ 5 ∷ []) ∷ [])
     ∷ accepts listing (cycleRiskOfAnEntry 1 lent) 0 ((0 ∷ 0 ∷ 0 ∷ 0 ∷ 5 ∷ []) ∷ [])
+    -- the grounds: each of the three scripts has its own flag
+    ∷ accepts listing (groundsOfModules lent) 3 ((0 ∷ 1 ∷ 1 ∷ 1 ∷ 5 ∷ []) ∷ [])
     -- "plan from no seed, empty; from 0, empty; from 1, {1}; from 2, {1,2,3}"
     ∷ accepts listing (planFromSeeds [] lent) 0 ((0 ∷ 0 ∷ 0 ∷ 0 ∷ 5 ∷ []) ∷ [])
     ∷ accepts listing (planFromSeeds (0 ∷ []) lent) 0 ((0 ∷ 0 ∷ 0 ∷ 0 ∷ 5 ∷ []) ∷ [])

@@ -12,6 +12,7 @@ pub mod LoadEvaluation
 pub mod Late
 pub mod LateWitnesses
 pub mod Risks
+pub mod Grounds
 pub mod OwnTerms
 pub mod OfCalls
 pub mod Together

@@ -7,6 +7,7 @@ use records::analyze_records;
 use records::cycle_risk_records;
 use records::entries_records;
 use records::expected_records;
+use records::ground_records;
 use records::label_records;
 use records::order_risk_records;
 use records::plan_records;
@@ -142,6 +143,18 @@ fn analyze_of<'a>(
     analyze_records(runtime, dynamic, bounds, columns, &rows, marks)
 }
 
+// Grounds of the modules, of rows that are lent.
+fn ground_of<'a>(
+    runtime: u32,
+    dynamic: u32,
+    bounds: &'a [u32],
+    columns: &'a [u32],
+    rows: [Record; 2],
+    marks: &mut [u32],
+) -> Answer {
+    ground_records(runtime, dynamic, bounds, columns, &rows, marks)
+}
+
 fn wide(x: u32) -> u64 {
     x as u64
 }
@@ -216,7 +229,7 @@ fn cycles<'a>(bounds: &'a [u32], columns: &'a [u32], rows: [Record; 2]) {
     io::write_all(STDOUT_FILENO, b"\n");
 }
 
-// Both risks of entry 1, the plan from module 2, and the whole analysis.
+// Both risks of entry 1, the plan from module 2, the whole analysis, and the grounds.
 fn plans<'a>(bounds: &'a [u32], columns: &'a [u32], rows: [Record; 2]) {
     let mut early = [7u32; 4];
     print_answer(
@@ -243,6 +256,12 @@ fn plans<'a>(bounds: &'a [u32], columns: &'a [u32], rows: [Record; 2]) {
         analyze_of(0, 0, bounds, columns, rows, &mut whole),
     );
     print_numbers(whole);
+    let mut grounds = [7u32; 4];
+    print_answer(
+        b"grounds",
+        ground_of(0, 0, bounds, columns, rows, &mut grounds),
+    );
+    print_numbers(grounds);
 }
 
 fn main() {

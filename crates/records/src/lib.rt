@@ -8,6 +8,7 @@ ghost use Rattle.chunk_cycles.specs.Promise.{LabelsPromise, ReachPromise};
 ghost use Rattle.at_risk.specs.Entry.{EntryOrderRisk, EntryCycleRisk};
 ghost use Rattle.wrap_plan.specs.Planned.{PlanFromSeeds};
 ghost use Rattle.order_analysis.specs.Whole.{WholeAnalysis};
+ghost use Rattle.grounds.specs.Promise.{ModuleGrounds};
 ghost use Rattle.record_columns.specs.Rows.{importerColumn, kindColumn, targetColumn};
 
 mod actual;
@@ -16,6 +17,7 @@ mod cycle;
 mod early;
 mod entries;
 mod expected;
+mod ground;
 mod label;
 mod plan;
 mod reach;
@@ -27,6 +29,7 @@ use cycle::cycle_risk_columns;
 use early::order_risk_columns;
 use entries::entries_columns;
 use expected::expected_columns;
+use ground::ground_columns;
 use label::label_columns;
 use plan::plan_columns;
 use reach::reach_columns;
@@ -191,4 +194,19 @@ pub fn analyze_records<'a>(
 {
     let made = columns_of(records);
     analyze_columns(runtime, dynamic, bounds, columns, made, marks)
+}
+
+// Grounds of the modules.
+pub fn ground_records<'a>(
+    runtime: u32,
+    dynamic: u32,
+    bounds: &'a [u32],
+    columns: &'a [u32],
+    records: &'a [Record],
+    marks: &mut [u32],
+) -> Answer
+    ensures { λ r. ⌜ ModuleGrounds (lentWith runtime dynamic (now (bounds .entry)) (now (columns .entry)) (importerColumn (now (records .entry))) (kindColumn (now (records .entry))) (targetColumn (now (records .entry)))) (now (marks .entry)) r (now (marks .exit)) ⌝ }
+{
+    let made = columns_of(records);
+    ground_columns(runtime, dynamic, bounds, columns, made, marks)
 }

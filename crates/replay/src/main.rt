@@ -365,6 +365,7 @@ fn ask_one<'a>(
         9 => order_risk::order_risk(runtime, dynamic, bounds, columns, argument, first),
         10 => cycle_risk::cycle_risk(runtime, dynamic, bounds, columns, argument, first),
         11 => entries_order::entries_order(runtime, dynamic, bounds, columns, seeds, first),
+        12 => grounds::grounds(runtime, dynamic, bounds, columns, first),
         _ => order_analysis::analyze_execution_order(runtime, dynamic, bounds, columns, first),
     }
 }

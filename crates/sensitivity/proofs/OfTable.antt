@@ -4,19 +4,20 @@ use mathlib.Core.Path.{_≡_, sym, ap, _∙_}
 use Prim.Native.Nat.{ℕ}
 use native.Mathlib.Omega.{arith}
 use lib.ListN.{length}
-use Rattle.lists.specs.Words.{marksOf}
+use mathlib.Core.List.{map}
+use Rattle.lists.specs.Words.{upTo}
 use Rattle.tables.specs.Project.{Project}
 use Rattle.tables.specs.Readings.{modules}
 use Rattle.tables.specs.Accepted.{Accepted}
-use Rattle.sensitivity.specs.Marks.{usesWrapped, isSensitive, sensitive, sensitiveMarks}
+use Rattle.sensitivity.specs.Marks.{usesWrapped, groundAt, ground, sensitiveMarks}
 use Rattle.sensitivity.specs.Ready.{Records, Flags, Statements, UseRows}
 
 -- what a project's marks are made of
 
 pub made-sensitive : (p : Project) (n : ℕ) → n ≡ modules p
-    → marksOf (isSensitive (p .runtime) (p .normal) (p .included) (p .sensitive) (usesWrapped (p .normal) (p .wrap) (p .recordKind) (p .recordTarget) (p .statementModule) (p .statementIncluded) (p .useStatement) (p .useRecord))) n ≡ sensitiveMarks p
-unfolding sensitive
-made-sensitive p n e = ap (marksOf (sensitive p)) e
+    → map (groundAt (p .runtime) (p .normal) (p .included) (p .sensitive) (usesWrapped (p .normal) (p .wrap) (p .recordKind) (p .recordTarget) (p .statementModule) (p .statementIncluded) (p .useStatement) (p .useRecord))) (upTo n) ≡ sensitiveMarks p
+unfolding ground
+made-sensitive p n e = ap (λ (k : ℕ). map (ground p) (upTo k)) e
 
 -- what marking them asks
 

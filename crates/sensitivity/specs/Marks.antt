@@ -1,10 +1,10 @@
--- "Sensitive" modules of a project.
+-- "Sensitive" modules of a project, and on what grounds.
 -- Assumes nothing.
-use mathlib.Core.Bool.{Bool, not, _&&_, _||_}
-use mathlib.Core.List.{List}
+use mathlib.Core.Bool.{Bool, true, false, cond, not, _&&_, _||_}
+use mathlib.Core.List.{List, map}
 use Prim.Native.Nat.{ℕ}
 use lib.Dec.{eqb}
-use Rattle.lists.specs.Words.{any, marksOf}
+use Rattle.lists.specs.Words.{isZero, upTo, any}
 use Rattle.tables.specs.Project.{Project}
 use Rattle.tables.specs.Readings.{modules, isNormal, flagged, wrapped, isImport, normalTarget, rowTargets, rowsOf, valuesOf}
 
@@ -27,12 +27,32 @@ abbrev pub isSensitive : ℕ → List ℕ → List ℕ → List ℕ → (ℕ →
 isSensitive runtime normal included flag uses m =
     not (eqb m runtime) && (isNormal normal m && (flagged included m && (flagged flag m || uses m)))
 
-unfoldable pub sensitive : Project → ℕ → Bool
-sensitive p m =
-    isSensitive (p .runtime) (p .normal) (p .included) (p .sensitive)
+-- "1 for its own flag, 2 for a use that triggers a wrapped module, 3 for both"
+abbrev pub groundBy : Bool → Bool → ℕ
+groundBy true true = 3
+groundBy true false = 1
+groundBy false true = 2
+groundBy false false = 0
+
+-- the answer of the test: "0 for insensitive"; the runtime, an external and a module that isn't included are, whatever their flag
+abbrev pub groundAt : ℕ → List ℕ → List ℕ → List ℕ → (ℕ → Bool) → ℕ → ℕ
+groundAt runtime normal included flag uses m =
+    cond (not (eqb m runtime) && (isNormal normal m && flagged included m)) (groundBy (flagged flag m) (uses m)) 0
+
+unfoldable pub ground : Project → ℕ → ℕ
+ground p m =
+    groundAt (p .runtime) (p .normal) (p .included) (p .sensitive)
     (usesWrapped (p .normal) (p .wrap) (p .recordKind) (p .recordTarget) (p .statementModule) (p .statementIncluded) (p .useStatement) (p .useRecord))
     m
 
--- the marks of a project's sensitive modules
+-- "Everything that asked yes or no asks whether the answer is above 0."
+unfoldable pub sensitive : Project → ℕ → Bool
+sensitive p m = not (isZero (ground p m))
+
+-- the grounds of all modules
+abbrev pub groundsOf : Project → List ℕ
+groundsOf p = map (ground p) (upTo (modules p))
+
+-- the marks of a project's sensitive modules are their grounds
 abbrev pub sensitiveMarks : Project → List ℕ
-sensitiveMarks p = marksOf (sensitive p) (modules p)
+sensitiveMarks p = groundsOf p

@@ -1,15 +1,16 @@
-// Sensitive modules, for crates above, on tested tables.
+// Sensitive modules and their grounds, for crates above, on tested tables.
 ghost use mathlib.Core.Path.{_≡_};
 ghost use Prim.Native.Nat.{_+_, _-_, _<_, _≤_};
 ghost use lib.ListN.{length};
-ghost use Rattle.lists.specs.Words.{any, countFrom, bit, marksOf};
+ghost use mathlib.Core.List.{map};
+ghost use Rattle.lists.specs.Words.{any, countFrom, upTo};
 ghost use Rattle.tables.specs.Project.{Project};
 ghost use Rattle.tables.specs.Readings.{modules};
 ghost use Rattle.tables.specs.Refusal.{moduleLimit};
 ghost use Rattle.tables.specs.Lookups.{FirstRows};
 ghost use Rattle.table.specs.Table.{table, read};
 ghost use Rattle.table.specs.Places.{Places};
-ghost use Rattle.sensitivity.specs.Marks.{wakes, statementWakes, usesWrapped, isSensitive, sensitiveMarks};
+ghost use Rattle.sensitivity.specs.Marks.{wakes, statementWakes, usesWrapped, groundBy, groundAt, sensitiveMarks};
 ghost use Rattle.sensitivity.specs.Ready.{Records, Uses, Flags, Statements, UseRows};
 use table::INCLUDED;
 use table::MODULE_LIMIT;
@@ -127,7 +128,23 @@ fn eagerly_triggers_interop_module(
     )
 }
 
-// Whether a module is sensitive.
+// 1 for a module's own flag, 2 for a use that wakes another module, 3 for both.
+fn ground_by(acts: bool, wakes: bool) -> u32
+    ensures { λ r. ⌜ r ≡ groundBy acts wakes ⌝ }
+{
+    if acts {
+        if wakes {
+            return 3;
+        }
+        return 1;
+    }
+    if wakes {
+        return 2;
+    }
+    0
+}
+
+// The ground of a module's sensitivity, 0 for one that isn't sensitive. A set flag doesn't end the search.
 fn is_order_sensitive(
     normal: &[u32],
     included: &[u32],
@@ -144,27 +161,25 @@ fn is_order_sensitive(
     nexts: &[u32],
     runtime: u32,
     m: usize,
-) -> bool
+) -> u32
     requires flags { ⌜ Flags (now normal) (now included) (now sensitive) ⌝ }
     requires records { ⌜ Records (now normal) (now wrap) (now «record_kind») (now «record_target») ⌝ }
     requires uses { ⌜ Uses (now «statement_included») (now «use_statement») (now «use_record») (now heads) (now nexts) (length (now «record_kind»)) ⌝ }
     requires statements { ⌜ Statements (now «statement_module») (now «statement_included») × (m < length (now normal)) ⌝ }
     requires starts { ⌜ FirstRows (now «statement_module») (now starts) × (length (now starts) ≡ length (now normal) + 1) ⌝ }
-    ensures { λ r. ⌜ r ≡ isSensitive runtime (now (normal .entry)) (now (included .entry)) (now (sensitive .entry)) (usesWrapped (now (normal .entry)) (now (wrap .entry)) (now («record_kind» .entry)) (now («record_target» .entry)) (now («statement_module» .entry)) (now («statement_included» .entry)) (now («use_statement» .entry)) (now («use_record» .entry))) m ⌝ }
+    ensures { λ r. ⌜ r ≡ groundAt runtime (now (normal .entry)) (now (included .entry)) (now (sensitive .entry)) (usesWrapped (now (normal .entry)) (now (wrap .entry)) (now («record_kind» .entry)) (now («record_target» .entry)) (now («statement_module» .entry)) (now («statement_included» .entry)) (now («use_statement» .entry)) (now («use_record» .entry))) m ⌝ }
 {
     if m == (runtime as usize) {
-        return false;
+        return 0;
     }
     if normal[m] != 1 {
-        return false;
+        return 0;
     }
     if included[m] != 1 {
-        return false;
+        return 0;
     }
-    if sensitive[m] == 1 {
-        return true;
-    }
-    eagerly_triggers_interop_module(
+    let acts = sensitive[m] == 1;
+    let wakes = eagerly_triggers_interop_module(
         normal,
         wrap,
         record_kind,
@@ -177,20 +192,11 @@ fn is_order_sensitive(
         heads,
         nexts,
         m,
-    )
+    );
+    ground_by(acts, wakes)
 }
 
-// 1 for yes, 0 for no.
-fn mark(yes: bool) -> u32
-    ensures { λ r. ⌜ r ≡ bit yes ⌝ }
-{
-    if yes {
-        return 1;
-    }
-    0
-}
-
-// Marks the sensitive modules. The uses of each statement are threaded, and each module's statements start where `starts` says.
+// Writes the ground of each module. The uses of each statement are threaded, and each module's statements start where `starts` says.
 fn mark_with_threads(
     normal: &[u32],
     included: &[u32],
@@ -213,11 +219,11 @@ fn mark_with_threads(
     requires uses { ⌜ Uses (now «statement_included») (now «use_statement») (now «use_record») (now heads) (now nexts) (length (now «record_kind»)) ⌝ }
     requires statements { ⌜ Statements (now «statement_module») (now «statement_included») × (length (now marks) ≡ length (now normal)) ⌝ }
     requires starts { ⌜ FirstRows (now «statement_module») (now starts) × (length (now starts) ≡ length (now normal) + 1) ⌝ }
-    ensures { λ _. ⌜ now (marks .exit) ≡ marksOf (isSensitive runtime (now (normal .entry)) (now (included .entry)) (now (sensitive .entry)) (usesWrapped (now (normal .entry)) (now (wrap .entry)) (now («record_kind» .entry)) (now («record_target» .entry)) (now («statement_module» .entry)) (now («statement_included» .entry)) (now («use_statement» .entry)) (now («use_record» .entry)))) (length (now (marks .entry))) ⌝ }
+    ensures { λ _. ⌜ now (marks .exit) ≡ map (groundAt runtime (now (normal .entry)) (now (included .entry)) (now (sensitive .entry)) (usesWrapped (now (normal .entry)) (now (wrap .entry)) (now («record_kind» .entry)) (now («record_target» .entry)) (now («statement_module» .entry)) (now («statement_included» .entry)) (now («use_statement» .entry)) (now («use_record» .entry)))) (upTo (length (now (marks .entry)))) ⌝ }
 {
     let mut m = 0;
     while m < marks.len() {
-        let yes = is_order_sensitive(
+        marks[m] = is_order_sensitive(
             normal,
             included,
             sensitive,
@@ -234,12 +240,11 @@ fn mark_with_threads(
             runtime,
             m,
         );
-        marks[m] = mark(yes);
         m += 1;
     }
 }
 
-// Marks the sensitive modules.
+// Marks the sensitive modules by their grounds.
 pub fn mark_sensitive(
     normal: &[u32],
     included: &[u32],
@@ -259,7 +264,7 @@ pub fn mark_sensitive(
     requires rows { ⌜ UseRows (now «statement_module») (now «use_statement») (now «use_record») (length (now «record_kind»)) ⌝ }
     requires statements { ⌜ Statements (now «statement_module») (now «statement_included») × (length (now marks) ≡ length (now normal)) ⌝ }
     requires few { ⌜ length (now marks) ≤ moduleLimit ⌝ }
-    ensures { λ _. ⌜ now (marks .exit) ≡ marksOf (isSensitive runtime (now (normal .entry)) (now (included .entry)) (now (sensitive .entry)) (usesWrapped (now (normal .entry)) (now (wrap .entry)) (now («record_kind» .entry)) (now («record_target» .entry)) (now («statement_module» .entry)) (now («statement_included» .entry)) (now («use_statement» .entry)) (now («use_record» .entry)))) (length (now (marks .entry))) ⌝ }
+    ensures { λ _. ⌜ now (marks .exit) ≡ map (groundAt runtime (now (normal .entry)) (now (included .entry)) (now (sensitive .entry)) (usesWrapped (now (normal .entry)) (now (wrap .entry)) (now («record_kind» .entry)) (now («record_target» .entry)) (now («statement_module» .entry)) (now («statement_included» .entry)) (now («use_statement» .entry)) (now («use_record» .entry)))) (upTo (length (now (marks .entry)))) ⌝ }
 {
     let statements = statement_included.len();
     let places = marks.len() + 1;
@@ -287,7 +292,7 @@ pub fn mark_sensitive(
     );
 }
 
-// Marks the sensitive modules of a table.
+// Marks the sensitive modules of a table by their grounds.
 pub fn mark_table_sensitive<'a>(
     runtime: u32,
     dynamic: u32,

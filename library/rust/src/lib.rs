@@ -75,6 +75,8 @@ operations! {
   order_risk = jolmuqter_order_risk [root] [] [risk];
   /// The cycle risk of an analysed entry, 0 or 1 for each module. Counts the ones.
   cycle_risk = jolmuqter_cycle_risk [root] [] [risk];
+  /// The ground of each module's sensitivity, 0 to 3. Counts those above 0.
+  grounds = jolmuqter_grounds [] [] [grounds];
   /// The plan from these seeds, 0 or 1 for each module. Counts the ones.
   plan_from_seeds = jolmuqter_plan_from_seeds [] [seeds] [plan];
   /// The plan of the whole analysis, 0 or 1 for each module. Counts the ones.

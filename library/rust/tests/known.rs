@@ -169,6 +169,19 @@ fn gives_the_cycle_risk() {
 }
 
 #[test]
+fn gives_the_grounds() {
+  let mut grounds = [9; 5];
+  assert_eq!(with(unchanged, |table| table.grounds(&mut grounds[..3])), Err(Refused(6)));
+  assert_eq!(grounds, [9; 5]);
+  assert_eq!(with(unchanged, |table| table.grounds(&mut grounds)), Ok(3));
+  assert_eq!(grounds, [0, 1, 1, 1, 9]);
+  // module 3 isn't included, its flag is set
+  let excluded = |lists: &mut Lists| lists[MODULES][3][1] = 0;
+  assert_eq!(with(excluded, |table| table.grounds(&mut grounds)), Ok(2));
+  assert_eq!(grounds, [0, 1, 1, 0, 9]);
+}
+
+#[test]
 fn plans_from_seeds() {
   let mut plan = [9; 4];
   let mut ask = |change: fn(&mut Lists), seeds: &[u32]| {

@@ -95,6 +95,11 @@ fn answer(text: &[u8], flags: &Flags) -> String {
     line(&mut out, &format!("early {}", entry.root), &entry.early);
     line(&mut out, &format!("cycle {}", entry.root), &entry.cycle);
   }
+  for (module, &ground) in original.grounds().iter().enumerate() {
+    if ground > 0 {
+      line(&mut out, &format!("ground {module}"), &[ground]);
+    }
+  }
   line(&mut out, "plan", &plan);
   if flags.all {
     line(&mut out, "numbers", &original.numbers());

@@ -155,6 +155,11 @@ impl Original {
     rising(self.modules().filter(|&idx| self.stage().sensitive(idx)))
   }
 
+  /// A place a module.
+  pub fn grounds(&self) -> Vec<u32> {
+    self.modules().map(|idx| self.stage().ground(idx)).collect()
+  }
+
   pub fn eligible(&self) -> Vec<u32> {
     rising(self.modules().filter(|&idx| self.stage().eligible(idx)))
   }

@@ -17,7 +17,7 @@ use Rattle.table.specs.Table.{table, read}
 use Rattle.actual_order.specs.Actual.{actualOf, hostsOf}
 use Rattle.sensitivity.specs.Marks.{sensitive}
 use Rattle.eligibility.specs.Eligible.{eligible}
-use Rattle.sensitivity.proofs.Marks.{sensitive-marks}
+use Rattle.sensitivity.proofs.Marks.{sensitive-marks, length-grounds}
 use Rattle.eligibility.proofs.Eligible.{eligible-marks}
 use Rattle.risk_of_orders.specs.Risk.{orderRisk}
 use Rattle.risk_of_orders.specs.inner.Steps.{join, Order}
@@ -120,7 +120,7 @@ add-order-risk-requires c κs =
       (
         record {
           hostRows = front-length (hosts x) _ _ (hosts-length x);
-          sensitiveRows = ap length (sets .sensitiveSet) ∙ length-marksOf (sensitive p) (modules p) ∙ same;
+          sensitiveRows = ap length (sets .sensitiveSet) ∙ length-grounds p ∙ same;
           eligibleRows = ap length (sets .eligibleSet) ∙ length-marksOf (eligible p) (modules p) ∙ same;
         },
         few (x .before),

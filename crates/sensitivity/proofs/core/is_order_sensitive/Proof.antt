@@ -1,8 +1,10 @@
 -- `sensitivity::core::is_order_sensitive` meets its contract.
 -- Assumes nothing.
-use mathlib.Core.Path.{_≡_}
+use mathlib.Core.Path.{_≡_, ap, _∙_}
 use borrow.Author.Tests.{eq-eqb, ne-eqb}
 use borrow.Author.Needs.{needs}
+use Rattle.tables.specs.Readings.{flagged}
+use Rattle.sensitivity.specs.Marks.{groundBy}
 use Rattle.sensitivity.proofs.core.is_order_sensitive.Statement.{statement}
 use Rattle.sensitivity.proofs.core.is_order_sensitive.Tie as tie
 use Rattle.sensitivity.proofs.core.is_order_sensitive.Reads as reads
@@ -30,21 +32,23 @@ shared-slice-read-if3 c = search needs
 returns-3 : tie.Need-returns-3
 returns-3 c = rw (ne-eqb _ _ (c .before .before .before .before .if1 .left), eq-eqb _ _ (c .before .before .if2 .left), ne-eqb _ _ (c .if3 .taken))
 
-mul-if4 : tie.Need-mul-if4
-mul-if4 c = search needs
+mul-acts : tie.Need-mul-acts
+mul-acts c = search needs
 
-shared-slice-read-if4 : tie.Need-shared-slice-read-if4
-shared-slice-read-if4 c = search needs
-
-returns-4 : tie.Need-returns-4
-returns-4 c = rw (ne-eqb _ _ (c .before .before .before .before .before .before .if1 .left), eq-eqb _ _ (c .before .before .before .before .if2 .left), eq-eqb _ _ (c .before .before .if3 .left), eq-eqb _ _ (c .if4 .taken))
+shared-slice-read-acts : tie.Need-shared-slice-read-acts
+shared-slice-read-acts c = search needs
 
 eagerly-triggers-interop-module-requires : tie.Need-eagerly-triggers-interop-module-requires
 eagerly-triggers-interop-module-requires c κs = search needs
 
-returns-5 : tie.Need-returns-5
-returns-5 c = let e = c .before in
-    rw (ne-eqb _ _ (e .before .before .before .before .before .before .if1 .left), eq-eqb _ _ (e .before .before .before .before .if2 .left), eq-eqb _ _ (e .before .before .if3 .left), ne-eqb _ _ (e .if4 .left)) (c .eagerly-triggers-interop-module .ensures)
+ground-by-requires : tie.Need-ground-by-requires
+ground-by-requires c κs = search needs
+
+returns-4 : tie.Need-returns-4
+returns-4 c =
+    let a = c .before .before .before .before .before .before .before .before .before .before .before .before .before .before .before .before .before .before .before .before .before .args in
+    rw (ne-eqb _ _ (c .before .before .before .before .before .before .before .if1 .left), eq-eqb _ _ (c .before .before .before .before .before .if2 .left), eq-eqb _ _ (c .before .before .before .if3 .left))
+    (c .ground-by .ensures ∙ ap (groundBy (flagged (a .sensitive .now) (a .m))) (c .before .eagerly-triggers-interop-module .ensures))
 
 pub is-order-sensitive-spec : {M : Type 1} → statement M
 is-order-sensitive-spec =
@@ -57,8 +61,8 @@ is-order-sensitive-spec =
     mul-if3
     shared-slice-read-if3
     returns-3
-    mul-if4
-    shared-slice-read-if4
-    returns-4
+    mul-acts
+    shared-slice-read-acts
     eagerly-triggers-interop-module-requires
-    returns-5)
+    ground-by-requires
+    returns-4)

@@ -1,12 +1,12 @@
 -- `sensitivity::core::mark_table_sensitive`: over the columns of the table.
 -- Assumes nothing.
 use mathlib.Core.Path.{_≡_, _∙_}
-use mathlib.Core.List.{List}
+use mathlib.Core.List.{List, map}
 use Prim.Native.Nat.{ℕ}
 use native.Mathlib.Omega.{arith}
 use lib.ListN.{length}
-use Rattle.lists.specs.Words.{marksOf}
-use Rattle.sensitivity.specs.Marks.{usesWrapped, isSensitive}
+use Rattle.lists.specs.Words.{upTo}
+use Rattle.sensitivity.specs.Marks.{usesWrapped, groundAt}
 use Rattle.sensitivity.specs.Ready.{Records, Flags, Statements, UseRows}
 use Rattle.table.proofs.Cut.{given8, asked1, asked2, asked3}
 use Rattle.sensitivity.proofs.OfTable.{made-sensitive, flags-fit, records-fit, uses-fit, statements-fit}
@@ -49,7 +49,7 @@ returns c =
     let e = entry k in
     let n = length (e .args .marks .now) in
     let made : List ℕ = call .mark-sensitive .last .1 .1 .1 .1 .1 .1 .1 .1 .1 .1 .0 in
-    given8 (λ normal included flags wraps statements includeds users used. made ≡ marksOf (isSensitive (e .args .runtime) normal included flags (usesWrapped normal wraps (of e .recordKind) (of e .recordTarget) statements includeds users used)) n)
+    given8 (λ normal included flags wraps statements includeds users used. made ≡ map (groundAt (e .args .runtime) normal included flags (usesWrapped normal wraps (of e .recordKind) (of e .recordTarget) statements includeds users used)) (upTo n))
     (k .before .before .before .before .before .before .before .column .ensures) (k .before .before .before .before .before .before .column2 .ensures) (k .before .before .before .before .before .column3 .ensures) (k .before .before .before .before .column4 .ensures) (k .before .before .before .column5 .ensures) (k .before .before .column6 .ensures) (k .before .column7 .ensures) (k .column8 .ensures) (call .mark-sensitive .ensures)
     ∙ made-sensitive (of e) n (e .pre .size)
 

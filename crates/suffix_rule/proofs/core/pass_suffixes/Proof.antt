@@ -16,7 +16,8 @@ use Rattle.tables.specs.Readings.{modules}
 use Rattle.tables.specs.Accepted.{Below}
 use Rattle.table.specs.Table.{table, read}
 use Rattle.table.proofs.Cut.{given3, asked1, asked3}
-use Rattle.sensitivity.specs.Marks.{sensitive, sensitiveMarks}
+use Rattle.sensitivity.specs.Marks.{sensitiveMarks}
+use Rattle.sensitivity.proofs.Marks.{length-grounds}
 use Rattle.eligibility.specs.Eligible.{eligible, eligibleMarks}
 use Rattle.wrap_rules.specs.Rules.{suffixAsks}
 use Rattle.wrap_rules.specs.Plan.{roots}
@@ -43,7 +44,7 @@ quiet : (e : tie.Start) → let a = e .args in Closed (rule (of e)) (a .plan .no
 quiet e c = record { settles = e .pre .1 .1 .settles; passed = suffix-pass (of e) (e .pre .0 .accepted) (passed-closed (rule (of e)) (e .args .plan .now) (e .pre .1 .0 .bits) c) }
 
 sensitive-size : (e : tie.Start) → length (e .args .sensitive .now) ≡ length (e .args .plan .now)
-sensitive-size e = ap length (e .pre .0 .sensitiveSet) ∙ length-marksOf (sensitive (of e)) (modules (of e)) ∙ sym (e .pre .1 .0 .size)
+sensitive-size e = ap length (e .pre .0 .sensitiveSet) ∙ length-grounds (of e) ∙ sym (e .pre .1 .0 .size)
 
 returns : tie.Need-returns
 returns c =

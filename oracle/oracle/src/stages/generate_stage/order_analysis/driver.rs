@@ -1,6 +1,6 @@
 //! The driver beside the original text (a child module, so that it may call the private parts).
 use oxc_index::{IndexVec, index_vec};
-use rolldown_common::{ChunkIdx, ModuleIdx, UsedSymbolRefsBuilder};
+use rolldown_common::{ChunkIdx, EcmaViewMeta, ModuleIdx, UsedSymbolRefsBuilder};
 use rustc_hash::{FxHashMap, FxHashSet};
 
 use super::{
@@ -215,6 +215,17 @@ impl GenerateStage<'_> {
 
   pub fn sensitive(&self, module: ModuleIdx) -> bool {
     self.is_order_sensitive(module)
+  }
+
+  /// Why a module is sensitive: 1 for its flag, 2 for a use, 3 for both, 0 for one that isn't.
+  pub fn ground(&self, module: ModuleIdx) -> u32 {
+    if !self.is_order_sensitive(module) {
+      return 0;
+    }
+    let flagged = self.link_output.module_table[module]
+      .as_normal()
+      .is_some_and(|normal| normal.meta.contains(EcmaViewMeta::ExecutionOrderSensitive));
+    u32::from(flagged) + 2 * u32::from(self.eagerly_triggers_interop_module(module))
   }
 
   pub fn eligible(&self, module: ModuleIdx) -> bool {

@@ -1,0 +1,2 @@
+-- What the operation `grounds` promises.
+pub mod Promise

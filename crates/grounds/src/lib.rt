@@ -1,0 +1,93 @@
+// The ground of each module's sensitivity.
+ghost use Rattle.table.specs.Table.{lent, lentWith};
+ghost use Rattle.grounds.specs.Promise.{ModuleGrounds};
+use core::mark_grounds;
+use current_columns::core::read_current;
+use refusal::refusal_number;
+use table::DEPENDENCY;
+use table::MEMBER;
+use table::NORMAL;
+use table::RECORD_KIND;
+use table::RECORD_MODULE;
+use table::RECORD_TARGET;
+use table::ROW_LIMIT;
+use table::column;
+use table::rows;
+use tables::Answer;
+
+mod core;
+
+// The ground of each module: 0 for one that isn't sensitive, 1 for its own flag, 2 for a use that triggers a wrapped module, 3 for both; written to `marks`
+// from place 0, of a table whose import records are lent beside it. The count is that of the grounds above 0.
+pub fn grounds_with_records<'a>(
+    runtime: u32,
+    dynamic: u32,
+    bounds: &'a [u32],
+    columns: &'a [u32],
+    importers: &'a [u32],
+    kinds: &'a [u32],
+    targets: &'a [u32],
+    marks: &mut [u32],
+) -> Answer
+    ensures { λ r. ⌜ ModuleGrounds (lentWith runtime dynamic (now (bounds .entry)) (now (columns .entry)) (now (importers .entry)) (now (kinds .entry)) (now (targets .entry))) (now (marks .entry)) r (now (marks .exit)) ⌝ }
+{
+    let number = refusal_number(runtime, dynamic, bounds, columns, importers, kinds, targets);
+    if number != 0 {
+        return Answer::Refused(number);
+    }
+    let n = rows(bounds, columns, NORMAL);
+    if marks.len() < n {
+        return Answer::Refused(6);
+    }
+    let mut read_targets = [0u32; ROW_LIMIT];
+    let mut read_dependencies = [0u32; ROW_LIMIT];
+    read_current(
+        runtime,
+        dynamic,
+        bounds,
+        columns,
+        importers,
+        kinds,
+        targets,
+        &mut read_targets,
+        &mut read_dependencies,
+    );
+    let records = targets.len();
+    let dependency_rows = rows(bounds, columns, DEPENDENCY);
+    let count = mark_grounds(
+        runtime,
+        dynamic,
+        bounds,
+        columns,
+        importers,
+        kinds,
+        &read_targets[..records],
+        &read_dependencies[..dependency_rows],
+        column(bounds, columns, MEMBER),
+        &mut marks[..n],
+    );
+    Answer::Counted(count)
+}
+
+// The ground of each module: 0 for one that isn't sensitive, 1 for its own flag, 2 for a use that triggers a wrapped module, 3 for both; written to `marks`
+// from place 0. The count is that of the grounds above 0.
+pub fn grounds<'a>(
+    runtime: u32,
+    dynamic: u32,
+    bounds: &'a [u32],
+    columns: &'a [u32],
+    marks: &mut [u32],
+) -> Answer
+    ensures { λ r. ⌜ ModuleGrounds (lent runtime dynamic (now (bounds .entry)) (now (columns .entry))) (now (marks .entry)) r (now (marks .exit)) ⌝ }
+{
+    grounds_with_records(
+        runtime,
+        dynamic,
+        bounds,
+        columns,
+        column(bounds, columns, RECORD_MODULE),
+        column(bounds, columns, RECORD_KIND),
+        column(bounds, columns, RECORD_TARGET),
+        marks,
+    )
+}

@@ -1,0 +1,41 @@
+// Grounds of the modules, over the columns of a list of records.
+ghost use mathlib.Core.Path.{_≡_};
+ghost use mathlib.Core.List.{List};
+ghost use Rattle.table.specs.Table.{lentWith};
+ghost use Rattle.grounds.specs.Promise.{ModuleGrounds};
+ghost use Rattle.record_columns.specs.declared.Record.{Record};
+ghost use Rattle.record_columns.specs.Rows.{columnsOf, importerColumn, kindColumn, targetColumn};
+use grounds::grounds_with_records;
+use record_columns::core::Columns;
+use table::ROW_LIMIT;
+use tables::Answer;
+
+// The records are refused if they are over their limit.
+pub fn ground_columns<'a>(
+    runtime: u32,
+    dynamic: u32,
+    bounds: &'a [u32],
+    columns: &'a [u32],
+    made: Columns,
+    marks: &mut [u32],
+) -> Answer
+    ensures { λ r. ⌜ ((records : List Record) → made ≡ columnsOf records → ModuleGrounds (lentWith runtime dynamic (now (bounds .entry)) (now (columns .entry)) (importerColumn records) (kindColumn records) (targetColumn records)) (now (marks .entry)) r (now (marks .exit))) ⌝ }
+{
+    let rows = made.rows;
+    if ROW_LIMIT < rows {
+        return Answer::Refused(1);
+    }
+    let importers = made.importers;
+    let kinds = made.kinds;
+    let targets = made.targets;
+    grounds_with_records(
+        runtime,
+        dynamic,
+        bounds,
+        columns,
+        &importers[..rows],
+        &kinds[..rows],
+        &targets[..rows],
+        marks,
+    )
+}
