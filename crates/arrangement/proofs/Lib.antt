@@ -3,3 +3,4 @@ pub mod Parts
 pub mod Chunks
 pub mod Laws
 pub mod OfProject
+pub mod Witness

@@ -1,0 +1,2 @@
+-- Rendering with names is injective.
+pub mod Injective

@@ -1,0 +1,2 @@
+-- The text form with the list of names.
+pub mod NamedForm
