@@ -43,6 +43,7 @@
  *   5  a root, entry, chunk or seed without a row, a root for risk or actual order that isn't an analysed entry (included, with a chunk), or over
  *      16,384 seeds
  *   6  an output that is too short: every output needs a place for each module, labels one for each chunk
+ *   8  for the circles alone, in the place of 6: paths or lengths too short for all paths
  */
 #ifndef JOLMUQTER_H
 #define JOLMUQTER_H
@@ -64,6 +65,10 @@ uint64_t jolmuqter_refusal(JOLMUQTER_TABLE);
 
 /* numbers: a place a module, the mark where it is unreached. sorted: the listed modules. Count: that of listed modules. */
 uint64_t jolmuqter_sort_modules(JOLMUQTER_TABLE, uint32_t *numbers, size_t numbers_len, uint32_t *sorted, size_t sorted_len);
+
+/* paths: the import circles that the sort meets, one after the other in the order of finding: the modules of each, and then its first again; equal
+ * ones once. lengths: how many places each takes. Count: that of circles. */
+uint64_t jolmuqter_import_circles(JOLMUQTER_TABLE, uint32_t *paths, size_t paths_len, uint32_t *lengths, size_t lengths_len);
 
 /* order: the expected order of any module row. Count: that of listed modules. */
 uint64_t jolmuqter_expected_order(JOLMUQTER_TABLE, uint32_t root, uint32_t *order, size_t order_len);

@@ -120,6 +120,18 @@ static void answers(void) {
   EXPECT(jolmuqter_sort_modules(TABLE(t), a, 4, b, 4), 4);
   HOLD(a, 0, 3, 1, 2, 9), HOLD(b, 0, 2, 3, 1, 9);
 
+  Table ring = listing(normal, LIST(0), LIST(1), 1);
+  ring.columns[ring.bounds[10] + 1] = 1; /* module 1 imports itself in the place of module 3 */
+  memset(a, 0, sizeof a), memset(b, 0, sizeof b);
+  EXPECT(jolmuqter_import_circles(TABLE(t), a, 0, b, 0), 0);
+  EXPECT(jolmuqter_import_circles(TABLE(ring), a, 1, b, 5), REFUSED(8));
+  EXPECT(jolmuqter_import_circles(TABLE(ring), a, 5, b, 0), REFUSED(8));
+  EXPECT(jolmuqter_import_circles(TABLE(twice), a, 0, b, 0), REFUSED(4));
+  HOLD(a, 0, 0, 0, 0, 0), HOLD(b, 0, 0, 0, 0, 0);
+  EXPECT(jolmuqter_import_circles(TABLE(ring), a, 2, b, 1), 1);
+  HOLD(a, 1, 1, 0, 0, 0), HOLD(b, 2, 0, 0, 0, 0);
+  EXPECT(jolmuqter_sort_modules(TABLE(t), a, 4, b, 4), 4);
+
   memset(a, 0, sizeof a);
   EXPECT(jolmuqter_expected_order(TABLE(t), 1, a, 5), 3);
   HOLD(a, 2, 3, 1, 0, 0);
@@ -221,6 +233,7 @@ static uint32_t first[MODULES], second[MODULES];
 static Table deep;
 
 static void sort_modules(void) { EXPECT(jolmuqter_sort_modules(TABLE(deep), first, MODULES, second, MODULES), MODULES); }
+static void import_circles(void) { EXPECT(jolmuqter_import_circles(TABLE(deep), first, MODULES, second, MODULES), 0); }
 static void expected_order(void) { EXPECT(jolmuqter_expected_order(TABLE(deep), 0, first, MODULES), MODULES); }
 static void entries_order(void) { EXPECT(jolmuqter_entries_order(TABLE(deep), LIST(MODULES - 1, 0), 2, first, MODULES), MODULES); }
 static void actual_order(void) { EXPECT(jolmuqter_actual_order(TABLE(deep), 0, first, MODULES, second, MODULES), MODULES); }
@@ -250,8 +263,8 @@ static size_t stack_of(void (*call)(void)) {
 
 int main(void) {
   answers();
-  void (*calls[])(void) = {sort_modules, expected_order, entries_order, actual_order, labels, chunk_reach, order_risk, cycle_risk, grounds, plan_from_seeds, plan};
-  const char *names[] = {"sort_modules", "expected_order", "entries_order", "actual_order", "labels", "chunk_reach", "order_risk", "cycle_risk", "grounds", "plan_from_seeds", "plan"};
+  void (*calls[])(void) = {sort_modules, import_circles, expected_order, entries_order, actual_order, labels, chunk_reach, order_risk, cycle_risk, grounds, plan_from_seeds, plan};
+  const char *names[] = {"sort_modules", "import_circles", "expected_order", "entries_order", "actual_order", "labels", "chunk_reach", "order_risk", "cycle_risk", "grounds", "plan_from_seeds", "plan"};
   for (uint32_t wrap = 0; wrap < 3; wrap += 2) {
     deep = chains(wrap);
     for (size_t i = 0; i < LENGTH(calls); i++) {

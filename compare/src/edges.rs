@@ -39,7 +39,7 @@ fn case(name: String, p: &Project, calls: Vec<Asked>) -> Case {
 
 /// All of them.
 pub fn all() -> Vec<Case> {
-  [tests(), orders(), together(), chunks(), actual_orders(), risks(), replaced()].into_iter().flatten().collect()
+  [tests(), orders(), circles(), together(), chunks(), actual_orders(), risks(), replaced()].into_iter().flatten().collect()
 }
 
 // The tests 1 to 4 and 10.
@@ -257,6 +257,67 @@ fn together() -> Vec<Case> {
     case("entries: a ring".into(), &ring, vec![ask(&[2, 1, 3], 4), ask(&[3, 2, 1, 0], 4)]),
     case("entries: a chain of 4096 modules".into(), &chain, vec![ask(&falling, 4_096), ask(&[0, 4_095, 1], 4_096)]),
   ]
+}
+
+// Import circles.
+
+/// Normal modules, an external one behind them, and records as they are given.
+fn recorded(count: usize, records: &[[u32; 3]]) -> Project {
+  let mut p = modules(count, std::iter::empty());
+  p.push(NORMAL, [0, 1, 0, 0, 1, 0, MARK, MARK]);
+  rows(&mut p, RECORD_MODULE, records);
+  p
+}
+
+/// A call with slices for the paths and for their lengths.
+fn circle_call(paths: usize, lengths: usize) -> Asked {
+  (Call::Circles, vec![paths, lengths])
+}
+
+/// A chain through 4,096 modules with further records of its last two modules.
+fn chained(before_last: &[u32], last: &[u32]) -> Project {
+  let chain = (0..4_095).map(|module| [module, module + 1]);
+  let back = before_last.iter().map(|&target| [4_094, target]).chain(last.iter().map(|&target| [4_095, target]));
+  modules(4_096, chain.chain(back))
+}
+
+/// Small graphs; what takes no room; a ring through all modules; 16,384 places and one more; many paths.
+fn circles() -> Vec<Case> {
+  let both = |paths: usize, lengths: usize| {
+    let short = [circle_call(paths - 1, lengths), circle_call(paths, lengths - 1), circle_call(0, 0)];
+    [vec![circle_call(paths, lengths), circle_call(paths + 2, lengths + 2)], short.to_vec()].concat()
+  };
+  let mut dynamic = recorded(2, &[[0, 2, 1], [0, 0, 1], [1, 2, 0], [1, 3, 0]]);
+  dynamic.dynamic = 1;
+  // 4,097 + 4,096 + 4,095 + 4,096 places
+  let full = chained(&[0], &[0, 1, 2]);
+  // 4,097 + 4,096 + 4,095 + 4,095 + 2 places
+  let over = chained(&[1], &[0, 1, 2, 4_095]);
+  let every = modules(120, (0..120 * 120).map(|row| [row / 120, row % 120]));
+  let small: [(&str, Project, Vec<Asked>); 10] = [
+    ("none", listing(), vec![circle_call(0, 0), circle_call(3, 3)]),
+    ("a module that imports itself", recorded(1, &[[0, 0, 0]]), both(2, 1)),
+    ("two modules", recorded(2, &[[0, 1, 1], [1, 0, 0]]), both(3, 1)),
+    ("kind 3 isn't walked, nor kind 2", recorded(2, &[[0, 0, 1], [1, 2, 0], [1, 3, 0]]), vec![circle_call(0, 0)]),
+    ("kind 2 is walked if dynamic is 1", dynamic, both(3, 1)),
+    ("an external in between", recorded(2, &[[0, 0, 2], [0, 0, 1], [1, 0, 2], [1, 0, 0]]), both(3, 1)),
+    ("repeated rows", recorded(3, &[[0, 0, 1], [0, 0, 2], [0, 0, 1], [1, 0, 2], [2, 0, 0], [2, 0, 1], [2, 1, 0], [2, 0, 2]]), both(9, 3)),
+    ("a row of another kind before it", recorded(2, &[[0, 0, 1], [1, 3, 0], [1, 2, 0], [1, 0, 0], [1, 1, 0]]), both(3, 1)),
+    (
+      "another module closes one there in between",
+      recorded(3, &[[0, 0, 1], [1, 0, 0], [1, 0, 2], [1, 0, 0], [2, 0, 0]]),
+      both(7, 2),
+    ),
+    ("modules that no root reaches", recorded(3, &[[1, 0, 2], [2, 0, 1]]), vec![circle_call(0, 0)]),
+  ];
+  let large: [(&str, Project, Vec<Asked>); 4] = [
+    ("a ring through 4096 modules", chained(&[], &[0]), both(4_097, 1)),
+    ("16384 places", full, vec![circle_call(16_384, 16_384), circle_call(16_383, 4), circle_call(16_385, 4)]),
+    ("16385 places", over, vec![circle_call(16_384, 16_384), circle_call(16_385, 5), circle_call(16_385, 16_385), circle_call(16_385, 4)]),
+    ("120 modules with every record", every, vec![circle_call(16_384, 16_384)]),
+  ];
+  let cases = small.into_iter().chain(large);
+  cases.map(|(name, p, calls)| case(format!("circles: {name}"), &p, calls)).collect()
 }
 
 // Labels and chunk reach.

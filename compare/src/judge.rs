@@ -169,7 +169,7 @@ impl Judge {
   /// Each operation with bounds that don't fit.
   fn unfit_differs(&mut self, p: &Project, subject: Subject, lent: &Lent) -> Difference {
     for call in one_call_each() {
-      let room = vec![refusal::places(p, &call) + 3; outputs(&call)];
+      let room = roomy(&refusal::places(p, &call), 3);
       self.tally.calls[1] += 1;
       if let Some(words) = call_differs(subject, lent, &call, &room, Err(1)) {
         let values = lent.columns.len();
@@ -180,28 +180,24 @@ impl Judge {
   }
 }
 
-/// How many outputs a call has.
-pub fn outputs(call: &Call) -> usize {
-  match call {
-    Call::Sort | Call::Actual(_) => 2,
-    Call::Reach(_) | Call::Refusal => 0,
-    _ => 1,
-  }
-}
-
 /// Lengths of a call's outputs: longer than they must be; also just long enough, and each one too short.
 fn rooms(p: &Project, call: &Call, thorough: bool) -> Vec<Vec<usize>> {
-  let (places, outputs) = (refusal::places(p, call), outputs(call));
-  let mut rooms = vec![vec![places + 3; outputs]];
-  if outputs > 0 && thorough {
-    rooms.push(vec![places; outputs]);
-    for short in 0..outputs {
-      let mut room = vec![places; outputs];
-      room[short] = places.saturating_sub(1);
+  let places = refusal::places(p, call);
+  let mut rooms = vec![roomy(&places, 3)];
+  if !places.is_empty() && thorough {
+    rooms.push(places.clone());
+    for short in 0..places.len() {
+      let mut room = places.clone();
+      room[short] = room[short].saturating_sub(1);
       rooms.push(room);
     }
   }
   rooms
+}
+
+/// Some places more in each output.
+pub fn roomy(places: &[usize], more: usize) -> Vec<usize> {
+  places.iter().map(|places| places + more).collect()
 }
 
 /// Each kind of risk, and both joined.
@@ -210,7 +206,7 @@ pub fn risks(root: u32) -> [Call; 3] {
 }
 
 /// A call of each operation.
-pub fn one_call_each() -> [Call; 13] {
+pub fn one_call_each() -> [Call; 14] {
   [
     Call::Sort,
     Call::Expected(1),
@@ -225,6 +221,7 @@ pub fn one_call_each() -> [Call; 13] {
     Call::CycleRisk(1),
     Call::Entries(vec![1]),
     Call::Grounds,
+    Call::Circles,
   ]
 }
 
@@ -245,6 +242,13 @@ fn against_original(
   let (numbers, sorted) = model.numbers_and_sorted();
   check(&|| "numbers".into(), numbers, original.numbers());
   check(&|| "sorted".into(), sorted, original.sorted());
+  // The original's circles have no order of their own. Lengths before paths tell lists of paths apart.
+  let flat = |paths: Vec<Vec<u32>>| -> Vec<u32> {
+    paths.iter().map(|path| path.len() as u32).chain(paths.iter().flatten().copied()).collect()
+  };
+  let mut circles = model.circles();
+  circles.sort_unstable();
+  check(&|| "circles".into(), flat(circles), flat(oracle::circles(p)));
   check(&|| "sensitive".into(), model.sensitive(), original.sensitive());
   check(&|| "grounds".into(), model.grounds(), original.grounds());
   check(&|| "eligible".into(), model.eligible(), original.eligible());
@@ -298,7 +302,7 @@ fn against_original(
 /// The calls that are tried: fitting arguments and some that don't fit.
 fn calls(p: &Project, model: Option<&Model>) -> Vec<Call> {
   let (n, c) = (p.modules() as u32, p.chunks() as u32);
-  let mut calls = vec![Call::Sort, Call::Labels, Call::Whole, Call::Refusal, Call::Grounds];
+  let mut calls = vec![Call::Sort, Call::Circles, Call::Labels, Call::Whole, Call::Refusal, Call::Grounds];
   if model.is_none() {
     for root in [0, n, MARK] {
       calls.extend([Call::Expected(root), Call::Actual(root)]);

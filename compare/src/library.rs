@@ -30,6 +30,7 @@ pub fn call(lent: &Lent, call: &Call, outputs: &mut [Vec<u32>]) -> Result<usize,
     (Call::CycleRisk(root), [risk]) => table.cycle_risk(*root, risk),
     (Call::Entries(entries), [order]) => table.entries_order(entries, order),
     (Call::Grounds, [grounds]) => table.grounds(grounds),
+    (Call::Circles, [paths, lengths]) => table.import_circles(paths, lengths),
     _ => unreachable!("outputs that {call:?} doesn't have"),
   };
   answer.map_err(|Refused(number)| number)

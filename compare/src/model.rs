@@ -25,6 +25,8 @@ pub enum Call {
   /// The expected order of some modules walked together.
   Entries(Vec<u32>),
   Grounds,
+  /// The import circles.
+  Circles,
 }
 
 /// What an accepted call gives: its count, and each output from place 0.
@@ -150,6 +152,48 @@ impl Walk<'_> {
   }
 }
 
+/// A search of circles at hand: the begun modules without a number, in the order they were begun, those with a number, and the paths.
+#[derive(Default)]
+struct Circles {
+  begun: Vec<u32>,
+  numbered: Vec<bool>,
+  paths: Vec<Vec<u32>>,
+  found: std::collections::HashSet<Vec<u32>>,
+  /// For each target the module that last closed a path by it: a wrong way to tell equal paths.
+  reporters: std::collections::HashMap<u32, u32>,
+}
+
+impl Circles {
+  /// "Meeting a module that is begun and not yet numbered yields a path."
+  fn meet(&mut self, model: &Model, m: u32) {
+    if self.numbered[m as usize] {
+      return;
+    }
+    if let Some(at) = self.begun.iter().position(|&begun| begun == m) {
+      let mut path = self.begun[at..].to_vec();
+      if !model.is(Wrong::CirclesUnclosed) {
+        path.push(m);
+      }
+      let last = self.begun[self.begun.len() - 1];
+      let new = match model.wrong {
+        Some(Wrong::CirclesRepeated) => true,
+        Some(Wrong::CirclesByLastReporter) => self.reporters.insert(m, last) != Some(last),
+        _ => self.found.insert(path.clone()),
+      };
+      if new {
+        self.paths.push(path);
+      }
+      return;
+    }
+    self.begun.push(m);
+    for target in model.targets(m, |kind| model.is_static(kind)) {
+      self.meet(model, target);
+    }
+    self.begun.pop();
+    self.numbered[m as usize] = true;
+  }
+}
+
 /// An actual order at hand.
 struct Load {
   met_chunks: Vec<bool>,
@@ -236,21 +280,19 @@ impl<'a> Model<'a> {
     kind < 2 || (kind == 2 && (self.p.dynamic == 1 || self.is(Wrong::DynamicAlways)))
   }
 
+  /// "The runtime comes first, then the entries in row order."
+  fn sort_roots(&self) -> Vec<u32> {
+    let passed = |entry: &&u32| !self.is(Wrong::SortIncludedEntries) || self.included(**entry);
+    let mut roots: Vec<u32> = self.p[ENTRY].iter().filter(passed).copied().collect();
+    let first = if self.is(Wrong::RuntimeNotFirst) { roots.len() } else { 0 };
+    roots.insert(first, self.p.runtime);
+    roots
+  }
+
   pub fn numbers_and_sorted(&self) -> (Vec<u32>, Vec<u32>) {
     let next = |m: u32| self.targets(m, |kind| self.is_static(kind));
     let mut walk = self.walk(&next);
-    if !self.is(Wrong::RuntimeNotFirst) {
-      walk.from(self.p.runtime);
-    }
-    for &entry in &self.p[ENTRY] {
-      if self.is(Wrong::SortIncludedEntries) && !self.included(entry) {
-        continue;
-      }
-      walk.from(entry);
-    }
-    if self.is(Wrong::RuntimeNotFirst) {
-      walk.from(self.p.runtime);
-    }
+    self.sort_roots().into_iter().for_each(|root| walk.from(root));
     let mut numbers = vec![MARK; self.count()];
     let mut sorted = Vec::new();
     let mut number = 0;
@@ -265,6 +307,17 @@ impl<'a> Model<'a> {
       }
     }
     (numbers, sorted)
+  }
+
+  // ------------------------------------------------------------ import circles
+
+  /// The paths in the order of finding.
+  pub fn circles(&self) -> Vec<Vec<u32>> {
+    let mut search = Circles { numbered: vec![false; self.count()], ..Circles::default() };
+    for root in self.sort_roots() {
+      search.meet(self, root);
+    }
+    search.paths
   }
 
   // ------------------------------------------------------------ expected order
@@ -794,6 +847,11 @@ impl<'a> Model<'a> {
       Call::Sort => {
         let (numbers, sorted) = self.numbers_and_sorted();
         Given { count: sorted.len(), outputs: vec![numbers, sorted] }
+      }
+      Call::Circles => {
+        let paths = self.circles();
+        let lengths = paths.iter().map(|path| path.len() as u32).collect();
+        Given { count: paths.len(), outputs: vec![paths.concat(), lengths] }
       }
       Call::Expected(root) => list(self.expected(*root)),
       Call::Actual(root) => {

@@ -15,6 +15,9 @@ use crate::{
   refusal,
 };
 
+/// How many places the program lends for the paths, and for their lengths.
+const LENT: usize = 16_384;
+
 /// What the program must print.
 pub fn right(text: &[u8]) -> String {
   let Some(p) = read(text) else { return "refused 7\n".into() };
@@ -25,6 +28,12 @@ pub fn right(text: &[u8]) -> String {
   let model = Model::of(&p);
   let mut out = String::new();
   line(&mut out, "sorted", &model.numbers_and_sorted().1);
+  let circles = model.circles();
+  if circles.len() > LENT || circles.iter().map(Vec::len).sum::<usize>() > LENT {
+    line(&mut out, "circles refused", &[]);
+  } else {
+    circles.iter().for_each(|path| line(&mut out, "circle", path));
+  }
   for entry in model.analysed() {
     line(&mut out, &format!("expected {entry}"), &model.expected(entry));
     line(&mut out, &format!("actual {entry}"), &model.actual(entry).0);

@@ -1,7 +1,10 @@
-//! Document 01's refusals 1 to 6 and C-18's 10, read from their words alone.
+//! Document 01's refusals 1 to 6, C-11's 8 and C-18's 10, read from their words alone.
 use project::{COLUMNS, LISTS, MARK, Project, column::*};
 
-use crate::{lent::Lent, model::Call};
+use crate::{
+  lent::Lent,
+  model::{Call, Model},
+};
 
 /// What may stand in a column.
 #[derive(Clone, Copy)]
@@ -150,7 +153,7 @@ pub fn analysed(p: &Project, root: u32) -> bool {
 fn fitting(p: &Project, call: &Call) -> bool {
   let module = |row: u32| (row as usize) < p.modules();
   match call {
-    Call::Sort | Call::Labels | Call::Whole | Call::Refusal | Call::Grounds => true,
+    Call::Sort | Call::Circles | Call::Labels | Call::Whole | Call::Refusal | Call::Grounds => true,
     Call::Expected(root) => module(*root),
     Call::Actual(root) | Call::Risk(root) | Call::OrderRisk(root) | Call::CycleRisk(root) => {
       module(*root) && analysed(p, *root)
@@ -161,11 +164,17 @@ fn fitting(p: &Project, call: &Call) -> bool {
   }
 }
 
-/// How many places a call's outputs must have.
-pub fn places(p: &Project, call: &Call) -> usize {
+/// How many places each of a call's outputs must have. The circles' two slices have as many as there are places of all paths, and paths.
+pub fn places(p: &Project, call: &Call) -> Vec<usize> {
   match call {
-    Call::Labels => p.chunks(),
-    _ => p.modules(),
+    Call::Circles if of_project(p) == 0 => {
+      let paths = Model::of(p).circles();
+      vec![paths.iter().map(Vec::len).sum(), paths.len()]
+    }
+    Call::Sort | Call::Actual(_) | Call::Circles => vec![p.modules(); 2],
+    Call::Reach(_) | Call::Refusal => Vec::new(),
+    Call::Labels => vec![p.chunks()],
+    _ => vec![p.modules()],
   }
 }
 
@@ -173,7 +182,9 @@ pub fn places(p: &Project, call: &Call) -> usize {
 pub fn of_call(p: &Project, call: &Call, rooms: &[usize]) -> u32 {
   match of_project(p) {
     0 if !fitting(p, call) => 5,
-    0 if rooms.iter().any(|&room| room < places(p, call)) => 6,
+    0 if !rooms.is_empty() && places(p, call).iter().zip(rooms).any(|(&places, &room)| room < places) => {
+      if *call == Call::Circles { 8 } else { 6 }
+    }
     number => number,
   }
 }

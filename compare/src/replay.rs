@@ -11,7 +11,7 @@ use project::{COLUMNS, LISTS, MARK, Project, column::*};
 
 use crate::{
   edges,
-  judge::{Judge, entry_lists, one_call_each, outputs, risks},
+  judge::{self, Judge, entry_lists, one_call_each, risks},
   lent::Lent,
   model::{Call, Given, Model, members, set_of},
   refusal::{self, Values, limit, values},
@@ -45,6 +45,7 @@ pub fn told(p: &Project, wrong: Wrong) -> bool {
       || members(&turned.cycle_risk(entry.root)) != entry.cycle
   };
   numbers != original.numbers()
+    || !same_circles(p, &turned)
     || sorted != original.sorted()
     || turned.labels() != original.labels()
     || reaches != original.reaches()
@@ -82,14 +83,14 @@ impl Case {
 
 /// The call with outputs of two places more than it needs.
 fn roomy(p: &Project, call: Call) -> Asked {
-  let rooms = vec![refusal::places(p, &call) + 2; outputs(&call)];
+  let rooms = judge::roomy(&refusal::places(p, &call), 2);
   (call, rooms)
 }
 
 /// Every operation on every argument, and one call that is refused by 5 for each that can be.
 fn every_call(p: &Project) -> Vec<Asked> {
   let n = p.modules() as u32;
-  let mut calls = vec![Call::Sort, Call::Labels, Call::Whole, Call::Grounds, Call::PlanFrom(vec![])];
+  let mut calls = vec![Call::Sort, Call::Circles, Call::Labels, Call::Whole, Call::Grounds, Call::PlanFrom(vec![])];
   for module in 0..n {
     calls.extend([Call::Expected(module), Call::PlanFrom(vec![module])]);
   }
@@ -300,9 +301,9 @@ fn arguments() -> Case {
   }
   for (call, rooms) in each_call(&project) {
     for short in 0..rooms.len() {
-      let mut rooms = vec![refusal::places(&project, &call); rooms.len()];
+      let mut rooms = refusal::places(&project, &call);
       calls.push((call.clone(), rooms.clone()));
-      rooms[short] -= 1;
+      rooms[short] = rooms[short].saturating_sub(1);
       calls.push((call.clone(), rooms));
     }
   }
@@ -398,6 +399,7 @@ fn put_call(out: &mut String, asked: &Asked, number: u32, given: Option<Given>) 
     Call::CycleRisk(root) => (10, *root),
     Call::Entries(_) => (11, 0),
     Call::Grounds => (12, 0),
+    Call::Circles => (13, 0),
   };
   let refused = u32::from(number != 0);
   put(out, [operation, argument, refused, given.as_ref().map_or(number, |given| given.count as u32)]);
@@ -446,6 +448,8 @@ fn of_the_original(p: &Project, original: &Original, call: &Call) -> Option<Give
     Call::CycleRisk(root) => marks(entry(*root).cycle),
     Call::Entries(entries) => list(original.entries_together(entries)),
     Call::Grounds => Given { count: original.sensitive().len(), outputs: vec![original.grounds()] },
+    // As a set: `same_circles`.
+    Call::Circles => return None,
   })
 }
 
@@ -463,6 +467,13 @@ fn not_the_originals<'c>(case: &'c Case, p: &Project, model: &Model) -> Option<&
       && of_the_original(p, &original, call).is_some_and(|given| given != model.give(call))
   };
   case.calls.iter().find(differs).map(|(call, _)| call)
+}
+
+/// Whether a model has the original's circles, in whatever order.
+fn same_circles(p: &Project, model: &Model) -> bool {
+  let mut circles = model.circles();
+  circles.sort_unstable();
+  circles == oracle::circles(p)
 }
 
 /// How many of a case's answers the wrong reading that it is named after would change.
@@ -494,6 +505,7 @@ pub fn data(random: &dyn Fn(usize) -> Project) -> (String, usize, usize) {
     if let (Some(p), Some(model)) = (accepted, &model) {
       // Every answer that the original says is its own: where the model's were to differ, nothing is written.
       assert_eq!(not_the_originals(case, p, model), None, "{name}");
+      assert!(same_circles(p, model), "{name}");
       assert!(wrong.is_none_or(|wrong| changed(case, p, wrong) > 0), "{name}");
     }
     out.push_str(&format!("# {name}\n"));

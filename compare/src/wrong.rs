@@ -31,6 +31,10 @@ wrong! {
   RequireNotSorted "the sort doesn't walk Require",
   ExternalsUnnumbered "externals take no number",
   ExternalsListed "externals are listed",
+  // circles
+  CirclesUnclosed "a circle without its closing module",
+  CirclesRepeated "equal circles are kept",
+  CirclesByLastReporter "of equal circles those are kept between which another module closed one there",
   // expected order
   ExternalRootListed "an external root is walked",
   ExcludedListed "modules that aren't included are listed",

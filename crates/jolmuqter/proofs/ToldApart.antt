@@ -8,7 +8,7 @@ use Prim.Native.Nat.{ℕ, zero, suc, _≤_}
 use native.Mathlib.Omega.{arith}
 use lib.ListN.{length}
 use lib.Dec.{ltb, leb}
-use Rattle.lists.specs.Words.{upTo, ones, bit}
+use Rattle.lists.specs.Words.{isZero, upTo, ones, bit}
 use Rattle.lists.proofs.Laws.{length-countFrom, length-keep, ones-zeros}
 use Rattle.walk.specs.Walk.{everywhere}
 use Rattle.walk.proofs.Orders.{order-length}
@@ -22,6 +22,9 @@ use Rattle.table.specs.Table.{boundsFit, table, current, lent, answer}
 use Rattle.table.proofs.Laws.{lent-current}
 use Rattle.sort_modules.specs.Sort.{staticsOf, visited, sorted}
 use Rattle.sort_modules.specs.OfProject.{sortedOf}
+use Rattle.circle_gathering.specs.Gathering.{joined}
+use Rattle.import_circles.specs.OfProject.{circlesOf}
+use Rattle.import_circles.proofs.Counts.{circles-few}
 use Rattle.expected_order.specs.OfProject.{expectedOf}
 use Rattle.expected_order.proofs.Laws.{expected-length}
 use Rattle.entries_order.specs.OfEntries.{expectedOfEntries}
@@ -39,9 +42,9 @@ use Rattle.sensitivity.specs.Marks.{groundsOf}
 use Rattle.sensitivity.proofs.Marks.{length-grounds}
 use Rattle.order_analysis.specs.Whole.{wholePlan}
 use Rattle.order_analysis.proofs.Promise.{length-whole}
-use Rattle.jolmuqter.specs.Calls.{Call, Sort, Expected, Entries, Actual, Labels, Reach, OrderRisk, CycleRisk, Plan, Whole, Grounds, Refusal, Promise}
+use Rattle.jolmuqter.specs.Calls.{Call, Sort, Circles, Expected, Entries, Actual, Labels, Reach, OrderRisk, CycleRisk, Plan, Whole, Grounds, Refusal, Promise}
 use Rattle.jolmuqter.specs.Exported.{coded}
-use Rattle.jolmuqter.specs.ToldApart.{AcceptedWith, RefusedWith, AnswersAreToldApart, BelowExactlyIfAccepted}
+use Rattle.jolmuqter.specs.ToldApart.{countLimit, numberLimit, AcceptedWith, RefusedWith, AnswersAreToldApart, BelowExactlyIfAccepted}
 
 -- what an operation counts: modules or chunks, each once
 
@@ -88,15 +91,26 @@ tests-alone (suc n) = refl
 
 -- an answer by its number, of which 1 to 6 and 10 can be, and its count
 
-module _ (a : Answer) (r : ℕ) (code : r ≡ coded a) where
-  told : (n : ℕ) (fits room : Bool) (count : ℕ) → Known n → (n ≡ 0 → count ≤ moduleLimit) → a ≡ answer (verdict n fits room) count → AcceptedWith a r ⊎ RefusedWith a r
-  told zero true true count known few e =
-      let q : r ≡ count = code ∙ ap coded e in
-      let f = few refl in
-      inl (record { accepted = rw q e; within = omega arith })
-  told zero true false count known few e = inr (record { number = 6; refused = e; code = code ∙ ap coded e; least = omega arith; known = inl (omega arith) })
-  told zero false room count known few e = inr (record { number = 5; refused = e; code = code ∙ ap coded e; least = omega arith; known = inl (omega arith) })
-  told (suc n) fits room count known few e = inr (record { number = suc n; refused = e; code = code ∙ ap coded e; least = omega arith; known = ⊎-map (λ l. omega arith) (λ q. q) known })
+module _ (call : Call) (a : Answer) (r : ℕ) (code : r ≡ coded a) where
+  abbrev Told : Type 0
+  Told = AcceptedWith call a r ⊎ RefusedWith call a r
+
+  accepted : (count : ℕ) → count ≤ countLimit call → a ≡ answer 0 count → Told
+  accepted count few e = let q : r ≡ count = code ∙ ap coded e in inl (record { accepted = rw q e; within = omega arith })
+
+  refused : (n count : ℕ) → (suc n ≤ numberLimit call) ⊎ (suc n ≡ 10) → a ≡ answer (suc n) count → Told
+  refused n count known e = inr (record { number = suc n; refused = e; code = code ∙ ap coded e; least = omega arith; known = known })
+
+  told : (n : ℕ) (fits room : Bool) (count : ℕ) → Known n → 6 ≤ numberLimit call → (n ≡ 0 → count ≤ countLimit call) → a ≡ answer (verdict n fits room) count → Told
+  told zero true true count known l few e = accepted count (few refl) e
+  told zero true false count known l few e = refused 5 count (inl l) e
+  told zero false room count known l few e = refused 4 count (inl (omega arith)) e
+  told (suc n) fits room count known l few e = refused n count (⊎-map (λ k. omega arith) (λ q. q) known) e
+
+  told-room : (n : ℕ) (fits : Bool) (count : ℕ) → Known n → 8 ≤ numberLimit call → (n ≡ 0 → count ≤ countLimit call) → a ≡ answer (cond (isZero n) (cond fits 0 8) n) count → Told
+  told-room zero true count known l few e = accepted count (few refl) e
+  told-room zero false count known l few e = refused 7 count (inl l) e
+  told-room (suc n) fits count known l few e = refused n count (⊎-map (λ k. omega arith) (λ q. q) known) e
 
 module _ (runtime dynamic : ℕ) (bounds columns : List ℕ) where
   -- the project as it is read
@@ -111,34 +125,52 @@ module _ (runtime dynamic : ℕ) (bounds columns : List ℕ) where
       known false = inl (omega arith)
 
   module _ (first second : List ℕ) (a : Answer) (r : ℕ) (first′ second′ : List ℕ) (code : r ≡ coded a) where
-    by-number : (fits room : Bool) (count : ℕ) → (Accepted p → count ≤ moduleLimit)
-        → a ≡ answer (verdict (lent runtime dynamic bounds columns .number) fits room) count → AcceptedWith a r ⊎ RefusedWith a r
-    by-number fits room count few =
-        told a r code (lent runtime dynamic bounds columns .number) fits room count number-known (λ z. few (lent-current bounds columns (table runtime dynamic bounds columns) z))
+    by-number : (call : Call) → 6 ≤ numberLimit call → (fits room : Bool) (count : ℕ) → (Accepted p → count ≤ countLimit call)
+        → a ≡ answer (verdict (lent runtime dynamic bounds columns .number) fits room) count → AcceptedWith call a r ⊎ RefusedWith call a r
+    by-number call l fits room count few =
+        told call a r code (lent runtime dynamic bounds columns .number) fits room count number-known l (λ z. few (lent-current bounds columns (table runtime dynamic bounds columns) z))
 
-    by-promise : (call : Call) → Promise call (lent runtime dynamic bounds columns) first second a first′ second′ → AcceptedWith a r ⊎ RefusedWith a r
-    by-promise Sort h = by-number true (leb (modules p) (length first) && leb (modules p) (length second)) (length (sortedOf p)) (λ ok. omega (arith, sorted-few p, ok .sizes .normal)) (h .answered)
-    by-promise (Expected root) h = by-number (ltb root (modules p)) (leb (modules p) (length first)) (length (expectedOf p root)) (λ ok. omega (arith, expected-few p root, ok .sizes .normal)) (h .answered)
-    by-promise (Entries entries) h = by-number (below (modules p) entries) (leb (modules p) (length first)) (length (expectedOfEntries p entries)) (λ ok. omega (arith, entries-length p entries, ok .sizes .normal)) (h .answered)
-    by-promise (Actual root) h = by-number (isAnalysed p root) (leb (modules p) (length first) && leb (modules p) (length second)) (length (actualOf p root)) (λ ok. omega (arith, actual-length p root, ok .sizes .normal)) (h .answered)
-    by-promise Labels h = by-number true (leb (chunks p) (length first)) (length (cyclicOf p)) (λ ok. omega (arith, cyclic-few p, ok .sizes .order)) (h .answered)
-    by-promise (Reach c) h = by-number (ltb c (chunks p)) true (bit (reachesCycleOf p c)) (λ ok. omega (arith, bit-few (reachesCycleOf p c))) (h .answered)
-    by-promise (OrderRisk root) h = by-number (isAnalysed p root) (leb (modules p) (length first)) (ones (orderRiskOfEntry p root)) (λ ok. omega (arith, ones-zeros (orderRiskOfEntry p root), length-order-risk p root, ok .sizes .normal)) (h .answered)
-    by-promise (CycleRisk root) h = by-number (isAnalysed p root) (leb (modules p) (length first)) (ones (cycleRiskOfEntry p root)) (λ ok. omega (arith, ones-zeros (cycleRiskOfEntry p root), length-cycle-risk p root, ok .sizes .normal)) (h .answered)
-    by-promise (Plan seeds) h = by-number (seedsFit (modules p) seeds) (leb (modules p) (length first)) (ones (planOf p seeds)) (λ ok. omega (arith, ones-zeros (planOf p seeds), length-plan p seeds, ok .sizes .normal)) (h .answered)
-    by-promise Whole h = by-number true (leb (modules p) (length first)) (ones (wholePlan p)) (λ ok. omega (arith, ones-zeros (wholePlan p), length-whole p, ok .sizes .normal)) (h .answered)
-    by-promise Grounds h = by-number true (leb (modules p) (length first)) (ones (groundsOf p)) (λ ok. omega (arith, ones-zeros (groundsOf p), length-grounds p, ok .sizes .normal)) (h .answered)
-    by-promise Refusal h = by-number true true 0 (λ ok. omega arith) (h ∙ tests-alone (lent runtime dynamic bounds columns .number))
+    by-promise : (call : Call) → Promise call (lent runtime dynamic bounds columns) first second a first′ second′ → AcceptedWith call a r ⊎ RefusedWith call a r
+    by-promise Sort h = by-number Sort (omega arith) true (leb (modules p) (length first) && leb (modules p) (length second)) (length (sortedOf p)) (λ ok. omega (arith, sorted-few p, ok .sizes .normal)) (h .answered)
+    by-promise Circles h =
+        told-room Circles a r code (lent runtime dynamic bounds columns .number) (leb (length (joined (circlesOf p))) (length first) && leb (length (circlesOf p)) (length second)) (length (circlesOf p)) number-known (omega arith)
+        (λ z. circles-few p (lent-current bounds columns (table runtime dynamic bounds columns) z)) (h .answered)
+    by-promise (Expected root) h = by-number (Expected root) (omega arith) (ltb root (modules p)) (leb (modules p) (length first)) (length (expectedOf p root)) (λ ok. omega (arith, expected-few p root, ok .sizes .normal)) (h .answered)
+    by-promise (Entries entries) h = by-number (Entries entries) (omega arith) (below (modules p) entries) (leb (modules p) (length first)) (length (expectedOfEntries p entries)) (λ ok. omega (arith, entries-length p entries, ok .sizes .normal)) (h .answered)
+    by-promise (Actual root) h = by-number (Actual root) (omega arith) (isAnalysed p root) (leb (modules p) (length first) && leb (modules p) (length second)) (length (actualOf p root)) (λ ok. omega (arith, actual-length p root, ok .sizes .normal)) (h .answered)
+    by-promise Labels h = by-number Labels (omega arith) true (leb (chunks p) (length first)) (length (cyclicOf p)) (λ ok. omega (arith, cyclic-few p, ok .sizes .order)) (h .answered)
+    by-promise (Reach c) h = by-number (Reach c) (omega arith) (ltb c (chunks p)) true (bit (reachesCycleOf p c)) (λ ok. omega (arith, bit-few (reachesCycleOf p c))) (h .answered)
+    by-promise (OrderRisk root) h = by-number (OrderRisk root) (omega arith) (isAnalysed p root) (leb (modules p) (length first)) (ones (orderRiskOfEntry p root)) (λ ok. omega (arith, ones-zeros (orderRiskOfEntry p root), length-order-risk p root, ok .sizes .normal)) (h .answered)
+    by-promise (CycleRisk root) h = by-number (CycleRisk root) (omega arith) (isAnalysed p root) (leb (modules p) (length first)) (ones (cycleRiskOfEntry p root)) (λ ok. omega (arith, ones-zeros (cycleRiskOfEntry p root), length-cycle-risk p root, ok .sizes .normal)) (h .answered)
+    by-promise (Plan seeds) h = by-number (Plan seeds) (omega arith) (seedsFit (modules p) seeds) (leb (modules p) (length first)) (ones (planOf p seeds)) (λ ok. omega (arith, ones-zeros (planOf p seeds), length-plan p seeds, ok .sizes .normal)) (h .answered)
+    by-promise Whole h = by-number Whole (omega arith) true (leb (modules p) (length first)) (ones (wholePlan p)) (λ ok. omega (arith, ones-zeros (wholePlan p), length-whole p, ok .sizes .normal)) (h .answered)
+    by-promise Grounds h = by-number Grounds (omega arith) true (leb (modules p) (length first)) (ones (groundsOf p)) (λ ok. omega (arith, ones-zeros (groundsOf p), length-grounds p, ok .sizes .normal)) (h .answered)
+    by-promise Refusal h = by-number Refusal (omega arith) true true 0 (λ ok. omega arith) (h ∙ tests-alone (lent runtime dynamic bounds columns .number))
 
 pub answers-are-told-apart : AnswersAreToldApart
 unfolding AnswersAreToldApart
 answers-are-told-apart call runtime dynamic bounds columns first second r first′ second′ e =
     by-promise runtime dynamic bounds columns first second (e .answer) r first′ second′ (e .code) call (e .promised)
 
+limit-below : (call : Call) → countLimit call ≤ 134217728
+limit-below Sort = omega arith
+limit-below Circles = omega arith
+limit-below (Expected root) = omega arith
+limit-below (Entries entries) = omega arith
+limit-below (Actual root) = omega arith
+limit-below Labels = omega arith
+limit-below (Reach chunk) = omega arith
+limit-below (OrderRisk root) = omega arith
+limit-below (CycleRisk root) = omega arith
+limit-below (Plan seeds) = omega arith
+limit-below Whole = omega arith
+limit-below Grounds = omega arith
+limit-below Refusal = omega arith
+
 pub below-exactly-if-accepted : BelowExactlyIfAccepted
 unfolding AnswersAreToldApart BelowExactlyIfAccepted
 below-exactly-if-accepted call runtime dynamic bounds columns first second r first′ second′ e =
     ⊎-elim
-    (λ a. (λ l. ap numberOf (a .accepted), λ z. omega arith))
+    (λ a. (λ l. ap numberOf (a .accepted), λ z. omega (arith, a .within, limit-below call)))
     (λ f. (λ l. absurd (omega (arith, f .code)), λ z. absurd (omega (arith, f .least, ap numberOf (f .refused)))))
     (answers-are-told-apart call runtime dynamic bounds columns first second r first′ second′ e)

@@ -6,6 +6,7 @@ use Prim.Native.Nat.{ℕ}
 use Rattle.tables.specs.declared.Answer.{Answer}
 use Rattle.table.specs.Table.{Lent, answer}
 use Rattle.sort_modules.specs.Promise.{SortModules}
+use Rattle.import_circles.specs.Promise.{ImportCircles}
 use Rattle.expected_order.specs.Promise.{ExpectedOrder}
 use Rattle.entries_order.specs.Promise.{EntriesOrder}
 use Rattle.actual_order.specs.Promise.{ActualOrder}
@@ -18,6 +19,7 @@ use Rattle.grounds.specs.Promise.{ModuleGrounds}
 -- an operation with its argument
 pub data Call : Type 0 where
   Sort : Call
+  Circles : Call
   Expected : ℕ → Call
   Entries : List ℕ → Call
   Actual : ℕ → Call
@@ -33,6 +35,7 @@ pub data Call : Type 0 where
 -- each operation's own promise, of the outputs that it has
 abbrev pub Promise : Call → Lent → List ℕ → List ℕ → Answer → List ℕ → List ℕ → Type 0
 Promise Sort t first second r first′ second′ = SortModules t first second r first′ second′
+Promise Circles t first second r first′ second′ = ImportCircles t first second r first′ second′
 Promise (Expected root) t first second r first′ second′ = ExpectedOrder t root first r first′
 Promise (Entries entries) t first second r first′ second′ = EntriesOrder t entries first r first′
 Promise (Actual root) t first second r first′ second′ = ActualOrder t root first second r first′ second′

@@ -3,6 +3,7 @@
 -- Assumes nothing.
 use mathlib.Core.Path.{_≡_}
 use mathlib.Core.Logic.{_⊎_}
+use mathlib.Core.Bool.{Bool, true, false, cond}
 use mathlib.Core.List.{List}
 use Prim.Native.Nat.{ℕ, _+_, _^_, _≤_, _<_}
 use Rattle.tables.specs.Refusal.{moduleLimit}
@@ -10,27 +11,50 @@ use Rattle.tables.specs.Answers.{numberOf}
 use Rattle.tables.specs.declared.Answer.{Answer}
 use Rattle.tables.specs.declared.Answer.the-variants.{Refused, Counted}
 use Rattle.table.specs.Table.{lent}
-use Rattle.jolmuqter.specs.Calls.{Call}
+use Rattle.jolmuqter.specs.Calls.{Call, Sort, Circles, Expected, Entries, Actual, Labels, Reach, OrderRisk, CycleRisk, Plan, Whole, Grounds, Refusal}
 use Rattle.jolmuqter.specs.Exported.{Exported}
 
--- the call is accepted, and r is its count: 4,096 at most
-pub record AcceptedWith (answer : Answer) (r : ℕ) : Type 0 where
-  pub accepted : answer ≡ Counted r
-  pub within : r ≤ moduleLimit
+abbrev pub isCircles : Call → Bool
+isCircles Circles = true
+isCircles Sort = false
+isCircles (Expected root) = false
+isCircles (Entries entries) = false
+isCircles (Actual root) = false
+isCircles Labels = false
+isCircles (Reach chunk) = false
+isCircles (OrderRisk root) = false
+isCircles (CycleRisk root) = false
+isCircles (Plan seeds) = false
+isCircles Whole = false
+isCircles Grounds = false
+isCircles Refusal = false
 
--- the call is refused, and r is 2 ^ 32 plus its number: 1 to 6, or 10
-pub record RefusedWith (answer : Answer) (r : ℕ) : Type 0 where
+-- a count is 4,096 at most, that of circles 2 ^ 27
+abbrev pub countLimit : Call → ℕ
+countLimit call = cond (isCircles call) (2 ^ 27) moduleLimit
+
+-- the number of a refusal is 6 at most, that of circles 8, or 10
+abbrev pub numberLimit : Call → ℕ
+numberLimit call = cond (isCircles call) 8 6
+
+-- the call is accepted, and r is its count
+pub record AcceptedWith (call : Call) (answer : Answer) (r : ℕ) : Type 0 where
+  pub accepted : answer ≡ Counted r
+  pub within : r ≤ countLimit call
+
+-- the call is refused, and r is 2 ^ 32 plus its number, 1 at least
+pub record RefusedWith (call : Call) (answer : Answer) (r : ℕ) : Type 0 where
   pub number : ℕ
   pub refused : answer ≡ Refused number
   pub code : r ≡ 2 ^ 32 + number
   pub least : 1 ≤ number
-  pub known : (number ≤ 6) ⊎ (number ≡ 10)
+  pub known : (number ≤ numberLimit call) ⊎ (number ≡ 10)
 
 -- every answer is one of the two
 unfoldable pub AnswersAreToldApart : Type 0
 AnswersAreToldApart =
     (call : Call) (runtime dynamic : ℕ) (bounds columns first second : List ℕ) (r : ℕ) (first′ second′ : List ℕ)
-    (e : Exported call (lent runtime dynamic bounds columns) first second r first′ second′) → AcceptedWith (e .answer) r ⊎ RefusedWith (e .answer) r
+    (e : Exported call (lent runtime dynamic bounds columns) first second r first′ second′) → AcceptedWith call (e .answer) r ⊎ RefusedWith call (e .answer) r
 
 -- an answer is below 2 ^ 32 exactly if the call is accepted
 unfoldable pub BelowExactlyIfAccepted : Type 0

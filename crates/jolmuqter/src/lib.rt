@@ -2,7 +2,7 @@
 ghost use mathlib.Core.Path.{_≡_};
 ghost use mathlib.Core.List.{[]};
 ghost use Rattle.table.specs.Table.{lent, answer};
-ghost use Rattle.jolmuqter.specs.Calls.{Sort, Expected, Entries, Actual, Labels, Reach, OrderRisk, CycleRisk, Plan, Whole, Grounds, Refusal};
+ghost use Rattle.jolmuqter.specs.Calls.{Sort, Circles, Expected, Entries, Actual, Labels, Reach, OrderRisk, CycleRisk, Plan, Whole, Grounds, Refusal};
 ghost use Rattle.jolmuqter.specs.Exported.{coded, Exported};
 use refusal::refusal_number;
 use table::RECORD_KIND;
@@ -34,6 +34,21 @@ pub extern "C" fn jolmuqter_sort_modules<'a>(
     ensures { λ r. ⌜ Exported Sort (lent runtime dynamic (now (bounds .entry)) (now (columns .entry))) (now (numbers .entry)) (now (sorted .entry)) r (now (numbers .exit)) (now (sorted .exit)) ⌝ }
 {
     code(sort_modules::sort_modules(runtime, dynamic, bounds, columns, numbers, sorted))
+}
+
+// The import circles: the paths one after the other, and their lengths.
+#[no_mangle]
+pub extern "C" fn jolmuqter_import_circles<'a>(
+    runtime: u32,
+    dynamic: u32,
+    bounds: &'a [u32],
+    columns: &'a [u32],
+    paths: &mut [u32],
+    lengths: &mut [u32],
+) -> u64
+    ensures { λ r. ⌜ Exported Circles (lent runtime dynamic (now (bounds .entry)) (now (columns .entry))) (now (paths .entry)) (now (lengths .entry)) r (now (paths .exit)) (now (lengths .exit)) ⌝ }
+{
+    code(import_circles::import_circles(runtime, dynamic, bounds, columns, paths, lengths))
 }
 
 // The expected order of any module row.

@@ -1,9 +1,10 @@
-// Reads a project's text from standard input and prints its module order, the orders and both risks of each analysed entry, the grounds of the
+// Reads a project's text from standard input and prints its module order, its import circles, the orders and both risks of each analysed entry, the grounds of the
 // sensitive modules, and the plan.
 use actual_order::actual_order;
 use cycle_risk::cycle_risk;
 use expected_order::expected_order;
 use grounds::grounds;
+use import_circles::import_circles;
 use libc::STDIN_FILENO;
 use libc::STDOUT_FILENO;
 use lines::put_line;
@@ -15,6 +16,7 @@ use sort_modules::sort_modules;
 use table::COLUMNS;
 use table::ENTRY;
 use table::MODULE_LIMIT;
+use table::ROW_LIMIT;
 use table::column;
 use tables::Answer;
 
@@ -51,6 +53,34 @@ fn print_members(word: &[u8], entry: &[u32], marks: &[u32]) {
         return;
     };
     print(word, entry, first_of(&members, n));
+}
+
+// Prints each path as a line: they stand one after the other, with these lengths.
+fn print_circles<'a>(paths: &'a [u32], lengths: &'a [u32]) {
+    let mut at = 0;
+    let mut row = 0;
+    while row < lengths.len() {
+        let length = lengths[row] as usize;
+        if paths.len() - at < length {
+            return;
+        }
+        print(b"circle", &[], &paths[at..at + length]);
+        at += length;
+        row += 1;
+    }
+}
+
+// Prints the import circles, or that there are too many of them.
+fn circle_lines<'a>(runtime: u32, dynamic: u32, bounds: &'a [u32], columns: &'a [u32]) {
+    let mut paths = [0u32; ROW_LIMIT];
+    let mut lengths = [0u32; ROW_LIMIT];
+    let answer = import_circles(runtime, dynamic, bounds, columns, &mut paths, &mut lengths);
+    match answer {
+        Answer::Refused(_) => {
+            io::write_all(STDOUT_FILENO, b"circles refused\n");
+        }
+        Answer::Counted(n) => print_circles(&paths, first_of(&lengths, n)),
+    }
 }
 
 // Prints the expected order of a root.
@@ -161,6 +191,7 @@ fn lines<'a>(runtime: u32, dynamic: u32, bounds: &'a [u32], columns: &'a [u32]) 
         Answer::Refused(number) => print(b"refused", &[], &[number]),
         Answer::Counted(n) => {
             print(b"sorted", &[], first_of(&sorted, n));
+            circle_lines(runtime, dynamic, bounds, columns);
             entries(runtime, dynamic, bounds, columns);
             ground_lines(runtime, dynamic, bounds, columns);
             plan_line(runtime, dynamic, bounds, columns);

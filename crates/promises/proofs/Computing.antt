@@ -11,6 +11,8 @@ use Rattle.sort_modules.specs.Sort.{visited, numbers, sorted}
 use Rattle.sort_modules.specs.OfProject.{numbersOf, sortedOf}
 use Rattle.expected_order.specs.Expected.{expected}
 use Rattle.expected_order.specs.OfProject.{expectedOf}
+use Rattle.circle_search.specs.Circles.{meet, circles}
+use Rattle.import_circles.specs.OfProject.{walked, rootsOf, circlesOf}
 use Rattle.entries_order.specs.Entries.{entriesOrder}
 use Rattle.entries_order.specs.OfEntries.{expectedOfEntries}
 use Rattle.load_order.specs.LoadOrder.{sortBy, loadOrder}
@@ -29,5 +31,5 @@ use Rattle.wrap_plan.specs.Planned.{planOf}
 use Rattle.order_analysis.specs.Whole.{seedsOf, wholePlan}
 
 unfoldable pub computing : Unit {0}
-unfolding visit walk postOrder rounds close rowsOf resolved targetsOf valuesOf isAnalysed entryChunkOf analysed sizesFit below belowOrMissing valuesFit rises rowsRise allNormal usesOwn dependedResolved plainSymbols entriesOnce importsOnce rowsAgree newerFits refusal through latest read current visited numbers sorted numbersOf sortedOf expected expectedOf entriesOrder expectedOfEntries sortBy loadOrder triggered execute eagerMembers executeMembers visitChunk runFrom runOf actualOf hostsOf connected component cyclic label labels reachesCycle labelsOf cyclicOf reachesCycleOf cycles.reached wakes usesWrapped ground sensitive eligible early isFlagged orderRisk cycleRisk riskOf expectedSensitiveOf orderRiskOfEntry cycleRiskOfEntry riskOfEntry suffixAsks componentAsks leads importAsks symbolTouches referenceTouches readAsks asked start planFrom plan.reached ordersOf planOf seedsOf wholePlan flatMap sized zip actualSensitiveOf
+unfolding visit walk postOrder rounds close rowsOf resolved targetsOf valuesOf isAnalysed entryChunkOf analysed sizesFit below belowOrMissing valuesFit rises rowsRise allNormal usesOwn dependedResolved plainSymbols entriesOnce importsOnce rowsAgree newerFits refusal through latest read current meet circles walked rootsOf circlesOf visited numbers sorted numbersOf sortedOf expected expectedOf entriesOrder expectedOfEntries sortBy loadOrder triggered execute eagerMembers executeMembers visitChunk runFrom runOf actualOf hostsOf connected component cyclic label labels reachesCycle labelsOf cyclicOf reachesCycleOf cycles.reached wakes usesWrapped ground sensitive eligible early isFlagged orderRisk cycleRisk riskOf expectedSensitiveOf orderRiskOfEntry cycleRiskOfEntry riskOfEntry suffixAsks componentAsks leads importAsks symbolTouches referenceTouches readAsks asked start planFrom plan.reached ordersOf planOf seedsOf wholePlan flatMap sized zip actualSensitiveOf
 computing = tt

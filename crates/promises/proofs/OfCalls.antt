@@ -12,6 +12,9 @@ use Rattle.tables.specs.declared.Answer.the-variants.{Refused, Counted}
 use Rattle.table.specs.Table.{Lent, answer}
 use Rattle.sort_modules.specs.OfProject.{numbersOf, sortedOf}
 use Rattle.sort_modules.specs.Promise.{sortVerdict}
+use Rattle.circle_gathering.specs.Gathering.{joined, lengthsOf}
+use Rattle.import_circles.specs.OfProject.{circlesOf}
+use Rattle.import_circles.specs.Promise.{circlesVerdict}
 use Rattle.expected_order.specs.OfProject.{expectedOf}
 use Rattle.expected_order.specs.Promise.{expectedVerdict}
 use Rattle.entries_order.specs.OfEntries.{expectedOfEntries}
@@ -25,7 +28,7 @@ use Rattle.wrap_plan.specs.Planned.{planOf, planVerdict}
 use Rattle.order_analysis.specs.Whole.{wholePlan, wholeVerdict}
 use Rattle.sensitivity.specs.Marks.{groundsOf}
 use Rattle.grounds.specs.Promise.{groundsVerdict}
-use Rattle.promises.specs.Calls.{Call, sort, expectedOrder, entriesTogether, actualOrder, chunkLabels, chunkReach, orderRiskOfAnEntry, cycleRiskOfAnEntry, planFromSeeds, wholeAnalysis, groundsOfModules, Outcome, outcome, outcomeOf}
+use Rattle.promises.specs.Calls.{Call, sort, circles, expectedOrder, entriesTogether, actualOrder, chunkLabels, chunkReach, orderRiskOfAnEntry, cycleRiskOfAnEntry, planFromSeeds, wholeAnalysis, groundsOfModules, Outcome, outcome, outcomeOf}
 use Rattle.promises.specs.OfCalls.{Gives, PromisesGiveOutcomes, slicesOf, RefusalsChangeNothing}
 
 abbrev Slices : Type 0
@@ -69,6 +72,10 @@ promisesGiveOutcomes = record {
       let v : ℕ = sortVerdict t (length numbers) (length sorted) in
       let c : ℕ = length (sortedOf (t .project)) in
       record { outcome = tells v c r (p .answered) ((numbers, numbersOf (t .project)) ∷ (sorted, sortedOf (t .project)) ∷ []) _ (two (p .numbered) (p .listed)); accepted = told v c r (p .answered) };
+  ofCircles = λ t paths lengths paths′ lengths′ r p.
+      let v : ℕ = circlesVerdict t (length paths) (length lengths) in
+      let c : ℕ = length (circlesOf (t .project)) in
+      record { outcome = tells v c r (p .answered) ((paths, joined (circlesOf (t .project))) ∷ (lengths, lengthsOf (circlesOf (t .project))) ∷ []) _ (two (p .listed) (p .measured)); accepted = told v c r (p .answered) };
   ofExpectedOrder = λ t root order order′ r p.
       let v : ℕ = expectedVerdict t root (length order) in
       let c : ℕ = length (expectedOf (t .project) root) in
@@ -120,6 +127,8 @@ pub refusalsChangeNothing : RefusalsChangeNothing
 unfolding RefusalsChangeNothing
 refusalsChangeNothing t (sort numbers sorted) n =
     unchanged (sortVerdict t (length numbers) (length sorted)) (length (sortedOf (t .project))) ((numbers, numbersOf (t .project)) ∷ (sorted, sortedOf (t .project)) ∷ []) n
+refusalsChangeNothing t (circles paths lengths) n =
+    unchanged (circlesVerdict t (length paths) (length lengths)) (length (circlesOf (t .project))) ((paths, joined (circlesOf (t .project))) ∷ (lengths, lengthsOf (circlesOf (t .project))) ∷ []) n
 refusalsChangeNothing t (expectedOrder root order) n =
     unchanged (expectedVerdict t root (length order)) (length (expectedOf (t .project) root)) ((order, expectedOf (t .project) root) ∷ []) n
 refusalsChangeNothing t (entriesTogether entries order) n =

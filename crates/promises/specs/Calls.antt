@@ -10,6 +10,9 @@ use Rattle.tables.specs.Answers.{counted, after}
 use Rattle.table.specs.Table.{current, Lent}
 use Rattle.sort_modules.specs.OfProject.{numbersOf, sortedOf}
 use Rattle.sort_modules.specs.Promise.{sortVerdict}
+use Rattle.circle_gathering.specs.Gathering.{joined, lengthsOf}
+use Rattle.import_circles.specs.OfProject.{circlesOf}
+use Rattle.import_circles.specs.Promise.{circlesVerdict}
 use Rattle.expected_order.specs.OfProject.{expectedOf}
 use Rattle.expected_order.specs.Promise.{expectedVerdict}
 use Rattle.entries_order.specs.OfEntries.{expectedOfEntries}
@@ -27,6 +30,7 @@ use Rattle.grounds.specs.Promise.{groundsVerdict}
 -- an operation with its arguments and the slices that it is lent
 pub data Call : Type 0 where
   sort : (numbers sorted : List ℕ) → Call
+  circles : (paths lengths : List ℕ) → Call
   expectedOrder : (root : ℕ) (order : List ℕ) → Call
   entriesTogether : (entries order : List ℕ) → Call
   actualOrder : (root : ℕ) (order hosts : List ℕ) → Call
@@ -52,6 +56,9 @@ abbrev pub outcomeOf : Lent → Call → Outcome
 outcomeOf t (sort numbers sorted) =
     outcome (sortVerdict t (length numbers) (length sorted)) (length (sortedOf (t .project)))
     ((numbers, numbersOf (t .project)) ∷ (sorted, sortedOf (t .project)) ∷ [])
+outcomeOf t (circles paths lengths) =
+    outcome (circlesVerdict t (length paths) (length lengths)) (length (circlesOf (t .project)))
+    ((paths, joined (circlesOf (t .project))) ∷ (lengths, lengthsOf (circlesOf (t .project))) ∷ [])
 outcomeOf t (expectedOrder root order) =
     outcome (expectedVerdict t root (length order)) (length (expectedOf (t .project) root)) ((order, expectedOf (t .project) root) ∷ [])
 outcomeOf t (entriesTogether entries order) =

@@ -4,9 +4,10 @@ use mathlib.Core.Path.{_≡_}
 use mathlib.Core.List.{List, [], _∷_, map}
 use Prim.Native.Nat.{ℕ}
 use Rattle.tables.specs.Project.{Project, missing}
+use Rattle.table.specs.Table.{withRecords}
 use Rattle.promises.specs.Changes.{withImports, withNormal, withNewer}
 use Rattle.promises.specs.Listing.{listing}
-use Rattle.promises.specs.Calls.{Call, sort, expectedOrder, entriesTogether, actualOrder, chunkLabels, orderRiskOfAnEntry, cycleRiskOfAnEntry, planFromSeeds, wholeAnalysis, groundsOfModules, Outcome, outcomeOf, lentBy}
+use Rattle.promises.specs.Calls.{Call, sort, circles, expectedOrder, entriesTogether, actualOrder, chunkLabels, orderRiskOfAnEntry, cycleRiskOfAnEntry, planFromSeeds, wholeAnalysis, groundsOfModules, Outcome, outcomeOf, lentBy}
 
 pub record Case : Type 0 where
   pub on : Project
@@ -34,6 +35,10 @@ edge00 = withImports listing (0 ∷ 0 ∷ []) (0 ∷ 1 ∷ [])
 
 abbrev pub external3 : Project
 external3 = withNormal listing (1 ∷ 1 ∷ 1 ∷ 0 ∷ [])
+
+-- the listing with two scripts that import each other
+abbrev pub ringed : Project
+ringed = withRecords listing (1 ∷ 2 ∷ []) (0 ∷ 0 ∷ []) (2 ∷ 1 ∷ [])
 
 -- a slice that is lent: the places beyond the modules keep what stood there
 abbrev pub lent : List ℕ
@@ -86,6 +91,12 @@ markedCases =
     ∷ accepts listing (entriesTogether (1 ∷ []) lent) 3 ((2 ∷ 3 ∷ 1 ∷ 6 ∷ 5 ∷ []) ∷ [])
     ∷ accepts external3 (entriesTogether (3 ∷ 2 ∷ []) lent) 1 ((2 ∷ 8 ∷ 7 ∷ 6 ∷ 5 ∷ []) ∷ [])
     ∷ refuses listing (entriesTogether (1 ∷ 4 ∷ []) lent) 5 (lent ∷ [])
+    -- C-11: no ring; a ring, which just fits; a slice of two places is too short for it, and so is one of none for its length
+    ∷ accepts listing (circles two two) 0 (two ∷ two ∷ [])
+    ∷ accepts ringed (circles lent lent) 1 ((1 ∷ 2 ∷ 1 ∷ 6 ∷ 5 ∷ []) ∷ (3 ∷ 8 ∷ 7 ∷ 6 ∷ 5 ∷ []) ∷ [])
+    ∷ accepts ringed (circles three two) 1 ((1 ∷ 2 ∷ 1 ∷ []) ∷ (3 ∷ 8 ∷ []) ∷ [])
+    ∷ refuses ringed (circles two lent) 8 (two ∷ lent ∷ [])
+    ∷ refuses ringed (circles lent []) 8 (lent ∷ [] ∷ [])
     ∷ []
 
 -- 02's replaced modules, on the same listing: 3 supersedes 2

@@ -8,6 +8,7 @@ use Rattle.tables.specs.declared.Answer.{Answer}
 use Rattle.tables.specs.declared.Answer.the-variants.{Counted}
 use Rattle.table.specs.Table.{Lent}
 use Rattle.sort_modules.specs.Promise.{SortModules}
+use Rattle.import_circles.specs.Promise.{ImportCircles}
 use Rattle.expected_order.specs.Promise.{ExpectedOrder}
 use Rattle.entries_order.specs.Promise.{EntriesOrder}
 use Rattle.actual_order.specs.Promise.{ActualOrder}
@@ -16,7 +17,7 @@ use Rattle.at_risk.specs.Entry.{EntryOrderRisk, EntryCycleRisk}
 use Rattle.wrap_plan.specs.Planned.{PlanFromSeeds}
 use Rattle.order_analysis.specs.Whole.{WholeAnalysis}
 use Rattle.grounds.specs.Promise.{ModuleGrounds}
-use Rattle.promises.specs.Calls.{Call, sort, expectedOrder, entriesTogether, actualOrder, chunkLabels, chunkReach, orderRiskOfAnEntry, cycleRiskOfAnEntry, planFromSeeds, wholeAnalysis, groundsOfModules, Outcome, outcomeOf}
+use Rattle.promises.specs.Calls.{Call, sort, circles, expectedOrder, entriesTogether, actualOrder, chunkLabels, chunkReach, orderRiskOfAnEntry, cycleRiskOfAnEntry, planFromSeeds, wholeAnalysis, groundsOfModules, Outcome, outcomeOf}
 
 -- a call's answer and the slices that it leaves are the outcome, and an answer without a number is a count
 pub record Gives (t : Lent) (call : Call) (r : Answer) (left : List (List ℕ)) : Type 0 where
@@ -27,6 +28,8 @@ pub record Gives (t : Lent) (call : Call) (r : Answer) (left : List (List ℕ)) 
 pub record PromisesGiveOutcomes : Type 0 where
   pub ofSort : (t : Lent) (numbers sorted numbers′ sorted′ : List ℕ) (r : Answer) → SortModules t numbers sorted r numbers′ sorted′
       → Gives t (sort numbers sorted) r (numbers′ ∷ sorted′ ∷ [])
+  pub ofCircles : (t : Lent) (paths lengths paths′ lengths′ : List ℕ) (r : Answer) → ImportCircles t paths lengths r paths′ lengths′
+      → Gives t (circles paths lengths) r (paths′ ∷ lengths′ ∷ [])
   pub ofExpectedOrder : (t : Lent) (root : ℕ) (order order′ : List ℕ) (r : Answer) → ExpectedOrder t root order r order′ → Gives t (expectedOrder root order) r (order′ ∷ [])
   pub ofEntriesOrder : (t : Lent) (entries order order′ : List ℕ) (r : Answer) → EntriesOrder t entries order r order′ → Gives t (entriesTogether entries order) r (order′ ∷ [])
   pub ofActualOrder : (t : Lent) (root : ℕ) (order hosts order′ hosts′ : List ℕ) (r : Answer) → ActualOrder t root order hosts r order′ hosts′
@@ -42,6 +45,7 @@ pub record PromisesGiveOutcomes : Type 0 where
 -- the slices that a call is lent
 abbrev pub slicesOf : Call → List (List ℕ)
 slicesOf (sort numbers sorted) = numbers ∷ sorted ∷ []
+slicesOf (circles paths lengths) = paths ∷ lengths ∷ []
 slicesOf (expectedOrder root order) = order ∷ []
 slicesOf (entriesTogether entries order) = order ∷ []
 slicesOf (actualOrder root order hosts) = order ∷ hosts ∷ []

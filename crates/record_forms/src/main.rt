@@ -4,6 +4,7 @@ use libc::STDOUT_FILENO;
 use record_columns::Record;
 use records::actual_records;
 use records::analyze_records;
+use records::circle_records;
 use records::cycle_risk_records;
 use records::entries_records;
 use records::expected_records;
@@ -26,6 +27,19 @@ fn sort_of<'a>(
     sorted: &mut [u32],
 ) -> Answer {
     sort_records(runtime, dynamic, bounds, columns, &rows, numbers, sorted)
+}
+
+// Import circles, of rows that are lent.
+fn circle_of<'a>(
+    runtime: u32,
+    dynamic: u32,
+    bounds: &'a [u32],
+    columns: &'a [u32],
+    rows: [Record; 2],
+    paths: &mut [u32],
+    lengths: &mut [u32],
+) -> Answer {
+    circle_records(runtime, dynamic, bounds, columns, &rows, paths, lengths)
 }
 
 // Expected order of an entry, of rows that are lent.
@@ -217,6 +231,17 @@ fn orders<'a>(bounds: &'a [u32], columns: &'a [u32], rows: [Record; 2]) {
     print_numbers(hosts);
 }
 
+// The import circles.
+fn circles<'a>(bounds: &'a [u32], columns: &'a [u32], rows: [Record; 2]) {
+    let mut paths = [7u32; 4];
+    let mut lengths = [7u32; 4];
+    let answer = circle_of(0, 0, bounds, columns, rows, &mut paths, &mut lengths);
+    print_answer(b"circles", answer);
+    print_numbers(paths);
+    print_answer(b"lengths", answer);
+    print_numbers(lengths);
+}
+
 // Labels, and whether chunk 0 reaches a cyclic one.
 fn cycles<'a>(bounds: &'a [u32], columns: &'a [u32], rows: [Record; 2]) {
     let mut labels = [7u32; 4];
@@ -370,8 +395,23 @@ fn main() {
         },
     ];
     orders(&bounds, &columns, rows);
+    circles(&bounds, &columns, rows);
     cycles(&bounds, &columns, rows);
     plans(&bounds, &columns, rows);
+    // two modules that import each other
+    let ring = [
+        Record {
+            importer: 1,
+            kind: 0,
+            target: 2,
+        },
+        Record {
+            importer: 2,
+            kind: 0,
+            target: 1,
+        },
+    ];
+    circles(&bounds, &columns, ring);
     // a first column that falls is 3
     let fallen = [
         Record {
@@ -386,4 +426,5 @@ fn main() {
         },
     ];
     orders(&bounds, &columns, fallen);
+    circles(&bounds, &columns, fallen);
 }

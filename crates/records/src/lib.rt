@@ -1,6 +1,7 @@
 // The operations with the import records lent as a slice of records, in the place of the table's own, which aren't read.
 ghost use Rattle.table.specs.Table.{lentWith};
 ghost use Rattle.sort_modules.specs.Promise.{SortModules};
+ghost use Rattle.import_circles.specs.Promise.{ImportCircles};
 ghost use Rattle.expected_order.specs.Promise.{ExpectedOrder};
 ghost use Rattle.entries_order.specs.Promise.{EntriesOrder};
 ghost use Rattle.actual_order.specs.Promise.{ActualOrder};
@@ -13,6 +14,7 @@ ghost use Rattle.record_columns.specs.Rows.{importerColumn, kindColumn, targetC
 
 mod actual;
 mod analyze;
+mod circle;
 mod cycle;
 mod early;
 mod entries;
@@ -25,6 +27,7 @@ mod sort;
 
 use actual::actual_columns;
 use analyze::analyze_columns;
+use circle::circle_columns;
 use cycle::cycle_risk_columns;
 use early::order_risk_columns;
 use entries::entries_columns;
@@ -52,6 +55,22 @@ pub fn sort_records<'a>(
 {
     let made = columns_of(records);
     sort_columns(runtime, dynamic, bounds, columns, made, numbers, sorted)
+}
+
+// Import circles.
+pub fn circle_records<'a>(
+    runtime: u32,
+    dynamic: u32,
+    bounds: &'a [u32],
+    columns: &'a [u32],
+    records: &'a [Record],
+    paths: &mut [u32],
+    lengths: &mut [u32],
+) -> Answer
+    ensures { λ r. ⌜ ImportCircles (lentWith runtime dynamic (now (bounds .entry)) (now (columns .entry)) (importerColumn (now (records .entry))) (kindColumn (now (records .entry))) (targetColumn (now (records .entry)))) (now (paths .entry)) (now (lengths .entry)) r (now (paths .exit)) (now (lengths .exit)) ⌝ }
+{
+    let made = columns_of(records);
+    circle_columns(runtime, dynamic, bounds, columns, made, paths, lengths)
 }
 
 // Expected order of an entry.

@@ -338,7 +338,7 @@ fn both_risks<'a>(
     let Answer::Counted(_) = early else {
         return early;
     };
-    let mut more = [0u32; 4104];
+    let mut more = [0u32; 16392];
     let cycle = cycle_risk::cycle_risk(runtime, dynamic, bounds, columns, root, &mut more);
     let Answer::Counted(_) = cycle else {
         return cycle;
@@ -381,10 +381,13 @@ fn ask_two<'a>(
     operation: u32,
     argument: u32,
 ) -> Answer {
-    if operation == 0 {
-        return sort_modules::sort_modules(runtime, dynamic, bounds, columns, first, second);
+    match operation {
+        0 => sort_modules::sort_modules(runtime, dynamic, bounds, columns, first, second),
+        13 => import_circles::import_circles(runtime, dynamic, bounds, columns, first, second),
+        _ => {
+            actual_order::actual_order(runtime, dynamic, bounds, columns, argument, first, second)
+        }
     }
-    actual_order::actual_order(runtime, dynamic, bounds, columns, argument, first, second)
 }
 
 // The operation of this number in the list.
@@ -400,7 +403,7 @@ fn ask<'a>(
     argument: u32,
 ) -> Answer {
     match operation {
-        0 | 2 => ask_two(
+        0 | 2 | 13 => ask_two(
             runtime,
             dynamic,
             bounds,
@@ -459,7 +462,7 @@ fn report(call: u64, answer: Answer, first: usize, second: usize) {
 
 // Where an output differs from what the list says of it: what is written, and else the filler.
 fn check(text: &[u8], at: usize, output: &[u32], filler: u32) -> Place {
-    let mut right = [filler; 4104];
+    let mut right = [filler; 16392];
     let written = number(text, at);
     let next = fill(text, written.1, &mut right, written.0);
     Place(differs(output, &right), next)
@@ -507,8 +510,8 @@ fn judge<'a>(
     head: [u32; 6],
 ) -> Done {
     let filler = settings[2];
-    let mut first = [filler; 4104];
-    let mut second = [filler; 4104];
+    let mut first = [filler; 16392];
+    let mut second = [filler; 16392];
     let answer = answer_of(
         settings,
         bounds,
@@ -555,8 +558,8 @@ fn call_of<'a>(
 fn judged(done: Done, same: bool, answer: Answer, in_first: usize, in_second: usize) -> Done {
     let all = std::num::wrapping_add_u64(done.1, 1);
     if same {
-        if in_first == 4104 {
-            if in_second == 4104 {
+        if in_first == 16392 {
+            if in_second == 16392 {
                 return Done(std::num::wrapping_add_u64(done.0, 1), all, done.2);
             }
         }

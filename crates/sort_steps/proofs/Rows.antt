@@ -84,7 +84,7 @@ module _ (dynamic : ℕ) (normal kind target : List ℕ) (row : ℕ) where
       (both (isStatic dynamic (getD kind row 0)))
 
   -- a row leads to one module at most
-  few : (P : List ℕ → Type 0) → P [] → ((t : ℕ) → P (t ∷ [])) → P led
+  pub few : (P : List ℕ → Type 0) → P [] → ((t : ℕ) → P (t ∷ [])) → P led
   few P none one = ⊎-elim (λ e. rw e (target-few P none one (resolved normal target row))) (λ e. rw e none) (both (isStatic dynamic (getD kind row 0)))
 
   -- so one that is not met is all that it leads to

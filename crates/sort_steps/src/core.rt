@@ -31,7 +31,7 @@ pub fn met(marks: &mut [u32], m: u32) -> bool
 }
 
 // The module that a record leads to, or the mark if it leads nowhere.
-fn led<'a>(
+pub fn led<'a>(
     normal: &'a [u32],
     record_kind: &'a [u32],
     record_target: &'a [u32],

@@ -16,7 +16,7 @@ pub struct Table<'a> {
   pub columns: &'a [u32],
 }
 
-/// The number of a refusal, 1 to 6 or 10. No output was changed.
+/// The number of a refusal, 1 to 6, 8 or 10. No output was changed.
 #[derive(Clone, Copy, Debug, PartialEq, Eq)]
 pub struct Refused(pub u32);
 
@@ -61,6 +61,8 @@ operations! {
   refusal = jolmuqter_refusal [] [] [];
   /// The number of each module, and the sorted list. Counts the listed modules.
   sort_modules = jolmuqter_sort_modules [] [] [numbers sorted];
+  /// The import circles one after the other, and the length of each. Counts the circles.
+  import_circles = jolmuqter_import_circles [] [] [paths lengths];
   /// The expected order of any module row. Counts the listed modules.
   expected_order = jolmuqter_expected_order [root] [] [order];
   /// The expected order of any module rows, walked one after the other, each module listed once. Counts the listed modules.

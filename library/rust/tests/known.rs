@@ -58,6 +58,7 @@ fn to_itself(lists: &mut Lists) {
 }
 
 const MODULES: usize = 0;
+const RECORDS: usize = 1;
 const IMPORTS: usize = 11;
 const ENTRIES: usize = 12;
 
@@ -80,6 +81,20 @@ fn sorts() {
   let mut short = [9; 3];
   assert_eq!(with(unchanged, |table| table.sort_modules(&mut sorted, &mut short)), Err(Refused(6)));
   assert_eq!((sorted, short), ([0, 2, 3, 1], [9; 3]));
+}
+
+#[test]
+fn finds_circles() {
+  let mut paths = [9; 4];
+  let mut lengths = [9; 2];
+  assert_eq!(with(unchanged, |table| table.import_circles(&mut paths, &mut lengths)), Ok(0));
+  // modules 1 and 2 import each other
+  let ring = |lists: &mut Lists| lists[RECORDS][1] = vec![2, 0, 1];
+  assert_eq!(with(ring, |table| table.import_circles(&mut paths[..2], &mut lengths)), Err(Refused(8)));
+  assert_eq!(with(ring, |table| table.import_circles(&mut paths, &mut [])), Err(Refused(8)));
+  assert_eq!((paths, lengths), ([9; 4], [9; 2]));
+  assert_eq!(with(ring, |table| table.import_circles(&mut paths, &mut lengths)), Ok(1));
+  assert_eq!((paths, lengths), ([1, 2, 1, 9], [3, 9]));
 }
 
 #[test]

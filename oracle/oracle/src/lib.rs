@@ -13,4 +13,4 @@ mod original;
 mod stages;
 
 pub use options::SharedOptions;
-pub use original::{Entry, Original, on_a_deep_stack};
+pub use original::{Entry, Original, circles, on_a_deep_stack};

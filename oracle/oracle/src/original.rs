@@ -2,6 +2,7 @@
 use oxc_index::{Idx, IndexVec};
 use project::{MARK, Project};
 use rolldown_common::{ChunkIdx, ModuleIdx};
+use rolldown_error::EventKindSwitcher;
 use rustc_hash::FxHashSet;
 
 use crate::{
@@ -64,6 +65,20 @@ fn after_replacement(p: &Project) -> Project {
     }
   }
   replaced
+}
+
+/// The original's own circles, sorted: it keeps them in a hash set, and names the modules of each path.
+pub fn circles(p: &Project) -> Vec<Vec<u32>> {
+  let mut options = carriers::options(p);
+  options.checks = EventKindSwitcher::CircularDependency;
+  let p = &after_replacement(p);
+  let mut stage = carriers::link_stage(p, &options);
+  stage.sort();
+  let module = |name: &String| name.parse().unwrap();
+  let mut paths: Vec<Vec<u32>> =
+    stage.diagnostics.0.iter().map(|circle| circle.paths.iter().map(module).collect()).collect();
+  paths.sort_unstable();
+  paths
 }
 
 impl Original {

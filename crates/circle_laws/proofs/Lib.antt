@@ -1,0 +1,4 @@
+-- `Found`: what is found. `Sorted`: in which order modules are numbered. `Project`: of a project.
+pub mod Found
+pub mod Sorted
+pub mod Project

@@ -1,0 +1,2 @@
+-- `Rows`: the pass over the rows.
+pub mod Rows

@@ -1,0 +1,2 @@
+-- What the rows lead to, once for each module.
+pub mod Rows

@@ -1,0 +1,1 @@
+// The search of the import circles: definitions and theory, no code.

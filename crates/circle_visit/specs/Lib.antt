@@ -1,0 +1,2 @@
+-- What meeting a module asks, and the state of its search.
+pub mod Visit

@@ -1,0 +1,43 @@
+// Import circles, over the columns of a list of records.
+ghost use mathlib.Core.Path.{_≡_};
+ghost use mathlib.Core.List.{List};
+ghost use Rattle.table.specs.Table.{lentWith};
+ghost use Rattle.import_circles.specs.Promise.{ImportCircles};
+ghost use Rattle.record_columns.specs.declared.Record.{Record};
+ghost use Rattle.record_columns.specs.Rows.{columnsOf, importerColumn, kindColumn, targetColumn};
+use import_circles::import_circles_with_records;
+use record_columns::core::Columns;
+use table::ROW_LIMIT;
+use tables::Answer;
+
+// The records are refused if they are over their limit.
+pub fn circle_columns<'a>(
+    runtime: u32,
+    dynamic: u32,
+    bounds: &'a [u32],
+    columns: &'a [u32],
+    made: Columns,
+    paths: &mut [u32],
+    lengths: &mut [u32],
+) -> Answer
+    ensures { λ r. ⌜ ((records : List Record) → made ≡ columnsOf records → ImportCircles (lentWith runtime dynamic (now (bounds .entry)) (now (columns .entry)) (importerColumn records) (kindColumn records) (targetColumn records)) (now (paths .entry)) (now (lengths .entry)) r (now (paths .exit)) (now (lengths .exit))) ⌝ }
+{
+    let rows = made.rows;
+    if ROW_LIMIT < rows {
+        return Answer::Refused(1);
+    }
+    let importers = made.importers;
+    let kinds = made.kinds;
+    let targets = made.targets;
+    import_circles_with_records(
+        runtime,
+        dynamic,
+        bounds,
+        columns,
+        &importers[..rows],
+        &kinds[..rows],
+        &targets[..rows],
+        paths,
+        lengths,
+    )
+}
