@@ -1,0 +1,2 @@
+-- Edges of rows.
+pub mod inner

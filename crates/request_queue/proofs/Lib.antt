@@ -1,0 +1,3 @@
+-- `Growing`: lists that grow. `Reaching`: following rows.
+pub mod Growing
+pub mod Reaching

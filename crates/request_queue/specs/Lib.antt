@@ -1,0 +1,2 @@
+-- Lists that grow, and what rows lead to.
+pub mod inner

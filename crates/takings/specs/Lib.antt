@@ -1,0 +1,2 @@
+-- Planning by takings.
+pub mod Taking
