@@ -42,7 +42,7 @@
  *  10  a `newer` that is neither the mark nor a later module row (2 isn't given for it)
  *   5  a root, entry, chunk or seed without a row, a root for risk or actual order that isn't an analysed entry (included, with a chunk), or over
  *      16,384 seeds
- *   6  an output that is too short: every output needs a place for each module, labels one for each chunk
+ *   6  an output that is too short: every output needs a place for each module, labels one for each chunk, a share four
  *   8  for the circles alone, in the place of 6: paths or lengths too short for all paths
  */
 #ifndef JOLMUQTER_H
@@ -103,6 +103,10 @@ uint64_t jolmuqter_plan_from_seeds(JOLMUQTER_TABLE, const uint32_t *seeds, size_
 
 /* plan: 0 or 1 for each module, of the whole analysis: from all analysed entries' risks and the seed rows. Count: that of ones. */
 uint64_t jolmuqter_plan(JOLMUQTER_TABLE, uint32_t *plan, size_t plan_len);
+
+/* share: four numbers: how many modules are eligible, how many of them the whole analysis plans, and the quotient and the remainder of 1,000 times the
+ * second by the first, both 0 where the first is 0. 6 where it has less than 4 places. Count: 4. */
+uint64_t jolmuqter_share(JOLMUQTER_TABLE, uint32_t *share, size_t share_len);
 
 #ifdef __cplusplus
 }

@@ -207,6 +207,11 @@ static void answers(void) {
   HOLD(a, 0, 1, 1, 1);
   EXPECT(jolmuqter_plan(TABLE(t), a, 4), 2);
   HOLD(a, 0, 1, 0, 1);
+
+  EXPECT(jolmuqter_share(TABLE(t), a, 3), REFUSED(6));
+  HOLD(a, 0, 1, 0, 1);
+  EXPECT(jolmuqter_share(TABLE(t), a, 4), 4);
+  HOLD(a, 3, 2, 666, 2);
 }
 
 enum { MODULES = 4096, CHUNKS = 1024, STACK = 16 << 20 };
@@ -243,6 +248,7 @@ static void order_risk(void) { EXPECT(jolmuqter_order_risk(TABLE(deep), 0, first
 static void cycle_risk(void) { EXPECT(jolmuqter_cycle_risk(TABLE(deep), 0, first, MODULES), 0); }
 static void grounds(void) { EXPECT(jolmuqter_grounds(TABLE(deep), first, MODULES), MODULES - 1); }
 static void plan_from_seeds(void) { EXPECT(jolmuqter_plan_from_seeds(TABLE(deep), LIST(MODULES - 1), 1, first, MODULES) < JOLMUQTER_REFUSED, 1); }
+static void share(void) { EXPECT(jolmuqter_share(TABLE(deep), first, MODULES), 4); }
 static void plan(void) { EXPECT(jolmuqter_plan(TABLE(deep), first, MODULES) < JOLMUQTER_REFUSED, 1); }
 
 static void *run(void *call) { return (*(void (**)(void))call)(), NULL; }
@@ -263,8 +269,8 @@ static size_t stack_of(void (*call)(void)) {
 
 int main(void) {
   answers();
-  void (*calls[])(void) = {sort_modules, import_circles, expected_order, entries_order, actual_order, labels, chunk_reach, order_risk, cycle_risk, grounds, plan_from_seeds, plan};
-  const char *names[] = {"sort_modules", "import_circles", "expected_order", "entries_order", "actual_order", "labels", "chunk_reach", "order_risk", "cycle_risk", "grounds", "plan_from_seeds", "plan"};
+  void (*calls[])(void) = {sort_modules, import_circles, expected_order, entries_order, actual_order, labels, chunk_reach, order_risk, cycle_risk, grounds, plan_from_seeds, plan, share};
+  const char *names[] = {"sort_modules", "import_circles", "expected_order", "entries_order", "actual_order", "labels", "chunk_reach", "order_risk", "cycle_risk", "grounds", "plan_from_seeds", "plan", "share"};
   for (uint32_t wrap = 0; wrap < 3; wrap += 2) {
     deep = chains(wrap);
     for (size_t i = 0; i < LENGTH(calls); i++) {

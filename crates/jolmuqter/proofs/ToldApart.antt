@@ -42,7 +42,7 @@ use Rattle.sensitivity.specs.Marks.{groundsOf}
 use Rattle.sensitivity.proofs.Marks.{length-grounds}
 use Rattle.order_analysis.specs.Whole.{wholePlan}
 use Rattle.order_analysis.proofs.Promise.{length-whole}
-use Rattle.jolmuqter.specs.Calls.{Call, Sort, Circles, Expected, Entries, Actual, Labels, Reach, OrderRisk, CycleRisk, Plan, Whole, Grounds, Refusal, Promise}
+use Rattle.jolmuqter.specs.Calls.{Call, Sort, Circles, Expected, Entries, Actual, Labels, Reach, OrderRisk, CycleRisk, Plan, Whole, Share, Grounds, Refusal, Promise}
 use Rattle.jolmuqter.specs.Exported.{coded}
 use Rattle.jolmuqter.specs.ToldApart.{countLimit, numberLimit, AcceptedWith, RefusedWith, AnswersAreToldApart, BelowExactlyIfAccepted}
 
@@ -145,6 +145,7 @@ module _ (runtime dynamic : ℕ) (bounds columns : List ℕ) where
     by-promise (Plan seeds) h = by-number (Plan seeds) (omega arith) (seedsFit (modules p) seeds) (leb (modules p) (length first)) (ones (planOf p seeds)) (λ ok. omega (arith, ones-zeros (planOf p seeds), length-plan p seeds, ok .sizes .normal)) (h .answered)
     by-promise Whole h = by-number Whole (omega arith) true (leb (modules p) (length first)) (ones (wholePlan p)) (λ ok. omega (arith, ones-zeros (wholePlan p), length-whole p, ok .sizes .normal)) (h .answered)
     by-promise Grounds h = by-number Grounds (omega arith) true (leb (modules p) (length first)) (ones (groundsOf p)) (λ ok. omega (arith, ones-zeros (groundsOf p), length-grounds p, ok .sizes .normal)) (h .answered)
+    by-promise Share h = by-number Share (omega arith) true (leb 4 (length first)) 4 (λ ok. omega arith) (h .answered)
     by-promise Refusal h = by-number Refusal (omega arith) true true 0 (λ ok. omega arith) (h ∙ tests-alone (lent runtime dynamic bounds columns .number))
 
 pub answers-are-told-apart : AnswersAreToldApart
@@ -164,6 +165,7 @@ limit-below (OrderRisk root) = omega arith
 limit-below (CycleRisk root) = omega arith
 limit-below (Plan seeds) = omega arith
 limit-below Whole = omega arith
+limit-below Share = omega arith
 limit-below Grounds = omega arith
 limit-below Refusal = omega arith
 

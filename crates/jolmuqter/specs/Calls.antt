@@ -15,6 +15,7 @@ use Rattle.at_risk.specs.Entry.{EntryOrderRisk, EntryCycleRisk}
 use Rattle.wrap_plan.specs.Planned.{PlanFromSeeds}
 use Rattle.order_analysis.specs.Whole.{WholeAnalysis}
 use Rattle.grounds.specs.Promise.{ModuleGrounds}
+use Rattle.shares.specs.Share.{WrittenShare}
 
 -- an operation with its argument
 pub data Call : Type 0 where
@@ -30,6 +31,7 @@ pub data Call : Type 0 where
   Plan : List ℕ → Call
   Whole : Call
   Grounds : Call
+  Share : Call
   Refusal : Call
 
 -- each operation's own promise, of the outputs that it has
@@ -46,4 +48,5 @@ Promise (CycleRisk root) t first second r first′ second′ = EntryCycleRisk t 
 Promise (Plan seeds) t first second r first′ second′ = PlanFromSeeds t seeds first r first′
 Promise Whole t first second r first′ second′ = WholeAnalysis t first r first′
 Promise Grounds t first second r first′ second′ = ModuleGrounds t first r first′
+Promise Share t first second r first′ second′ = WrittenShare t first r first′
 Promise Refusal t first second r first′ second′ = r ≡ answer (t .number) 0

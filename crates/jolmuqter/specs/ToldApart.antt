@@ -11,7 +11,7 @@ use Rattle.tables.specs.Answers.{numberOf}
 use Rattle.tables.specs.declared.Answer.{Answer}
 use Rattle.tables.specs.declared.Answer.the-variants.{Refused, Counted}
 use Rattle.table.specs.Table.{lent}
-use Rattle.jolmuqter.specs.Calls.{Call, Sort, Circles, Expected, Entries, Actual, Labels, Reach, OrderRisk, CycleRisk, Plan, Whole, Grounds, Refusal}
+use Rattle.jolmuqter.specs.Calls.{Call, Sort, Circles, Expected, Entries, Actual, Labels, Reach, OrderRisk, CycleRisk, Plan, Whole, Share, Grounds, Refusal}
 use Rattle.jolmuqter.specs.Exported.{Exported}
 
 abbrev pub isCircles : Call → Bool
@@ -26,6 +26,7 @@ isCircles (OrderRisk root) = false
 isCircles (CycleRisk root) = false
 isCircles (Plan seeds) = false
 isCircles Whole = false
+isCircles Share = false
 isCircles Grounds = false
 isCircles Refusal = false
 

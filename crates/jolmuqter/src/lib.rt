@@ -2,7 +2,7 @@
 ghost use mathlib.Core.Path.{_≡_};
 ghost use mathlib.Core.List.{[]};
 ghost use Rattle.table.specs.Table.{lent, answer};
-ghost use Rattle.jolmuqter.specs.Calls.{Sort, Circles, Expected, Entries, Actual, Labels, Reach, OrderRisk, CycleRisk, Plan, Whole, Grounds, Refusal};
+ghost use Rattle.jolmuqter.specs.Calls.{Sort, Circles, Expected, Entries, Actual, Labels, Reach, OrderRisk, CycleRisk, Plan, Whole, Share, Grounds, Refusal};
 ghost use Rattle.jolmuqter.specs.Exported.{coded, Exported};
 use refusal::refusal_number;
 use table::RECORD_KIND;
@@ -196,6 +196,20 @@ pub extern "C" fn jolmuqter_grounds<'a>(
     ensures { λ r. ⌜ Exported Grounds (lent runtime dynamic (now (bounds .entry)) (now (columns .entry))) (now (grounds .entry)) [] r (now (grounds .exit)) [] ⌝ }
 {
     code(grounds::grounds(runtime, dynamic, bounds, columns, grounds))
+}
+
+// The share of the eligible modules that are planned.
+#[no_mangle]
+pub extern "C" fn jolmuqter_share<'a>(
+    runtime: u32,
+    dynamic: u32,
+    bounds: &'a [u32],
+    columns: &'a [u32],
+    share: &mut [u32],
+) -> u64
+    ensures { λ r. ⌜ Exported Share (lent runtime dynamic (now (bounds .entry)) (now (columns .entry))) (now (share .entry)) [] r (now (share .exit)) [] ⌝ }
+{
+    code(shares::write_share(runtime, dynamic, bounds, columns, share))
 }
 
 // The answer to the tests alone.

@@ -15,7 +15,7 @@ use table::column;
 use table::rows;
 use tables::Answer;
 
-mod core;
+pub mod core;
 
 // The plan from all analysed entries' risks and the seed rows: 0 or 1 for each module, written to `marks` from place 0, of a table whose import
 // records are lent beside it. The count is that of the ones.

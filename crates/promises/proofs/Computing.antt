@@ -29,7 +29,8 @@ use Rattle.wrap_rules.specs.Rules.{suffixAsks, componentAsks, leads, importAsks
 use Rattle.wrap_rules.specs.Plan as plan
 use Rattle.wrap_plan.specs.Planned.{planOf}
 use Rattle.order_analysis.specs.Whole.{seedsOf, wholePlan}
+use Rattle.shares.specs.Share.{eligibleCount, plannedCount}
 
 unfoldable pub computing : Unit {0}
-unfolding visit walk postOrder rounds close rowsOf resolved targetsOf valuesOf isAnalysed entryChunkOf analysed sizesFit below belowOrMissing valuesFit rises rowsRise allNormal usesOwn dependedResolved plainSymbols entriesOnce importsOnce rowsAgree newerFits refusal through latest read current meet circles walked rootsOf circlesOf visited numbers sorted numbersOf sortedOf expected expectedOf entriesOrder expectedOfEntries sortBy loadOrder triggered execute eagerMembers executeMembers visitChunk runFrom runOf actualOf hostsOf connected component cyclic label labels reachesCycle labelsOf cyclicOf reachesCycleOf cycles.reached wakes usesWrapped ground sensitive eligible early isFlagged orderRisk cycleRisk riskOf expectedSensitiveOf orderRiskOfEntry cycleRiskOfEntry riskOfEntry suffixAsks componentAsks leads importAsks symbolTouches referenceTouches readAsks asked start planFrom plan.reached ordersOf planOf seedsOf wholePlan flatMap sized zip actualSensitiveOf
+unfolding visit walk postOrder rounds close rowsOf resolved targetsOf valuesOf isAnalysed entryChunkOf analysed sizesFit below belowOrMissing valuesFit rises rowsRise allNormal usesOwn dependedResolved plainSymbols entriesOnce importsOnce rowsAgree newerFits refusal through latest read current meet circles walked rootsOf circlesOf visited numbers sorted numbersOf sortedOf expected expectedOf entriesOrder expectedOfEntries sortBy loadOrder triggered execute eagerMembers executeMembers visitChunk runFrom runOf actualOf hostsOf connected component cyclic label labels reachesCycle labelsOf cyclicOf reachesCycleOf cycles.reached wakes usesWrapped ground sensitive eligible early isFlagged orderRisk cycleRisk riskOf expectedSensitiveOf orderRiskOfEntry cycleRiskOfEntry riskOfEntry suffixAsks componentAsks leads importAsks symbolTouches referenceTouches readAsks asked start planFrom plan.reached ordersOf planOf seedsOf wholePlan flatMap sized zip actualSensitiveOf eligibleCount plannedCount
 computing = tt

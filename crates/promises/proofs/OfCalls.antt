@@ -26,9 +26,10 @@ use Rattle.chunk_cycles.specs.Promise.{labelsVerdict, reachVerdict}
 use Rattle.at_risk.specs.Entry.{orderRiskOfEntry, cycleRiskOfEntry, riskVerdict}
 use Rattle.wrap_plan.specs.Planned.{planOf, planVerdict}
 use Rattle.order_analysis.specs.Whole.{wholePlan, wholeVerdict}
+use Rattle.shares.specs.Share.{shareNumbers, shareVerdict}
 use Rattle.sensitivity.specs.Marks.{groundsOf}
 use Rattle.grounds.specs.Promise.{groundsVerdict}
-use Rattle.promises.specs.Calls.{Call, sort, circles, expectedOrder, entriesTogether, actualOrder, chunkLabels, chunkReach, orderRiskOfAnEntry, cycleRiskOfAnEntry, planFromSeeds, wholeAnalysis, groundsOfModules, Outcome, outcome, outcomeOf}
+use Rattle.promises.specs.Calls.{Call, sort, circles, expectedOrder, entriesTogether, actualOrder, chunkLabels, chunkReach, orderRiskOfAnEntry, cycleRiskOfAnEntry, planFromSeeds, wholeAnalysis, shareOfModules, groundsOfModules, Outcome, outcome, outcomeOf}
 use Rattle.promises.specs.OfCalls.{Gives, PromisesGiveOutcomes, slicesOf, RefusalsChangeNothing}
 
 abbrev Slices : Type 0
@@ -116,6 +117,9 @@ promisesGiveOutcomes = record {
       let v : ℕ = groundsVerdict t (length marks) in
       let c : ℕ = ones (groundsOf (t .project)) in
       record { outcome = tells v c r (p .answered) ((marks, groundsOf (t .project)) ∷ []) _ (one (p .written)); accepted = told v c r (p .answered) };
+  ofShare = λ t out out′ r p.
+      let v : ℕ = shareVerdict t (length out) in
+      record { outcome = tells v 4 r (p .answered) ((out, shareNumbers (t .project)) ∷ []) _ (one (p .written)); accepted = told v 4 r (p .answered) };
 }
 
 -- an outcome with a number
@@ -148,3 +152,4 @@ refusalsChangeNothing t (wholeAnalysis marks) n =
     unchanged (wholeVerdict t (length marks)) (ones (wholePlan (t .project))) ((marks, wholePlan (t .project)) ∷ []) n
 refusalsChangeNothing t (groundsOfModules marks) n =
     unchanged (groundsVerdict t (length marks)) (ones (groundsOf (t .project))) ((marks, groundsOf (t .project)) ∷ []) n
+refusalsChangeNothing t (shareOfModules out) n = unchanged (shareVerdict t (length out)) 4 ((out, shareNumbers (t .project)) ∷ []) n

@@ -26,6 +26,7 @@ use Rattle.wrap_plan.specs.Planned.{planOf, planVerdict}
 use Rattle.order_analysis.specs.Whole.{wholePlan, wholeVerdict}
 use Rattle.sensitivity.specs.Marks.{groundsOf}
 use Rattle.grounds.specs.Promise.{groundsVerdict}
+use Rattle.shares.specs.Share.{shareNumbers, shareVerdict}
 
 -- an operation with its arguments and the slices that it is lent
 pub data Call : Type 0 where
@@ -41,6 +42,7 @@ pub data Call : Type 0 where
   planFromSeeds : (seeds marks : List ℕ) → Call
   wholeAnalysis : (marks : List ℕ) → Call
   groundsOfModules : (marks : List ℕ) → Call
+  shareOfModules : (out : List ℕ) → Call
 
 -- the refusal's number or 0, the count, and the slices after the call
 pub record Outcome : Type 0 where
@@ -76,6 +78,7 @@ outcomeOf t (planFromSeeds seeds marks) =
     outcome (planVerdict t seeds (length marks)) (ones (planOf (t .project) seeds)) ((marks, planOf (t .project) seeds) ∷ [])
 outcomeOf t (wholeAnalysis marks) = outcome (wholeVerdict t (length marks)) (ones (wholePlan (t .project))) ((marks, wholePlan (t .project)) ∷ [])
 outcomeOf t (groundsOfModules marks) = outcome (groundsVerdict t (length marks)) (ones (groundsOf (t .project))) ((marks, groundsOf (t .project)) ∷ [])
+outcomeOf t (shareOfModules out) = outcome (shareVerdict t (length out)) 4 ((out, shareNumbers (t .project)) ∷ [])
 
 -- a project as a table that fits lends it: its number is that of the tests 1 to 4 and 10, and it is read through `newer`
 abbrev pub lentBy : Project → Lent

@@ -7,7 +7,7 @@ use Rattle.tables.specs.Project.{Project, missing}
 use Rattle.table.specs.Table.{withRecords}
 use Rattle.promises.specs.Changes.{withImports, withNormal, withNewer}
 use Rattle.promises.specs.Listing.{listing}
-use Rattle.promises.specs.Calls.{Call, sort, circles, expectedOrder, entriesTogether, actualOrder, chunkLabels, orderRiskOfAnEntry, cycleRiskOfAnEntry, planFromSeeds, wholeAnalysis, groundsOfModules, Outcome, outcomeOf, lentBy}
+use Rattle.promises.specs.Calls.{Call, sort, circles, expectedOrder, entriesTogether, actualOrder, chunkLabels, orderRiskOfAnEntry, cycleRiskOfAnEntry, planFromSeeds, wholeAnalysis, shareOfModules, groundsOfModules, Outcome, outcomeOf, lentBy}
 
 pub record Case : Type 0 where
   pub on : Project
@@ -97,6 +97,9 @@ markedCases =
     ∷ accepts ringed (circles three two) 1 ((1 ∷ 2 ∷ 1 ∷ []) ∷ (3 ∷ 8 ∷ []) ∷ [])
     ∷ refuses ringed (circles two lent) 8 (two ∷ lent ∷ [])
     ∷ refuses ringed (circles lent []) 8 (lent ∷ [] ∷ [])
+    -- C-21: of three eligible modules two are planned
+    ∷ accepts listing (shareOfModules lent) 4 ((3 ∷ 2 ∷ 666 ∷ 2 ∷ 5 ∷ []) ∷ [])
+    ∷ refuses listing (shareOfModules three) 6 (three ∷ [])
     ∷ []
 
 -- 02's replaced modules, on the same listing: 3 supersedes 2

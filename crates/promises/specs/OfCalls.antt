@@ -16,8 +16,9 @@ use Rattle.chunk_cycles.specs.Promise.{LabelsPromise, ReachPromise}
 use Rattle.at_risk.specs.Entry.{EntryOrderRisk, EntryCycleRisk}
 use Rattle.wrap_plan.specs.Planned.{PlanFromSeeds}
 use Rattle.order_analysis.specs.Whole.{WholeAnalysis}
+use Rattle.shares.specs.Share.{WrittenShare}
 use Rattle.grounds.specs.Promise.{ModuleGrounds}
-use Rattle.promises.specs.Calls.{Call, sort, circles, expectedOrder, entriesTogether, actualOrder, chunkLabels, chunkReach, orderRiskOfAnEntry, cycleRiskOfAnEntry, planFromSeeds, wholeAnalysis, groundsOfModules, Outcome, outcomeOf}
+use Rattle.promises.specs.Calls.{Call, sort, circles, expectedOrder, entriesTogether, actualOrder, chunkLabels, chunkReach, orderRiskOfAnEntry, cycleRiskOfAnEntry, planFromSeeds, wholeAnalysis, shareOfModules, groundsOfModules, Outcome, outcomeOf}
 
 -- a call's answer and the slices that it leaves are the outcome, and an answer without a number is a count
 pub record Gives (t : Lent) (call : Call) (r : Answer) (left : List (List ℕ)) : Type 0 where
@@ -41,6 +42,7 @@ pub record PromisesGiveOutcomes : Type 0 where
   pub ofPlan : (t : Lent) (seeds marks marks′ : List ℕ) (r : Answer) → PlanFromSeeds t seeds marks r marks′ → Gives t (planFromSeeds seeds marks) r (marks′ ∷ [])
   pub ofWholeAnalysis : (t : Lent) (marks marks′ : List ℕ) (r : Answer) → WholeAnalysis t marks r marks′ → Gives t (wholeAnalysis marks) r (marks′ ∷ [])
   pub ofGrounds : (t : Lent) (marks marks′ : List ℕ) (r : Answer) → ModuleGrounds t marks r marks′ → Gives t (groundsOfModules marks) r (marks′ ∷ [])
+  pub ofShare : (t : Lent) (out out′ : List ℕ) (r : Answer) → WrittenShare t out r out′ → Gives t (shareOfModules out) r (out′ ∷ [])
 
 -- the slices that a call is lent
 abbrev pub slicesOf : Call → List (List ℕ)
@@ -56,6 +58,7 @@ slicesOf (cycleRiskOfAnEntry root marks) = marks ∷ []
 slicesOf (planFromSeeds seeds marks) = marks ∷ []
 slicesOf (wholeAnalysis marks) = marks ∷ []
 slicesOf (groundsOfModules marks) = marks ∷ []
+slicesOf (shareOfModules out) = out ∷ []
 
 -- "Refusals give count 0 and change no lent slice."
 unfoldable pub RefusalsChangeNothing : Type 0

@@ -13,6 +13,7 @@ use records::label_records;
 use records::order_risk_records;
 use records::plan_records;
 use records::reach_records;
+use records::share_records;
 use records::sort_records;
 use tables::Answer;
 
@@ -169,6 +170,18 @@ fn ground_of<'a>(
     ground_records(runtime, dynamic, bounds, columns, &rows, marks)
 }
 
+// Share of a project, of rows that are lent.
+fn share_of<'a>(
+    runtime: u32,
+    dynamic: u32,
+    bounds: &'a [u32],
+    columns: &'a [u32],
+    rows: [Record; 2],
+    out: &mut [u32],
+) -> Answer {
+    share_records(runtime, dynamic, bounds, columns, &rows, out)
+}
+
 fn wide(x: u32) -> u64 {
     x as u64
 }
@@ -287,6 +300,13 @@ fn plans<'a>(bounds: &'a [u32], columns: &'a [u32], rows: [Record; 2]) {
         ground_of(0, 0, bounds, columns, rows, &mut grounds),
     );
     print_numbers(grounds);
+}
+
+// The share.
+fn shares<'a>(bounds: &'a [u32], columns: &'a [u32], rows: [Record; 2]) {
+    let mut share = [7u32; 4];
+    print_answer(b"share", share_of(0, 0, bounds, columns, rows, &mut share));
+    print_numbers(share);
 }
 
 fn main() {
@@ -412,6 +432,7 @@ fn main() {
         },
     ];
     circles(&bounds, &columns, ring);
+    shares(&bounds, &columns, rows);
     // a first column that falls is 3
     let fallen = [
         Record {

@@ -10,6 +10,7 @@ ghost use Rattle.at_risk.specs.Entry.{EntryOrderRisk, EntryCycleRisk};
 ghost use Rattle.wrap_plan.specs.Planned.{PlanFromSeeds};
 ghost use Rattle.order_analysis.specs.Whole.{WholeAnalysis};
 ghost use Rattle.grounds.specs.Promise.{ModuleGrounds};
+ghost use Rattle.shares.specs.Share.{WrittenShare};
 ghost use Rattle.record_columns.specs.Rows.{importerColumn, kindColumn, targetColumn};
 
 mod actual;
@@ -23,6 +24,7 @@ mod ground;
 mod label;
 mod plan;
 mod reach;
+mod share;
 mod sort;
 
 use actual::actual_columns;
@@ -38,6 +40,7 @@ use plan::plan_columns;
 use reach::reach_columns;
 use record_columns::Record;
 use record_columns::core::columns_of;
+use share::share_columns;
 use sort::sort_columns;
 use tables::Answer;
 
@@ -228,4 +231,19 @@ pub fn ground_records<'a>(
 {
     let made = columns_of(records);
     ground_columns(runtime, dynamic, bounds, columns, made, marks)
+}
+
+// Share of a project.
+pub fn share_records<'a>(
+    runtime: u32,
+    dynamic: u32,
+    bounds: &'a [u32],
+    columns: &'a [u32],
+    records: &'a [Record],
+    out: &mut [u32],
+) -> Answer
+    ensures { λ r. ⌜ WrittenShare (lentWith runtime dynamic (now (bounds .entry)) (now (columns .entry)) (importerColumn (now (records .entry))) (kindColumn (now (records .entry))) (targetColumn (now (records .entry)))) (now (out .entry)) r (now (out .exit)) ⌝ }
+{
+    let made = columns_of(records);
+    share_columns(runtime, dynamic, bounds, columns, made, out)
 }

@@ -83,4 +83,6 @@ operations! {
   plan_from_seeds = jolmuqter_plan_from_seeds [] [seeds] [plan];
   /// The plan of the whole analysis, 0 or 1 for each module. Counts the ones.
   plan = jolmuqter_plan [] [] [plan];
+  /// How many modules are eligible, how many of them are planned, and the quotient and the remainder of 1,000 times the second by the first. Counts 4.
+  share = jolmuqter_share [] [] [share];
 }

@@ -223,6 +223,15 @@ fn plans_the_whole() {
 }
 
 #[test]
+fn gives_the_share() {
+  let mut share = [9; 5];
+  assert_eq!(with(unchanged, |table| table.share(&mut share[..3])), Err(Refused(6)));
+  assert_eq!(share, [9; 5]);
+  assert_eq!(with(unchanged, |table| table.share(&mut share)), Ok(4));
+  assert_eq!(share, [3, 2, 666, 2, 9]);
+}
+
+#[test]
 fn refuses_bounds_that_do_not_fit() {
   let mut order = [9; 4];
   let mut ask = |table: Table| table.expected_order(1, &mut order);

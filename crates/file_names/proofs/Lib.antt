@@ -1,0 +1,3 @@
+-- `Lines`: lines as they grow. `Whole`: the steps over pieces of an input ask for what the whole does.
+mod Lines
+pub mod Whole

@@ -1,0 +1,2 @@
+-- `Keeping`: a byte of the input keeps the totals sound.
+pub mod Keeping

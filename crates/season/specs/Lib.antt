@@ -1,0 +1,2 @@
+-- What holds while a report is made.
+pub mod Sound

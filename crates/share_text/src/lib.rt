@@ -1,0 +1,66 @@
+// The share of a project's text, and the lines of a season's report.
+ghost use mathlib.Core.Path.{_≡_};
+ghost use Prim.Native.Nat.{_≤_};
+ghost use lib.ListN.{length, getD, take};
+ghost use Rattle.table.specs.Table.{lent};
+ghost use Rattle.shares.specs.Share.{outcomeOf};
+ghost use Rattle.share_text.specs.Texts.{TextOutcome};
+ghost use Rattle.share_text.specs.Report.{outcomeLine, Put};
+use lines::put_line;
+use listing::read;
+use share_totals::Outcome;
+use shares::share;
+use table::COLUMNS;
+use tables::Answer;
+
+pub mod core;
+
+// The first n values.
+fn first_of(values: &[u32], n: usize) -> &[u32]
+    requires { ⌜ n ≤ length (now values) ⌝ }
+    ensures { λ r. ⌜ now r ≡ take n (now (values .entry)) ⌝ }
+{
+    &values[..n]
+}
+
+// The share of a table that was read, with n values in its columns.
+fn share_of_columns<'a>(
+    settings: [u32; 2],
+    bounds: &'a [u32; COLUMNS + 1],
+    columns: &'a [u32; 32768],
+    n: usize,
+) -> Outcome
+    requires { ⌜ n ≤ length (now columns) ⌝ }
+    ensures { λ r. ⌜ r ≡ outcomeOf (lent (getD settings 0 0) (getD settings 1 0) (now (bounds .entry)) (take n (now (columns .entry)))) ⌝ }
+{
+    share(settings[0], settings[1], bounds, first_of(columns, n))
+}
+
+// The outcome of a project's text: 7 where it is none.
+pub fn share_of_text(text: &[u8]) -> Outcome
+    ensures { λ r. ⌜ TextOutcome (now (text .entry)) r ⌝ }
+{
+    let mut settings = [0u32; 2];
+    let mut bounds = [0u32; COLUMNS + 1];
+    let mut columns = [0u32; 32768];
+    let answer = read(text, &mut settings, &mut bounds, &mut columns);
+    match answer {
+        Answer::Refused(number) => Outcome::Refused(number),
+        Answer::Counted(n) => share_of_columns(settings, &bounds, &columns, n),
+    }
+}
+
+// Writes the line of an outcome from place 0.
+pub fn put_outcome(out: &mut [u8], outcome: Outcome) -> Answer
+    ensures { λ r. ⌜ Put (outcomeLine outcome) (now (out .entry)) r (now (out .exit)) ⌝ }
+{
+    match outcome {
+        Outcome::Share(eligible, planned, quotient, remainder) => put_line(
+            out,
+            b"share",
+            &[],
+            &[eligible, planned, quotient, remainder],
+        ),
+        Outcome::Refused(number) => put_line(out, b"refused", &[], &[number]),
+    }
+}

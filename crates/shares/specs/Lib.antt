@@ -1,0 +1,2 @@
+-- The share of a project.
+pub mod Share

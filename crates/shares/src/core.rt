@@ -1,0 +1,105 @@
+// For crates above, on tested tables.
+ghost use mathlib.Core.Path.{_≡_};
+ghost use mathlib.Core.List.{_∷_};
+ghost use Prim.Native.Nat.{_≤_};
+ghost use lib.ListN.{length, drop};
+ghost use Rattle.tables.specs.Project.{Project};
+ghost use Rattle.tables.specs.Readings.{modules};
+ghost use Rattle.table.specs.Table.{table, read};
+ghost use Rattle.table.specs.Places.{Places};
+ghost use Rattle.share_totals.specs.Shares.{shareOf};
+ghost use Rattle.shares.specs.Share.{eligibleCount, plannedCount};
+use eligibility::of_table::mark_table_eligible;
+use lists::core::count_marked;
+use order_analysis::core::analyze;
+use share_totals::Outcome;
+use share_totals::core::share_of;
+
+// How many modules are eligible.
+fn count_eligible<'a>(
+    runtime: u32,
+    dynamic: u32,
+    bounds: &'a [u32],
+    columns: &'a [u32],
+    importers: &'a [u32],
+    kinds: &'a [u32],
+    targets: &'a [u32],
+    dependencies: &'a [u32],
+    members: &'a [u32],
+    marks: &mut [u32],
+) -> usize
+    ghost { Project }
+    requires project { λ p. ⌜ read (table runtime dynamic (now bounds) (now columns)) (now importers) (now kinds) (now targets) (now dependencies) (now members) ≡ p ⌝ }
+    requires places { λ p. ⌜ Places p (modules p) (length (now marks)) ⌝ }
+    ensures { λ p r. ⌜ r ≡ eligibleCount p ⌝ }
+{
+    mark_table_eligible(
+        runtime,
+        dynamic,
+        bounds,
+        columns,
+        importers,
+        kinds,
+        targets,
+        dependencies,
+        members,
+        marks,
+    );
+    count_marked(marks)
+}
+
+// The share of a table. `marks` is working memory.
+pub fn share_of_table<'a>(
+    runtime: u32,
+    dynamic: u32,
+    bounds: &'a [u32],
+    columns: &'a [u32],
+    importers: &'a [u32],
+    kinds: &'a [u32],
+    targets: &'a [u32],
+    dependencies: &'a [u32],
+    members: &'a [u32],
+    marks: &mut [u32],
+) -> Outcome
+    ghost { Project }
+    requires project { λ p. ⌜ read (table runtime dynamic (now bounds) (now columns)) (now importers) (now kinds) (now targets) (now dependencies) (now members) ≡ p ⌝ }
+    requires places { λ p. ⌜ Places p (modules p) (length (now marks)) ⌝ }
+    ensures { λ p r. ⌜ r ≡ shareOf (eligibleCount p) (plannedCount p) ⌝ }
+{
+    let eligible = count_eligible(
+        runtime,
+        dynamic,
+        bounds,
+        columns,
+        importers,
+        kinds,
+        targets,
+        dependencies,
+        members,
+        marks,
+    );
+    let planned = analyze(
+        runtime,
+        dynamic,
+        bounds,
+        columns,
+        importers,
+        kinds,
+        targets,
+        dependencies,
+        members,
+        marks,
+    );
+    share_of(eligible as u32, planned as u32)
+}
+
+// Writes four numbers from place 0.
+pub fn put_four(out: &mut [u32], a: u32, b: u32, c: u32, d: u32)
+    requires { ⌜ 4 ≤ length (now out) ⌝ }
+    ensures { λ _. ⌜ now (out .exit) ≡ a ∷ b ∷ c ∷ d ∷ drop 4 (now (out .entry)) ⌝ }
+{
+    out[0] = a;
+    out[1] = b;
+    out[2] = c;
+    out[3] = d;
+}

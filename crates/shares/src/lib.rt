@@ -1,0 +1,133 @@
+// The share of a project's eligible modules that are planned.
+ghost use mathlib.Core.Path.{_≡_};
+ghost use Rattle.table.specs.Table.{lent, lentWith};
+ghost use Rattle.shares.specs.Share.{outcomeOf, WrittenShare};
+use core::put_four;
+use core::share_of_table;
+use current_columns::core::read_current;
+use refusal::refusal_number;
+use share_totals::Outcome;
+use table::DEPENDENCY;
+use table::MEMBER;
+use table::MODULE_LIMIT;
+use table::NORMAL;
+use table::RECORD_KIND;
+use table::RECORD_MODULE;
+use table::RECORD_TARGET;
+use table::ROW_LIMIT;
+use table::column;
+use table::rows;
+use tables::Answer;
+
+pub mod core;
+
+// The counts of eligible modules and of those that the whole analysis plans, with the quotient and the remainder of 1,000 times the second by the
+// first, or a refusal, of a table whose import records are lent beside it.
+pub fn share_with_records<'a>(
+    runtime: u32,
+    dynamic: u32,
+    bounds: &'a [u32],
+    columns: &'a [u32],
+    importers: &'a [u32],
+    kinds: &'a [u32],
+    targets: &'a [u32],
+) -> Outcome
+    ensures { λ r. ⌜ r ≡ outcomeOf (lentWith runtime dynamic (now (bounds .entry)) (now (columns .entry)) (now (importers .entry)) (now (kinds .entry)) (now (targets .entry))) ⌝ }
+{
+    let number = refusal_number(runtime, dynamic, bounds, columns, importers, kinds, targets);
+    if number != 0 {
+        return Outcome::Refused(number);
+    }
+    let n = rows(bounds, columns, NORMAL);
+    let mut read_targets = [0u32; ROW_LIMIT];
+    let mut read_dependencies = [0u32; ROW_LIMIT];
+    read_current(
+        runtime,
+        dynamic,
+        bounds,
+        columns,
+        importers,
+        kinds,
+        targets,
+        &mut read_targets,
+        &mut read_dependencies,
+    );
+    let records = targets.len();
+    let dependency_rows = rows(bounds, columns, DEPENDENCY);
+    let mut marks = [0u32; MODULE_LIMIT];
+    share_of_table(
+        runtime,
+        dynamic,
+        bounds,
+        columns,
+        importers,
+        kinds,
+        &read_targets[..records],
+        &read_dependencies[..dependency_rows],
+        column(bounds, columns, MEMBER),
+        &mut marks[..n],
+    )
+}
+
+// The same of a table with records of its own.
+pub fn share<'a>(runtime: u32, dynamic: u32, bounds: &'a [u32], columns: &'a [u32]) -> Outcome
+    ensures { λ r. ⌜ r ≡ outcomeOf (lent runtime dynamic (now (bounds .entry)) (now (columns .entry))) ⌝ }
+{
+    share_with_records(
+        runtime,
+        dynamic,
+        bounds,
+        columns,
+        column(bounds, columns, RECORD_MODULE),
+        column(bounds, columns, RECORD_KIND),
+        column(bounds, columns, RECORD_TARGET),
+    )
+}
+
+// Writes the four numbers of a share to `out` from place 0, of a table whose import records are lent beside it. The count is 4.
+pub fn write_share_with_records<'a>(
+    runtime: u32,
+    dynamic: u32,
+    bounds: &'a [u32],
+    columns: &'a [u32],
+    importers: &'a [u32],
+    kinds: &'a [u32],
+    targets: &'a [u32],
+    out: &mut [u32],
+) -> Answer
+    ensures { λ r. ⌜ WrittenShare (lentWith runtime dynamic (now (bounds .entry)) (now (columns .entry)) (now (importers .entry)) (now (kinds .entry)) (now (targets .entry))) (now (out .entry)) r (now (out .exit)) ⌝ }
+{
+    let outcome = share_with_records(runtime, dynamic, bounds, columns, importers, kinds, targets);
+    match outcome {
+        Outcome::Refused(number) => Answer::Refused(number),
+        Outcome::Share(eligible, planned, quotient, remainder) => {
+            if out.len() < 4 {
+                return Answer::Refused(6);
+            }
+            put_four(out, eligible, planned, quotient, remainder);
+            Answer::Counted(4)
+        }
+    }
+}
+
+// The same of a table with records of its own.
+pub fn write_share<'a>(
+    runtime: u32,
+    dynamic: u32,
+    bounds: &'a [u32],
+    columns: &'a [u32],
+    out: &mut [u32],
+) -> Answer
+    ensures { λ r. ⌜ WrittenShare (lent runtime dynamic (now (bounds .entry)) (now (columns .entry))) (now (out .entry)) r (now (out .exit)) ⌝ }
+{
+    write_share_with_records(
+        runtime,
+        dynamic,
+        bounds,
+        columns,
+        column(bounds, columns, RECORD_MODULE),
+        column(bounds, columns, RECORD_KIND),
+        column(bounds, columns, RECORD_TARGET),
+        out,
+    )
+}
