@@ -32,7 +32,7 @@ impl<'p> Ready<'p> {
   /// The library's call, with its tests 1 to 4 and every output written.
   fn ours(&self, call: &Call) -> Duration {
     let mut lists = outputs(self.p);
-    let count = compare::judge::outputs(call);
+    let count = compare::refusal::places(self.p, call).len();
     timed(|| compare::library::call(&self.lent, call, &mut lists[..count]).expect("accepted"))
   }
 
