@@ -14,6 +14,9 @@ pub struct Ready<'p> {
   lent: Lent,
 }
 
+/// Places enough for the circles of every shape.
+const CIRCLE_PLACES: usize = 1 << 20;
+
 fn outputs(p: &Project) -> [Vec<u32>; 2] {
   [vec![0; p.modules()], vec![0; p.modules()]]
 }
@@ -43,6 +46,12 @@ impl<'p> Ready<'p> {
     let right = self.original.plan();
     assert_eq!((right.len(), right), (count, members(&plan[0])));
     in_turns(|| timed(|| self.original.bare_plan()), || self.ours(&Call::Whole))
+  }
+
+  /// The circles, which the original finds while it sorts.
+  fn circles(&self) -> Duration {
+    let mut lists = [vec![0; CIRCLE_PLACES], vec![0; CIRCLE_PLACES]];
+    timed(|| compare::library::call(&self.lent, &Call::Circles, &mut lists).expect("accepted"))
   }
 
   /// The tests 1 to 4 alone, which the original doesn't have.
@@ -79,6 +88,7 @@ impl<'p> Ready<'p> {
     let original = &self.original;
     vec![
       ("sort", in_turns(sort, || self.ours(&Call::Sort))),
+      ("sort and circles", in_turns(sort, || self.circles())),
       (
         "expected order",
         in_turns(|| timed(|| original.bare_expected(root)), || self.ours(&Call::Expected(root))),
