@@ -44,6 +44,7 @@
  *      16,384 seeds
  *   6  an output that is too short: every output needs a place for each module, labels one for each chunk, a share four
  *   8  for the circles alone, in the place of 6: paths or lengths too short for all paths
+ *   9  a plan that isn't one mark for each module, or holds a mark other than 0 and 1; after 5, before 6
  */
 #ifndef JOLMUQTER_H
 #define JOLMUQTER_H
@@ -53,6 +54,8 @@
 #define JOLMUQTER_MISSING UINT32_C(4294967295)
 #define JOLMUQTER_REFUSED UINT64_C(4294967296)
 #define JOLMUQTER_BOUNDS 35
+#define JOLMUQTER_CONDITION(answer) ((uint32_t)((answer) >> 16))
+#define JOLMUQTER_MODULE(answer) ((uint32_t)((answer) & 65535))
 #define JOLMUQTER_TABLE                                                                                                \
   uint32_t runtime, uint32_t dynamic, const uint32_t *bounds, size_t bounds_len, const uint32_t *columns, size_t columns_len
 
@@ -100,6 +103,14 @@ uint64_t jolmuqter_grounds(JOLMUQTER_TABLE, uint32_t *grounds, size_t grounds_le
 
 /* plan: 0 or 1 for each module, from these seeds (the table's seed rows aren't used). Count: that of ones. */
 uint64_t jolmuqter_plan_from_seeds(JOLMUQTER_TABLE, const uint32_t *seeds, size_t seeds_len, uint32_t *plan, size_t plan_len);
+
+/* plan: a plan made elsewhere, 0 or 1 for each module, with these seeds. The answer isn't a count: 0 if the plan is accepted; JOLMUQTER_CONDITION(answer), 1 to
+ * 6, and JOLMUQTER_MODULE(answer) if a condition is broken; else 2^32 plus the number of a refusal, as above. The conditions, of which the first broken one is
+ * given with the lowest module that is wrong or lacking:
+ *   1  only eligible modules are in the plan
+ *   2  every eligible seed is in it
+ *   3  to 6  every module that rule (i), (ii), (iii), (iv) asks for with the plan as it is given is in it */
+uint64_t jolmuqter_check_plan(JOLMUQTER_TABLE, const uint32_t *seeds, size_t seeds_len, const uint32_t *plan, size_t plan_len);
 
 /* plan: 0 or 1 for each module, of the whole analysis: from all analysed entries' risks and the seed rows. Count: that of ones. */
 uint64_t jolmuqter_plan(JOLMUQTER_TABLE, uint32_t *plan, size_t plan_len);

@@ -203,6 +203,20 @@ static void answers(void) {
   EXPECT(jolmuqter_plan_from_seeds(TABLE(t), LIST(1), 1, a, 3), REFUSED(6));
   HOLD(a, 0, 1, 1, 1);
 
+  EXPECT(jolmuqter_check_plan(TABLE(t), LIST(2), 1, LIST(0, 1, 1, 1), 4), 0);
+  EXPECT(jolmuqter_check_plan(TABLE(t), LIST(1), 1, LIST(0, 1, 0, 1), 4), 0);
+  EXPECT(jolmuqter_check_plan(TABLE(t), LIST(0), 1, LIST(0, 0, 0, 0), 4), 0);
+  EXPECT(jolmuqter_check_plan(TABLE(t), LIST(2), 1, LIST(1, 1, 1, 1), 4), 65536);
+  EXPECT(jolmuqter_check_plan(TABLE(t), LIST(2), 1, LIST(0, 1, 0, 1), 4), 2 * 65536 + 2);
+  EXPECT(jolmuqter_check_plan(TABLE(t), LIST(2), 1, LIST(0, 0, 1, 0), 4), 3 * 65536 + 1);
+  EXPECT(jolmuqter_check_plan(TABLE(back), LIST(1), 1, LIST(0, 1, 0, 0), 4), 4 * 65536 + 2);
+  EXPECT(JOLMUQTER_CONDITION(UINT64_C(262146)), 4), EXPECT(JOLMUQTER_MODULE(UINT64_C(262146)), 2);
+  EXPECT(jolmuqter_check_plan(TABLE(t), LIST(2), 1, LIST(0, 1, 2, 1), 4), REFUSED(9));
+  EXPECT(jolmuqter_check_plan(TABLE(t), LIST(2), 1, LIST(0, 1, 1, 1, 0), 5), REFUSED(9));
+  EXPECT(jolmuqter_check_plan(TABLE(t), LIST(2), 1, LIST(0, 1, 1), 3), REFUSED(9));
+  EXPECT(jolmuqter_check_plan(TABLE(t), LIST(4), 1, LIST(2), 1), REFUSED(5));
+  EXPECT(jolmuqter_check_plan(TABLE(twice), LIST(4), 1, LIST(2), 1), REFUSED(4));
+
   EXPECT(jolmuqter_plan(TABLE(t), a, 3), REFUSED(6));
   HOLD(a, 0, 1, 1, 1);
   EXPECT(jolmuqter_plan(TABLE(t), a, 4), 2);
@@ -247,6 +261,7 @@ static void chunk_reach(void) { EXPECT(jolmuqter_chunk_reach(TABLE(deep), 0), 0)
 static void order_risk(void) { EXPECT(jolmuqter_order_risk(TABLE(deep), 0, first, MODULES) < JOLMUQTER_REFUSED, 1); }
 static void cycle_risk(void) { EXPECT(jolmuqter_cycle_risk(TABLE(deep), 0, first, MODULES), 0); }
 static void grounds(void) { EXPECT(jolmuqter_grounds(TABLE(deep), first, MODULES), MODULES - 1); }
+static void check_plan(void) { EXPECT(jolmuqter_check_plan(TABLE(deep), LIST(MODULES - 1), 1, first, MODULES) < JOLMUQTER_REFUSED, 1); }
 static void plan_from_seeds(void) { EXPECT(jolmuqter_plan_from_seeds(TABLE(deep), LIST(MODULES - 1), 1, first, MODULES) < JOLMUQTER_REFUSED, 1); }
 static void share(void) { EXPECT(jolmuqter_share(TABLE(deep), first, MODULES), 4); }
 static void plan(void) { EXPECT(jolmuqter_plan(TABLE(deep), first, MODULES) < JOLMUQTER_REFUSED, 1); }
@@ -269,8 +284,8 @@ static size_t stack_of(void (*call)(void)) {
 
 int main(void) {
   answers();
-  void (*calls[])(void) = {sort_modules, import_circles, expected_order, entries_order, actual_order, labels, chunk_reach, order_risk, cycle_risk, grounds, plan_from_seeds, plan, share};
-  const char *names[] = {"sort_modules", "import_circles", "expected_order", "entries_order", "actual_order", "labels", "chunk_reach", "order_risk", "cycle_risk", "grounds", "plan_from_seeds", "plan", "share"};
+  void (*calls[])(void) = {sort_modules, import_circles, expected_order, entries_order, actual_order, labels, chunk_reach, order_risk, cycle_risk, grounds, plan_from_seeds, check_plan, plan, share};
+  const char *names[] = {"sort_modules", "import_circles", "expected_order", "entries_order", "actual_order", "labels", "chunk_reach", "order_risk", "cycle_risk", "grounds", "plan_from_seeds", "check_plan", "plan", "share"};
   for (uint32_t wrap = 0; wrap < 3; wrap += 2) {
     deep = chains(wrap);
     for (size_t i = 0; i < LENGTH(calls); i++) {

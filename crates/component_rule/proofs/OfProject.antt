@@ -1,9 +1,9 @@
--- Rule (ii) at a project: what the pass over its columns asks, and that it is a pass of the rule.
+-- Rule (ii) at a project: what the pass over its columns asks, and that it adds just what the rule asks for.
 -- Assumes nothing.
 use mathlib.Core.Path.{_≡_, sym, ap, subst, _∙_}
 use mathlib.Core.Logic.{⊎-elim}
 use mathlib.Core.Bool.{Bool, true, not}
-use mathlib.Core.List.{List, []}
+use mathlib.Core.List.{List}
 use Prim.Native.Nat.{ℕ, _<_}
 use native.Mathlib.Omega.{arith}
 use native.Mathlib.Decide.{decLt}
@@ -12,7 +12,6 @@ use lib.Dec.{eqb}
 use borrow.Author.Tests.{eq-eqb, ne-eqb, eqb-true, eqb-false}
 use Rattle.lists.specs.Words.{has}
 use Rattle.lists.proofs.Laws.{both, not-true, and-parts, and-join, length-marksOf, getD-in, getD-map-upTo}
-use Rattle.walk.specs.Close.{Bits}
 use Rattle.tables.specs.Project.{Project, missing}
 use Rattle.tables.specs.Readings.{modules, chunks}
 use Rattle.tables.specs.Accepted.{Accepted}
@@ -25,14 +24,11 @@ use Rattle.sensitivity.specs.Marks.{sensitive, sensitiveMarks}
 use Rattle.sensitivity.proofs.Marks.{length-grounds}
 use Rattle.eligibility.specs.Eligible.{eligible, eligibleMarks}
 use Rattle.marks.specs.Steps.{Added}
+use Rattle.marks.proofs.Steps.{added-cong}
 use Rattle.wrap_rules.specs.Rules.{componentAsks}
-use Rattle.wrap_rules.specs.Plan.{componentRule}
-use Rattle.wrap_rules.specs.inner.Passes.{Passed}
-use Rattle.wrap_rules.proofs.Monotone.{asks-monotone}
-use Rattle.wrap_rules.proofs.Passes.{passed-added}
 use Rattle.wrap_rules.proofs.Rows.{component-asks, component-rows}
 use Rattle.wrap_rules.proofs.Sets.{sensitive-has, eligible-has}
-use Rattle.component_rule.specs.inner.Members.{Together, Members}
+use Rattle.component_rule.specs.inner.Members.{Together, Members, ComponentPassed}
 
 module _ (p : Project) (ok : Accepted p) where
   pub members-fit : Members (p .chunk) (p .memberChunk) (p .member) (labelsOf p) (sensitiveMarks p) (eligibleMarks p) (modules p)
@@ -71,9 +67,8 @@ module _ (p : Project) (ok : Accepted p) where
   Joining s m = Together (p .chunk) (p .memberChunk) (p .member) (labelsOf p) s m × (has (sensitiveMarks p) m ≡ true) × (has (eligibleMarks p) m ≡ true)
 
   module _ (s : List ℕ) where
-    pub component-pass : {t : List ℕ} {r : Bool} → Bits s → Added (Joining s) s t r
-        → Passed asksOf s t r
-    component-pass bits = passed-added asksOf (Joining s) (asks-monotone [] (labelsOf p) p componentRule) bits there back
+    pub component-pass : {t : List ℕ} {r : Bool} → Added (Joining s) s t r → ComponentPassed p s t r
+    component-pass = added-cong (Joining s) (λ (m : ℕ). asksOf s m ≡ true) back there
       where
         there : (m : ℕ) → Joining s m → asksOf s m ≡ true
         there m (h, q, g) =

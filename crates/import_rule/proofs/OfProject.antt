@@ -1,14 +1,14 @@
--- Rule (iii) at a project: what the pass over its columns asks, and that it is a pass of the rule; and the same over the edges of its records.
+-- Rule (iii) at a project: what the pass over its columns asks, and that it adds just what the rule asks for; and the same over the edges of its records.
 -- Assumes nothing.
 use mathlib.Core.Path.{_≡_, sym, subst, _∙_}
 use mathlib.Core.Bool.{Bool, true}
-use mathlib.Core.List.{List, [], List·Memᴰ}
+use mathlib.Core.List.{List, List·Memᴰ}
 use Prim.Native.Nat.{ℕ, _≤_, _<_}
 use native.Mathlib.Omega.{arith}
 use lib.ListN.{length, getD}
 use Rattle.lists.specs.Words.{has}
 use Rattle.lists.proofs.Laws.{has-in}
-use Rattle.walk.specs.Close.{Within, Bits}
+use Rattle.walk.specs.Close.{Within}
 use Rattle.tables.specs.Project.{Project, missing}
 use Rattle.tables.specs.Readings.{modules}
 use Rattle.tables.specs.Accepted.{Accepted}
@@ -17,10 +17,8 @@ use Rattle.eligibility.specs.Eligible.{eligible}
 use Rattle.marks.specs.Steps.{Added}
 use Rattle.marks.proofs.Steps.{added-cong}
 use Rattle.wrap_rules.specs.Rules.{importsOf, leads, importAsks}
-use Rattle.wrap_rules.specs.Plan.{importRule, reached}
+use Rattle.wrap_rules.specs.Plan.{reached}
 use Rattle.wrap_rules.specs.inner.Passes.{Passed, Marked, candidateMarks}
-use Rattle.wrap_rules.proofs.Monotone.{asks-monotone}
-use Rattle.wrap_rules.proofs.Passes.{passed-added}
 use Rattle.wrap_rules.proofs.Rows.{import-row, row-import, import-asks, import-rows}
 use Rattle.wrap_rules.proofs.Sets.{candidate-parts, parts-candidate, length-candidates}
 use Rattle.import_edges.specs.inner.Spread.{Along, Under, Spreads, Spreadable, ModuleGraph, recordTargets}
@@ -81,8 +79,8 @@ module _ (p : Project) (ok : Accepted p) where
     lead : (y : ℕ) → leads p s y ≡ true → has L y ≡ true
     lead = leads-in p s L (spreads .holds) (along-backward L (spreads .len ∙ size) (spreads .along))
 
-    pub import-pass : {t : List ℕ} {r : Bool} → Bits s → Added Asking s t r → Passed asksOf s t r
-    import-pass bits = passed-added asksOf Asking (asks-monotone [] [] p importRule) bits there back
+    pub import-pass : {t : List ℕ} {r : Bool} → Added Asking s t r → Added (λ (m : ℕ). asksOf s m ≡ true) s t r
+    import-pass = added-cong Asking (λ (m : ℕ). asksOf s m ≡ true) back there
       where
         there : (m : ℕ) → Asking m → asksOf s m ≡ true
         there m h =
@@ -141,7 +139,7 @@ module _ (p : Project) (ok : Accepted p) where
         let z : Spreads (recordTargets p) (p .recordModule) s L = spreads-rows (recordTargets p) (p .recordModule) targets importers s L (modules p) (m .size) records-back edges-back w in
         record {
           spreads = z;
-          passed = import-pass s L (m .size) z (m .bits)
+          added = import-pass s L (m .size) z
               (added-cong (Importer importers targets (p .dependencyModule) (p .dependency) (candidateMarks p) s L) (Importer (p .recordModule) (recordTargets p) (p .dependencyModule) (p .dependency) (candidateMarks p) s L)
               (λ i l q. record { candidate = q .candidate; depends = q .depends; leading = row-rows (p .recordModule) (recordTargets p) importers targets L (modules p) (w .len ∙ m .size) back i (omega (arith, m .size)) (q .leading) })
               (λ i q. record { candidate = q .candidate; depends = q .depends; leading = row-rows importers targets (p .recordModule) (recordTargets p) L (modules p) (w .len ∙ m .size) there i (candidate-in i (q .candidate)) (q .leading) })

@@ -2,16 +2,24 @@
 -- Assumes nothing.
 use mathlib.Core.Path.{_≡_}
 use mathlib.Core.List.{List}
-use Prim.Native.Nat.{ℕ, _+_, _^_}
+use Prim.Native.Nat.{ℕ, zero, _+_, _*_, _^_}
 use Rattle.tables.specs.declared.Answer.{Answer}
 use Rattle.tables.specs.declared.Answer.the-variants.{Refused, Counted}
 use Rattle.table.specs.Table.{Lent}
+use Rattle.plan_conditions.specs.declared.Judgement.{Judgement}
+use Rattle.plan_conditions.specs.declared.Judgement.the-variants as judgements
 use Rattle.jolmuqter.specs.Calls.{Call, Promise}
 
 -- the count, or 2 ^ 32 plus the refusal's number
 abbrev pub coded : Answer → ℕ
 coded (Refused n) = 2 ^ 32 + n
 coded (Counted c) = c
+
+-- what is said of a plan: 0 where it is accepted, the number of the broken condition times 2 ^ 16 plus the module, or 2 ^ 32 plus the refusal's number
+abbrev pub codedJudgement : Judgement → ℕ
+codedJudgement judgements.Accepted = zero
+codedJudgement (judgements.Broken condition m) = condition * 2 ^ 16 + m
+codedJudgement (judgements.Refused n) = 2 ^ 32 + n
 
 -- the code of an answer that the operation promises
 pub record Exported (call : Call) (t : Lent) (first second : List ℕ) (r : ℕ) (first′ second′ : List ℕ) : Type 0 where

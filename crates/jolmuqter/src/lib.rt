@@ -1,9 +1,12 @@
-// The operations for C and Rust, on a project that is lent as a table. The answer is the count, or 2^32 plus the number of a refusal.
+// The operations for C and Rust, on a project that is lent as a table. The answer is the count, or 2^32 plus the number of a refusal; of the check of a plan
+// 0, the number of a broken condition times 2^16 plus the module, or 2^32 plus the number of a refusal.
 ghost use mathlib.Core.Path.{_≡_};
 ghost use mathlib.Core.List.{[]};
 ghost use Rattle.table.specs.Table.{lent, answer};
 ghost use Rattle.jolmuqter.specs.Calls.{Sort, Circles, Expected, Entries, Actual, Labels, Reach, OrderRisk, CycleRisk, Plan, Whole, Share, Grounds, Refusal};
-ghost use Rattle.jolmuqter.specs.Exported.{coded, Exported};
+ghost use Rattle.plan_check.specs.Promise.{judgement};
+ghost use Rattle.jolmuqter.specs.Exported.{coded, codedJudgement, Exported};
+use plan_conditions::Judgement;
 use refusal::refusal_number;
 use table::RECORD_KIND;
 use table::RECORD_MODULE;
@@ -168,6 +171,32 @@ pub extern "C" fn jolmuqter_plan_from_seeds<'a>(
     ensures { λ r. ⌜ Exported (Plan (now (seeds .entry))) (lent runtime dynamic (now (bounds .entry)) (now (columns .entry))) (now (plan .entry)) [] r (now (plan .exit)) [] ⌝ }
 {
     code(wrap_plan::plan_from_seeds(runtime, dynamic, bounds, columns, seeds, plan))
+}
+
+// What is said of a plan, as a number.
+fn judgement_code(judgement: Judgement) -> u64
+    ensures { λ r. ⌜ r ≡ codedJudgement judgement ⌝ }
+{
+    match judgement {
+        Judgement::Accepted => 0,
+        Judgement::Broken(condition, module) => condition as u64 * 65536 + module as u64,
+        Judgement::Refused(n) => 4294967296 + n as u64,
+    }
+}
+
+// Whether a plan made elsewhere is accepted with these seeds, or what it breaks first.
+#[no_mangle]
+pub extern "C" fn jolmuqter_check_plan<'a>(
+    runtime: u32,
+    dynamic: u32,
+    bounds: &'a [u32],
+    columns: &'a [u32],
+    seeds: &[u32],
+    plan: &[u32],
+) -> u64
+    ensures { λ r. ⌜ r ≡ codedJudgement (judgement (lent runtime dynamic (now (bounds .entry)) (now (columns .entry))) (now (seeds .entry)) (now (plan .entry))) ⌝ }
+{
+    judgement_code(plan_check::check_plan(runtime, dynamic, bounds, columns, seeds, plan))
 }
 
 // The plan of the whole analysis.

@@ -5,6 +5,7 @@ pub mod Computing
 pub mod Cases
 pub mod Witnesses
 pub mod Needed
+pub mod Checked
 pub mod LateWitnesses
 pub mod Late
 pub mod LoadWalks

@@ -9,6 +9,7 @@ pub mod Needed
 pub mod Load
 pub mod LoadNeeded
 pub mod LoadEvaluation
+pub mod Checked
 pub mod Late
 pub mod LateWitnesses
 pub mod Risks

@@ -1,29 +1,27 @@
--- Rule (iv) at a project: what the pass over its columns asks, and that it is a pass of the rule.
+-- Rule (iv) at a project: what the pass over its columns asks, and that it adds just what the rule asks for.
 -- Assumes nothing.
 use mathlib.Core.Path.{_≡_, refl, sym, ap, subst, _∙_}
 use mathlib.Core.Logic.{inl, inr, ⊎-elim}
 use mathlib.Core.Bool.{Bool, true, not}
-use mathlib.Core.List.{List, []}
+use mathlib.Core.List.{List}
 use Prim.Native.Nat.{ℕ, zero, suc, _<_}
 use native.Mathlib.Omega.{arith}
 use lib.ListN.{length, getD}
 use borrow.Author.Tests.{eq-eqb, eqb-true}
 use Rattle.lists.specs.Words.{isZero, has}
 use Rattle.lists.proofs.Laws.{or-parts, or-left, or-right, has-in, getD-in, mark-in}
-use Rattle.walk.specs.Close.{Bits}
 use Rattle.tables.specs.Project.{Project, missing}
 use Rattle.tables.specs.Readings.{modules, flagged}
 use Rattle.tables.specs.Accepted.{Accepted}
 use Rattle.eligibility.specs.Eligible.{eligible}
 use Rattle.marks.specs.Steps.{Added}
+use Rattle.marks.proofs.Steps.{added-cong}
 use Rattle.wrap_rules.specs.Rules.{chainTouches, symbolTouches, referenceTouches, readAsks}
-use Rattle.wrap_rules.specs.Plan.{readRule, reached}
-use Rattle.wrap_rules.specs.inner.Passes.{Passed, candidateMarks}
-use Rattle.wrap_rules.proofs.Monotone.{asks-monotone}
-use Rattle.wrap_rules.proofs.Passes.{passed-added}
+use Rattle.wrap_rules.specs.Plan.{reached}
+use Rattle.wrap_rules.specs.inner.Passes.{candidateMarks}
 use Rattle.wrap_rules.proofs.Rows.{read-asks, read-rows}
 use Rattle.wrap_rules.proofs.Sets.{candidate-parts, parts-candidate, length-candidates}
-use Rattle.read_rule.specs.inner.Reads.{ChainTouch, SymbolTouch, Touching, bySymbol, byDepended, TopLevelRead, Symbols, Reading}
+use Rattle.read_rule.specs.inner.Reads.{ChainTouch, SymbolTouch, Touching, bySymbol, byDepended, TopLevelRead, Symbols, Reading, ReadPassed}
 use Rattle.read_rule.proofs.Touches.{chain-owner, chain-link, chain-rows, reference-symbol, reference-depended, reference-rows}
 
 module _ (p : Project) (ok : Accepted p) where
@@ -104,9 +102,8 @@ module _ (p : Project) (ok : Accepted p) where
         byDepended (q .0) (q .1) (q .2) k (symbol-back (getD (p .depended) (q .0) 0) k (q .3)))
         (reference-rows p s ok i l e)
 
-    pub read-pass : {t : List ℕ} {r : Bool} → Bits s → Added Asking s t r
-        → Passed asksOf s t r
-    read-pass bits = passed-added asksOf Asking (asks-monotone [] [] p readRule) bits there back
+    pub read-pass : {t : List ℕ} {r : Bool} → Added Asking s t r → ReadPassed p s t r
+    read-pass = added-cong Asking (λ (m : ℕ). asksOf s m ≡ true) back there
       where
         there : (m : ℕ) → Asking m → asksOf s m ≡ true
         there m h =

@@ -1,7 +1,7 @@
 -- Rule (i) by orders: the suffix of one order, of several in turn, and orders that need no second look.
 -- Assumes nothing.
 use mathlib.Core.Path.{_≡_, refl, sym, ap, subst, _∙_, fun-ext}
-use mathlib.Core.Logic.{_⊎_, ⊎-elim}
+use mathlib.Core.Logic.{_⊎_, inl, inr, ⊎-elim}
 use mathlib.Core.Bool.{Bool, true, false, not, _&&_, _||_, false≢true}
 use mathlib.Core.List.{List, [], _∷_, _++_, map, map-append, List·Memᴰ, List·Memᴰ·head, Memᴰ·of-map}
 use Prim.Native.Nat.{ℕ, _+_, _-_, _≤_, _<_}
@@ -19,9 +19,9 @@ use Rattle.tables.specs.Project.{Project}
 use Rattle.expected_order.specs.OfProject.{expectedOf}
 use Rattle.wrap_rules.specs.Rules.{fromFirst, suffixAsks}
 use Rattle.wrap_rules.specs.inner.Passes.{Passed}
-use Rattle.marks.specs.Steps.{looked, Owners, Added, Marks}
-use Rattle.marks.proofs.Steps.{set-has, owners-row, row-owners}
-use Rattle.suffix_rule.specs.inner.Suffix.{FirstIn, InSuffix, WholeSuffix, AllPlanned, Extended, sensitiveOrders, Settled, Candidates}
+use Rattle.marks.specs.Steps.{looked, Owners, Added}
+use Rattle.marks.proofs.Steps.{set-has, looked-has}
+use Rattle.suffix_rule.specs.inner.Suffix.{FirstIn, InSuffix, Joined, WholeSuffix, AllPlanned, Extended, sensitiveOrders, Settled, Candidates}
 use Rattle.wrap_rules.proofs.Monotone.{suffix-more}
 use Rattle.wrap_rules.proofs.Passes.{passed-added, passed-closed, join, pass-then}
 use Rattle.wrap_rules.proofs.Rows.{mem-at, fromFirst-places, places-fromFirst}
@@ -38,28 +38,26 @@ whole-suffix order sensitive eligible S first from f g e k l h q = go (decLt k f
         record { sensitives = h; from = from; at = k; after = omega arith; there = l; first = b .0; planned = b .1; named = refl }
 
 -- marking what stands from the first planned member on
-pub suffix-marked : (order sensitive S marks₀ marks : List ℕ) (from : ℕ) → ((m : ℕ) → has marks₀ m ≡ true → ⊥) → FirstIn sensitive S order from
-    → Owners (drop from order) (looked 0 sensitive (drop from order)) (length (drop from order)) marks₀ marks → Marks (InSuffix order sensitive S) marks
-suffix-marked order sensitive S marks₀ marks from none f o = record { only = back; all = there }
+pub suffix-marked : (order sensitive S marks₀ marks : List ℕ) (from : ℕ) → FirstIn sensitive S order from
+    → Owners (drop from order) (looked 0 sensitive (drop from order)) (length (drop from order)) marks₀ marks → Joined (InSuffix order sensitive S) marks₀ marks
+suffix-marked order sensitive S marks₀ marks from f o = record { len = o .len; old = o .old; all = there; only = λ m e. ⊎-elim inl (λ q. inr (back m (q .0) (q .1) (q .2) (q .3))) (o .only m e) }
   where
-    back : (m : ℕ) → has marks m ≡ true → InSuffix order sensitive S m
-    back m e =
-        let r = owners-row (drop from order) (drop from order) sensitive marks₀ marks none refl o m e in
-        let l : r .row + from < length order = omega (arith, r .there, length-drop from order) in
+    back : (m row : ℕ) → row < length (drop from order) → has (looked 0 sensitive (drop from order)) row ≡ true → getD (drop from order) row 0 ≡ m → InSuffix order sensitive S m
+    back m row h e q =
+        let l : row + from < length order = omega (arith, h, length-drop from order) in
         let b = f .found (omega arith) in
-        let named : getD order (from + r .row) 0 ≡ m = sym (getD-drop from order (r .row) 0) ∙ r .named in
         record {
-          sensitives = subst (λ (x : ℕ). has sensitive x ≡ true) (r .named) (r .holds);
+          sensitives = subst (λ (x : ℕ). has sensitive x ≡ true) q (sym (looked-has sensitive (drop from order) row h) ∙ e);
           from = from;
-          at = from + r .row;
+          at = from + row;
           after = omega arith;
           there = omega arith;
           first = b .0;
           planned = b .1;
-          named = named;
+          named = sym (getD-drop from order row 0) ∙ q;
         }
 
-    there : (m : ℕ) → m < length marks → InSuffix order sensitive S m → has marks m ≡ true
+    there : (m : ℕ) → m < length marks₀ → InSuffix order sensitive S m → has marks m ≡ true
     there m l i = go (decLt (i .from) from)
       where
         go : Dec (i .from < from) → has marks m ≡ true
@@ -68,8 +66,9 @@ suffix-marked order sensitive S marks₀ marks from none f o = record { only = b
             let row = i .at - from in
             let back′ : from + row ≡ i .at = omega (arith, i .after) in
             let named : getD (drop from order) row 0 ≡ m = getD-drop from order row 0 ∙ ap (λ (x : ℕ). getD order x 0) back′ ∙ i .named in
-            row-owners (drop from order) (drop from order) sensitive marks₀ marks none refl o m (omega (arith, o .len))
-            (record { row = row; there = omega (arith, length-drop from order, i .there, i .after); named = named; holds = subst (λ (x : ℕ). has sensitive x ≡ true) (sym named) (i .sensitives) })
+            let h : row < length (drop from order) = omega (arith, length-drop from order, i .there, i .after) in
+            subst (λ (x : ℕ). has marks x ≡ true) named
+            (o .new row h (looked-has sensitive (drop from order) row h ∙ subst (λ (x : ℕ). has sensitive x ≡ true) (sym named) (i .sensitives)) (subst (λ (x : ℕ). x < length marks₀) (sym named) l))
 
 -- the first that passes of those kept
 fromFirst-keep : (f g : ℕ → Bool) (xs : List ℕ) → fromFirst f (keep g xs) ≡ keep g (fromFirst (λ (x : ℕ). g x && f x) xs)

@@ -21,7 +21,7 @@ use Rattle.wrap_rules.proofs.Roots.{expected-reached}
 use Rattle.suffix_rule.specs.inner.Suffix.{sensitiveOrders, Candidates}
 
 module _ (p : Project) (ok : Accepted p) where
-  orders-are : sensitiveOrders p (sensitiveMarks p) (roots p) ≡ ordersOf p
+  pub orders-are : sensitiveOrders p (sensitiveMarks p) (roots p) ≡ ordersOf p
   unfolding sensitiveOrders ordersOf expectedSensitiveOf
   orders-are = ap (λ (f : ℕ → Bool). map (λ (root : ℕ). keep f (expectedOf p root)) (roots p)) (sensitive-marks p)
 

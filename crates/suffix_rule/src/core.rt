@@ -1,7 +1,7 @@
 // For crates above, on tested tables.
 ghost use mathlib.Core.Path.{_≡_};
 ghost use mathlib.Core.Bool.{true};
-ghost use Prim.Native.Nat.{ℕ, _≤_, _<_};
+ghost use Prim.Native.Nat.{_≤_, _<_};
 ghost use lib.ListN.{length};
 ghost use Rattle.lists.specs.Words.{has};
 ghost use Rattle.walk.specs.Close.{Bits};
@@ -10,8 +10,8 @@ ghost use Rattle.tables.specs.Accepted.{Below};
 ghost use Rattle.expected_order.specs.OfProject.{expectedOf};
 ghost use Rattle.wrap_rules.specs.inner.Passes.{Passed, Marked};
 ghost use Rattle.wrap_rules.specs.Rules.{suffixAsks};
-ghost use Rattle.marks.specs.Steps.{Added, Marks};
-ghost use Rattle.suffix_rule.specs.inner.Suffix.{FirstIn, InSuffix, WholeSuffix, Extended, sensitiveOrders, Settled, Markings, SuffixSets, Settling, SuffixPassed};
+ghost use Rattle.marks.specs.Steps.{Added};
+ghost use Rattle.suffix_rule.specs.inner.Suffix.{FirstIn, InSuffix, Joined, WholeSuffix, Extended, sensitiveOrders, Settled, Markings, SuffixSets, Settling, SuffixPassed};
 ghost use Rattle.tables.specs.Project.{Project};
 ghost use Rattle.table.specs.Table.{table, read};
 use expected_order::core::list_expected;
@@ -51,13 +51,12 @@ fn is_whole(order: &[u32], sensitive: &[u32], eligible: &[u32], plan: &[u32]) ->
     from <= first
 }
 
-// Marks the sensitive members of an order from the first planned one on.
-fn mark_suffix(order: &[u32], sensitive: &[u32], plan: &[u32], marks: &mut [u32])
+// Marks the sensitive members of an order from the first planned one on, besides what is marked.
+pub fn mark_suffix(order: &[u32], sensitive: &[u32], plan: &[u32], marks: &mut [u32])
     requires members { ⌜ Below (length (now sensitive)) (now order) ⌝ }
     requires rows { ⌜ length (now plan) ≡ length (now sensitive) ⌝ }
     requires size { ⌜ length (now marks) ≡ length (now sensitive) ⌝ }
-    requires none { ⌜ ((m : ℕ) → has (now marks) m ≡ true → ⊥) ⌝ }
-    ensures { λ _. ⌜ Marks (InSuffix (now (order .entry)) (now (sensitive .entry)) (now (plan .entry))) (now (marks .exit)) ⌝ }
+    ensures { λ _. ⌜ Joined (InSuffix (now (order .entry)) (now (sensitive .entry)) (now (plan .entry))) (now (marks .entry)) (now (marks .exit)) ⌝ }
 {
     let from = first_in(order, sensitive, plan);
     let suffix = &order[from..];

@@ -16,7 +16,7 @@ pub struct Table<'a> {
   pub columns: &'a [u32],
 }
 
-/// The number of a refusal, 1 to 6, 8 or 10. No output was changed.
+/// The number of a refusal, 1 to 6 or 8 to 10. No output was changed.
 #[derive(Clone, Copy, Debug, PartialEq, Eq)]
 pub struct Refused(pub u32);
 
@@ -30,9 +30,25 @@ fn answer(coded: u64) -> Answer {
   }
 }
 
+/// What is said of a plan that was made elsewhere.
+#[derive(Clone, Copy, Debug, PartialEq, Eq)]
+pub enum Judgement {
+  Accepted,
+  /// The first broken condition, 1 to 6 (eligible, seeds, rules (i) to (iv)), and the lowest module that is wrong or lacking.
+  Broken(u32, u32),
+}
+
+fn judgement(coded: u64) -> Result<Judgement, Refused> {
+  match coded.checked_sub(1 << 32) {
+    Some(number) => Err(Refused(number as u32)),
+    None if coded == 0 => Ok(Judgement::Accepted),
+    None => Ok(Judgement::Broken((coded >> 16) as u32, (coded & 65535) as u32)),
+  }
+}
+
 /// Declares exported functions, and beside each a safe one. A slice goes over as its pointer and its length.
 macro_rules! operations {
-  ($($(#[$about:meta])* $safe:ident = $name:ident [$($value:ident)*] [$($list:ident)*] [$($output:ident)*];)*) => {
+  ($answer:ident $result:ty; $($(#[$about:meta])* $safe:ident = $name:ident [$($value:ident)*] [$($list:ident)*] [$($output:ident)*];)*) => {
     unsafe extern "C" {
       $(fn $name(
         runtime: u32, dynamic: u32, bounds: *const u32, _: usize, columns: *const u32, _: usize,
@@ -42,9 +58,9 @@ macro_rules! operations {
 
     impl Table<'_> {
       $($(#[$about])*
-      pub fn $safe(&self, $($value: u32,)* $($list: &[u32],)* $($output: &mut [u32],)*) -> Answer {
+      pub fn $safe(&self, $($value: u32,)* $($list: &[u32],)* $($output: &mut [u32],)*) -> $result {
         // SAFETY: each pointer and length is a live slice's, and what is lent by `&mut` overlaps nothing else.
-        answer(unsafe {
+        $answer(unsafe {
           $name(
             self.runtime, self.dynamic,
             self.bounds.as_ptr(), self.bounds.len(), self.columns.as_ptr(), self.columns.len(),
@@ -57,6 +73,7 @@ macro_rules! operations {
 }
 
 operations! {
+  answer Answer;
   /// The test of the tables alone, which every other call makes first. Counts 0.
   refusal = jolmuqter_refusal [] [] [];
   /// The number of each module, and the sorted list. Counts the listed modules.
@@ -85,4 +102,10 @@ operations! {
   plan = jolmuqter_plan [] [] [plan];
   /// How many modules are eligible, how many of them are planned, and the quotient and the remainder of 1,000 times the second by the first. Counts 4.
   share = jolmuqter_share [] [] [share];
+}
+
+operations! {
+  judgement Result<Judgement, Refused>;
+  /// Whether a plan made elsewhere, 0 or 1 for each module, is accepted with these seeds, or what it breaks first.
+  check_plan = jolmuqter_check_plan [] [seeds plan] [];
 }

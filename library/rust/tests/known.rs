@@ -1,5 +1,5 @@
 //! Each function on document 01's listing, with the answers that it marks.
-use jolmuqter::{COLUMNS, MISSING, Refused, Table};
+use jolmuqter::{COLUMNS, Judgement, MISSING, Refused, Table};
 
 /// How many columns each list has.
 const WIDTHS: [usize; 14] = [8, 3, 2, 2, 2, 2, 2, 3, 2, 1, 2, 2, 2, 1];
@@ -211,6 +211,22 @@ fn plans_from_seeds() {
   assert_eq!(ask(unchanged, &[1; 16385]), Err(Refused(5)));
   assert_eq!(ask(unchanged, &[4]), Err(Refused(5)));
   assert_eq!(with(unchanged, |table| table.plan_from_seeds(&[1], &mut [9; 3])), Err(Refused(6)));
+}
+
+#[test]
+fn checks_plans() {
+  use Judgement::{Accepted, Broken};
+  let ask = |change: fn(&mut Lists), seeds: &[u32], plan: &[u32]| with(change, |table| table.check_plan(seeds, plan));
+  assert_eq!(ask(unchanged, &[2], &[0, 1, 1, 1]), Ok(Accepted));
+  assert_eq!(ask(unchanged, &[1], &[0, 1, 0, 1]), Ok(Accepted));
+  assert_eq!(ask(unchanged, &[2], &[1, 1, 1, 1]), Ok(Broken(1, 0)));
+  assert_eq!(ask(unchanged, &[2], &[0, 1, 0, 1]), Ok(Broken(2, 2)));
+  assert_eq!(ask(unchanged, &[2], &[0, 0, 1, 0]), Ok(Broken(3, 1)));
+  assert_eq!(ask(back, &[1], &[0, 1, 0, 0]), Ok(Broken(4, 2)));
+  assert_eq!(ask(unchanged, &[2], &[0, 1, 2, 1]), Err(Refused(9)));
+  assert_eq!(ask(unchanged, &[2], &[0, 1, 1, 1, 0]), Err(Refused(9)));
+  assert_eq!(ask(unchanged, &[2], &[]), Err(Refused(9)));
+  assert_eq!(ask(unchanged, &[4], &[2]), Err(Refused(5)));
 }
 
 #[test]

@@ -12,8 +12,8 @@ use Rattle.tables.specs.Accepted.{Below, Accepted}
 use Rattle.chunk_cycles.specs.Cycles.{labelsOf}
 use Rattle.sensitivity.specs.Marks.{sensitive, sensitiveMarks}
 use Rattle.eligibility.specs.Eligible.{eligible, eligibleMarks}
+use Rattle.marks.specs.Steps.{Added}
 use Rattle.wrap_rules.specs.Rules.{componentAsks}
-use Rattle.wrap_rules.specs.inner.Passes.{Passed}
 
 -- m is a member of a chunk that has the label of a planned module's chunk
 pub record Together (chunk memberChunk member labels S : List ℕ) (m : ℕ) : Type 0 where
@@ -44,6 +44,6 @@ pub record ComponentSets (p : Project) (labels sensitives eligibles : List ℕ) 
   pub sensitiveSet : sensitives ≡ sensitiveMarks p
   pub eligibleSet : eligibles ≡ eligibleMarks p
 
--- what a pass leaves
+-- what a pass leaves: just what the rule asks for with the plan as it was is added
 abbrev pub ComponentPassed : Project → List ℕ → List ℕ → Bool → Type 0
-ComponentPassed p plan plan′ changed = Passed (componentAsks (sensitive p) (eligible p) (labelsOf p) p) plan plan′ changed
+ComponentPassed p plan plan′ changed = Added (λ (m : ℕ). componentAsks (sensitive p) (eligible p) (labelsOf p) p plan m ≡ true) plan plan′ changed

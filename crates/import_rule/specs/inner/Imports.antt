@@ -11,10 +11,9 @@ use Rattle.tables.specs.Readings.{modules}
 use Rattle.tables.specs.Accepted.{Below}
 use Rattle.tables.specs.Threads.{Threads}
 use Rattle.eligibility.specs.Eligible.{eligible}
-use Rattle.marks.specs.Steps.{Row}
+use Rattle.marks.specs.Steps.{Row, Added}
 use Rattle.wrap_rules.specs.Rules.{importAsks}
 use Rattle.wrap_rules.specs.Plan.{reached}
-use Rattle.wrap_rules.specs.inner.Passes.{Passed}
 use Rattle.import_edges.specs.inner.Spread.{Along, Under, Spreads, ModuleGraph, recordTargets, EdgesOf}
 
 -- a candidate with a planned dependency and a kind 0 target that leads to the plan
@@ -45,7 +44,7 @@ pub record Edged (p : Project) (from to heads nexts : List ℕ) : Type 0 where
   pub threads : Threads to heads nexts
   pub headSize : length heads ≡ modules p
 
--- what a pass leaves
+-- what a pass leaves: just what the rule asks for with the plan as it was is added
 pub record ImportPassed (p : Project) (plan leads′ plan′ : List ℕ) (changed : Bool) : Type 0 where
   pub spreads : Spreads (recordTargets p) (p .recordModule) plan leads′
-  pub passed : Passed (importAsks (eligible p) (reached p) p) plan plan′ changed
+  pub added : Added (λ (m : ℕ). importAsks (eligible p) (reached p) p plan m ≡ true) plan plan′ changed

@@ -11,10 +11,9 @@ use Rattle.tables.specs.Project.{Project, missing}
 use Rattle.tables.specs.Refusal.{moduleLimit, rowLimit}
 use Rattle.tables.specs.Accepted.{Below}
 use Rattle.eligibility.specs.Eligible.{eligible}
-use Rattle.marks.specs.Steps.{Row}
+use Rattle.marks.specs.Steps.{Row, Added}
 use Rattle.wrap_rules.specs.Rules.{readAsks}
 use Rattle.wrap_rules.specs.Plan.{reached}
-use Rattle.wrap_rules.specs.inner.Passes.{Passed}
 
 -- a symbol's owner is planned, or a link owner in its chain
 abbrev pub ChainTouch : List ℕ → List ℕ → List ℕ → List ℕ → ℕ → Type 0
@@ -85,6 +84,6 @@ pub record Reading (reads statementModule referenceStatement referenceSymbol dep
   pub depending : Depending dependedReference depended (length referenceStatement) symbols
   pub candidate : length candidates ≡ n
 
--- what a pass leaves of a project's plan
+-- what a pass leaves of a project's plan: just what the rule asks for with the plan as it was is added
 abbrev pub ReadPassed : Project → List ℕ → List ℕ → Bool → Type 0
-ReadPassed p plan plan′ changed = Passed (readAsks (eligible p) (reached p) p) plan plan′ changed
+ReadPassed p plan plan′ changed = Added (λ (m : ℕ). readAsks (eligible p) (reached p) p plan m ≡ true) plan plan′ changed

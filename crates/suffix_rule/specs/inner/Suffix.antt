@@ -7,6 +7,7 @@ use mathlib.Core.List.{List, map, List·Memᴰ}
 use Prim.Native.Nat.{ℕ, _≤_, _<_}
 use lib.ListN.{length, getD, set}
 use Rattle.lists.specs.Words.{has, keep}
+use Rattle.walk.specs.Close.{Within}
 use Rattle.tables.specs.Project.{Project}
 use Rattle.tables.specs.Readings.{modules}
 use Rattle.tables.specs.Accepted.{Accepted}
@@ -34,6 +35,13 @@ pub record InSuffix (order sensitive S : List ℕ) (m : ℕ) : Type 0 where
   pub first : has sensitive (getD order from 0) ≡ true
   pub planned : has S (getD order from 0) ≡ true
   pub named : getD order at 0 ≡ m
+
+-- t is s with those places of which f holds
+pub record Joined (f : ℕ → Type 0) (s t : List ℕ) : Type 0 where
+  pub len : length t ≡ length s
+  pub old : Within s t
+  pub all : (m : ℕ) → m < length s → f m → has t m ≡ true
+  pub only : (m : ℕ) → has t m ≡ true → (has s m ≡ true) ⊎ f m
 
 -- no sensitive eligible member stands before the suffix
 unfoldable pub WholeSuffix : List ℕ → List ℕ → List ℕ → List ℕ → Type 0

@@ -46,7 +46,7 @@ returns c =
     let p = of e in
     let sets = e .pre .0 in
     let plan = e .args .plan .now in
-    component-pass p (sets .accepted) plan (e .pre .1 .bits)
+    component-pass p (sets .accepted) plan
     (given5 (λ chunk memberChunk labels sensitives eligibles. Added (λ (m : ℕ). Together chunk memberChunk (p .member) labels plan m × (has sensitives m ≡ true) × (has eligibles m ≡ true)) plan (call .close-cyclic-chunk-members .last .1 .1 .1 .1 .1 .1 .0) (call .close-cyclic-chunk-members .result))
     (k .before .column .ensures) (k .column2 .ensures) (sets .label) (sets .sensitiveSet) (sets .eligibleSet) (call .close-cyclic-chunk-members .ensures))
 

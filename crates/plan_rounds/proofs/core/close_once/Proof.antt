@@ -7,7 +7,8 @@ use Rattle.wrap_rules.specs.inner.Passes.{Marked, CandidateSet}
 use Rattle.plan_rounds.specs.inner.Rounds.{Once}
 use Rattle.wrap_rules.proofs.Sets.{marked-more}
 use Rattle.import_rule.proofs.OfProject.{leading-more}
-use Rattle.plan_rounds.proofs.Rounds.{once}
+use Rattle.wrap_rules.specs.Plan.{componentRule, importRule}
+use Rattle.plan_rounds.proofs.Rounds.{once, rule-passed}
 use borrow.Author.Needs.{needs}
 use Rattle.plan_rounds.proofs.core.close_once.Statement.{statement}
 use Rattle.plan_rounds.proofs.core.close_once.Tie as tie
@@ -38,7 +39,7 @@ marked1 : (k : tie.After-pass-suffixes) → Marked (of (entry k)) (k .pass-suffi
 marked1 k = marked-more (entry k .pre .1 .marked) (k .pass-suffixes .ensures .passed)
 
 marked2 : (k : tie.After-pass-members) → Marked (of (entry (first k))) (k .pass-members .last .1 .1 .1 .1 .1 .1 .1 .1 .1 .1 .1 .1 .0)
-marked2 k = marked-more (marked1 (first k)) (k .pass-members .ensures)
+marked2 k = marked-more (marked1 (first k)) (rule-passed (of (entry (first k))) componentRule (marked1 (first k) .bits) (k .pass-members .ensures))
 
 -- the four passes together
 done : (k : tie.After-pass-readers) → let three = third k in let two = second three in let one = first two in let e = entry one in
@@ -62,12 +63,12 @@ pass-importers-requires : tie.Need-pass-importers-requires
 pass-importers-requires c κs =
     let k = c .before .before .before .before in
     let e = entry (first k) in
-    (candidate e, (e .pre .0 .edged, (marked2 k, leading-more (leading-more (e .pre .1 .leading) (first k .pass-suffixes .ensures .passed)) (k .pass-members .ensures))))
+    (candidate e, (e .pre .0 .edged, (marked2 k, leading-more (leading-more (e .pre .1 .leading) (first k .pass-suffixes .ensures .passed)) (rule-passed (of (entry (first k))) componentRule (marked1 (first k) .bits) (k .pass-members .ensures)))))
 
 pass-readers-requires : tie.Need-pass-readers-requires
 pass-readers-requires c κs =
     let k = c .before .before .before .before .before in
-    (candidate (entry (first (second k))), marked-more (marked2 (second k)) (k .pass-importers .ensures .passed))
+    (candidate (entry (first (second k))), marked-more (marked2 (second k)) (rule-passed (of (entry (first (second k)))) importRule (marked2 (second k) .bits) (k .pass-importers .ensures .added)))
 
 returns : tie.Need-returns
 returns c = done (c .before .before)

@@ -43,7 +43,7 @@ returns c =
     let p = of e in
     let sets = e .pre .0 in
     let plan = e .args .plan .now in
-    read-pass p (sets .accepted) plan (e .pre .1 .bits)
+    read-pass p (sets .accepted) plan
     (given11 (λ reads statementModule owner canonical chainSymbol chainLink referenceStatement referenceSymbol dependedReference depended candidates. Added (TopLevelRead reads statementModule owner canonical chainSymbol chainLink referenceStatement referenceSymbol dependedReference depended candidates plan) plan (call .close-top-level-readers .last .1 .1 .1 .1 .1 .1 .1 .1 .1 .1 .1 .0) (call .close-top-level-readers .result))
     (k .before .before .before .before .before .before .before .before .before .column .ensures) (k .before .before .before .before .before .before .before .before .column2 .ensures) (k .before .before .before .before .before .before .before .column3 .ensures) (k .before .before .before .before .before .before .column4 .ensures) (k .before .before .before .before .before .column5 .ensures) (k .before .before .before .before .column6 .ensures) (k .before .before .before .column7 .ensures) (k .before .before .column8 .ensures) (k .before .column9 .ensures) (k .column10 .ensures) (sets .candidateSet) (call .close-top-level-readers .ensures))
 

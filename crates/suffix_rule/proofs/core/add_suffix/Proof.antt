@@ -2,11 +2,12 @@
 -- Assumes nothing.
 use Prim.Native.Nat.{ℕ, _<_}
 use mathlib.Core.Path.{sym, subst, _∙_}
+use mathlib.Core.Logic.{⊎-elim}
 use mathlib.Core.List.{List}
 use native.Mathlib.Omega.{arith}
 use lib.ListN.{length, getD}
 use Rattle.marks.specs.Steps.{Added, InAll}
-use Rattle.marks.proofs.Parts.{Lent, part-none, part-length, made-length, view-room, view-is, view-length}
+use Rattle.marks.proofs.Parts.{Lent, part-none, part-length, view-room, view-is, view-length}
 use Rattle.marks.proofs.Steps.{added-cong}
 use borrow.Author.Needs.{needs}
 use Rattle.suffix_rule.proofs.core.add_suffix.Statement.{statement}
@@ -31,7 +32,7 @@ mark-suffix-requires : tie.Need-mark-suffix-requires
 mark-suffix-requires c κs =
     let e = c .before .before .before .before .before .before in
     let p = e .pre in
-    (λ i l. subst (λ (n : ℕ). getD (e .args .order .now) i 0 < n) (sym (p .1 .0)) (p .0 i l), (sym (p .1 .0), (part-length 4096 (size e) (p .1 .1 .1) ∙ sym (p .1 .0), part-none 4096 (size e))))
+    (λ i l. subst (λ (n : ℕ). getD (e .args .order .now) i 0 < n) (sym (p .1 .0)) (p .0 i l), (sym (p .1 .0), part-length 4096 (size e) (p .1 .1 .1) ∙ sym (p .1 .0)))
 
 array-share-prefix-marks : tie.Need-array-share-prefix-marks
 array-share-prefix-marks c = view-room (lent (c .before))
@@ -47,12 +48,13 @@ same-length c = search needs
 
 returns : tie.Need-returns
 returns c =
-    let a = c .before .before .before .before .before .before .before .before .before .before .before .before .before .args in
+    let e = c .before .before .before .before .before .before .before .before .before .before .before .before .before in
+    let a = e .args in
     let k = c .before .before .before .before .before .before in
     let o = c .before .before .add in
     added-cong (InAll (marks k) (a .eligible .now) (a .eligible .now)) _
-    (λ m l h. (k .mark-suffix .ensures .all m (omega (arith, made-length (lent k))) (h .0), h .1, h .1))
-    (λ m h. (k .mark-suffix .ensures .only m (h .0), h .1))
+    (λ m l h. (k .mark-suffix .ensures .all m (omega (arith, part-length 4096 (size e) (e .pre .1 .1 .1))) (h .0), h .1, h .1))
+    (λ m h. (⊎-elim (λ q. absurd (part-none 4096 (size e) m q)) (λ q. q) (k .mark-suffix .ensures .only m (h .0)), h .1))
     (subst (λ (s : List ℕ). Added (InAll s (a .eligible .now) (a .eligible .now)) (a .plan .now) (o .last .1 .1 .1 .0) (o .result)) (view-is (lent k)) (o .ensures))
 
 pub add-suffix-spec : {M : Type 1} → statement M

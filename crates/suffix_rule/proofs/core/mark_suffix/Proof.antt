@@ -32,7 +32,7 @@ mark-owners-requires c κs =
     let f = c .before .before .first-in .result in
     let order = e .args .order .now in
     let below : (n : ℕ) → Below n order → Below n (take (length order - f) (drop f order)) = λ n b. subst (Below n) (sym (take-rest f order)) (below-drop n f order b) in
-    (refl, (below (length (e .args .sensitive .now)) (e .pre .0), below (length (e .args .marks .now)) (subst (λ (n : ℕ). Below n order) (sym (e .pre .1 .1 .0)) (e .pre .0))))
+    (refl, (below (length (e .args .sensitive .now)) (e .pre .0), below (length (e .args .marks .now)) (subst (λ (n : ℕ). Below n order) (sym (e .pre .1 .1)) (e .pre .0))))
 
 same-length : tie.Need-same-length
 same-length c = search needs
@@ -42,7 +42,7 @@ returns c =
     let a = c .before .before .before .before .before .before .before .before .before .before .args in
     let f = c .before .before .before .before .before .first-in in
     let o = c .before .before .mark-owners in
-    suffix-marked (a .order .now) (a .sensitive .now) (a .plan .now) (a .marks .now) (o .last .1 .1 .1 .0) (f .result) (c .before .before .before .before .before .before .before .before .before .before .pre .1 .1 .1) (f .ensures)
+    suffix-marked (a .order .now) (a .sensitive .now) (a .plan .now) (a .marks .now) (o .last .1 .1 .1 .0) (f .result) (f .ensures)
     (subst (λ (xs : List ℕ). Owners xs (looked 0 (a .sensitive .now) xs) (length xs) (a .marks .now) (o .last .1 .1 .1 .0)) (take-rest (f .result) (a .order .now)) (o .ensures))
 
 pub mark-suffix-spec : {M : Type 1} → statement M

@@ -1,0 +1,3 @@
+-- What is said of a plan that was made elsewhere.
+pub mod Promise
+pub mod inner

@@ -1,0 +1,2 @@
+-- `Copies`: a copy of a plan, and what a rule adds to it.
+pub mod Copies

@@ -1,0 +1,2 @@
+-- What a plan lacks by the rules.
+pub mod inner
