@@ -1,0 +1,2 @@
+-- Requests as a graph.
+pub mod inner

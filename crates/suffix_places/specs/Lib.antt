@@ -1,0 +1,2 @@
+-- Rule (i) for a list of modules.
+pub mod inner

@@ -1,0 +1,2 @@
+-- One taking.
+pub mod inner

@@ -1,0 +1,2 @@
+-- A worklist between two takings, at a project.
+pub mod inner

@@ -1,0 +1,1 @@
+// No code: what holds of a worklist between two takings, and that a step keeps it.
