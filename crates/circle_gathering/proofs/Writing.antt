@@ -77,6 +77,16 @@ module _ (circles : List (List ℕ)) (paths lengths : List ℕ) where
   pub lengths-short : length lengths < length circles → Gathered circles paths lengths (Refused 8) paths lengths
   lengths-short h = short (ap (λ (b : Bool). cond b 0 8) (and-out (leb (length (joined circles)) (length paths)) (leb (length circles) (length lengths)) (lt-leb (length circles) (length lengths) h)))
 
+  -- there is none
+  pub none-there : length circles ≡ 0 → Gathered circles paths lengths (Counted 0) paths lengths
+  none-there e = go circles e
+    where
+      go : (l : List (List ℕ)) → length l ≡ 0 → Gathered l paths lengths (Counted 0) paths lengths
+      go [] z =
+          let q : 0 ≡ roomNumber [] (length paths) (length lengths) = sym (ap (λ (x : Bool). cond x 0 8) (and-join (leb 0 (length paths)) (leb 0 (length lengths)) (le-leb 0 (length paths) (omega arith)) (le-leb 0 (length lengths) (omega arith)))) in
+          record { answered = ap (λ (v : ℕ). answer v 0) q; listed = ap (λ (v : ℕ). after v paths []) q; measured = ap (λ (v : ℕ). after v lengths []) q }
+      go (x ∷ l) z = absurd (omega arith)
+
   pub both-fit : {paths′ lengths′ : List ℕ} {count used r : ℕ} → length (joined circles) ≤ length paths → length circles ≤ length lengths → r ≡ length circles
       → listed paths′ lengths′ count used ≡ foldl write (listed paths lengths 0 0) circles → Gathered circles paths lengths (Counted r) paths′ lengths′
   both-fit {r = r} a b c e =

@@ -107,6 +107,9 @@ fn write_circles<'a>(
     );
     let count = found.count;
     let used = found.used;
+    if count == 0 {
+        return Answer::Counted(0);
+    }
     if paths.len() < used {
         return Answer::Refused(8);
     }

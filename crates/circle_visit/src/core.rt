@@ -71,6 +71,9 @@ pub fn meet<'a>(
         if t == ModuleIdx::MISSING {
             continue;
         }
+        if states[t as usize] == 2 {
+            continue;
+        }
         so_far = meet(
             starts,
             led,

@@ -1,11 +1,12 @@
 -- `circle_gathering::core::write_circles` meets its contract: the first search counts, and the second writes.
 -- Assumes nothing.
+use mathlib.Core.Path.{sym, _∙_}
 use mathlib.Core.List.{List, [], _∷_}
 use Prim.Native.Nat.{ℕ}
 use native.Mathlib.Omega.{arith}
 use Rattle.circle_search.specs.Circles.{circles}
 use Rattle.circle_visit.specs.Visit.{ledBy}
-use Rattle.circle_gathering.proofs.Writing.{counted-all, used-all, paths-short, lengths-short, both-fit}
+use Rattle.circle_gathering.proofs.Writing.{none-there, counted-all, used-all, paths-short, lengths-short, both-fit}
 use borrow.Author.Needs.{needs}
 use Rattle.circle_gathering.proofs.core.write_circles.Statement.{statement}
 use Rattle.circle_gathering.proofs.core.write_circles.Tie as tie
@@ -34,14 +35,17 @@ search-circles-requires c κs = search needs
 returns : tie.Need-returns
 returns c =
     let a = c .before .before .before .before .before .before .before .before .before .before .before .args in
-    let k = c .before .before .before in
-    paths-short (found (c .before .before .before .before .before .before .before .before .before .before .before)) (a .paths .now) (a .lengths .now) (omega (arith, c .if1 .taken, used-all (found (c .before .before .before .before .before .before .before .before .before .before .before)) [] [] (k .search-circles .ensures)))
+    none-there (found (c .before .before .before .before .before .before .before .before .before .before .before)) (a .paths .now) (a .lengths .now) (sym (counted-all (found (c .before .before .before .before .before .before .before .before .before .before .before)) [] [] (c .before .before .before .search-circles .ensures)) ∙ c .if1 .taken)
 
 returns-2 : tie.Need-returns-2
 returns-2 c =
     let a = c .before .before .before .before .before .before .before .before .before .before .before .before .args in
-    let k = c .before .before .before .before in
-    lengths-short (found (c .before .before .before .before .before .before .before .before .before .before .before .before)) (a .paths .now) (a .lengths .now) (omega (arith, c .if2 .taken, counted-all (found (c .before .before .before .before .before .before .before .before .before .before .before .before)) [] [] (k .search-circles .ensures)))
+    paths-short (found (c .before .before .before .before .before .before .before .before .before .before .before .before)) (a .paths .now) (a .lengths .now) (omega (arith, c .if2 .taken, used-all (found (c .before .before .before .before .before .before .before .before .before .before .before .before)) [] [] (c .before .before .before .before .search-circles .ensures)))
+
+returns-3 : tie.Need-returns-3
+returns-3 c =
+    let a = c .before .before .before .before .before .before .before .before .before .before .before .before .before .args in
+    lengths-short (found (c .before .before .before .before .before .before .before .before .before .before .before .before .before)) (a .paths .now) (a .lengths .now) (omega (arith, c .if3 .taken, counted-all (found (c .before .before .before .before .before .before .before .before .before .before .before .before .before)) [] [] (c .before .before .before .before .before .search-circles .ensures)))
 
 search-circles-requires-2 : tie.Need-search-circles-requires-2
 search-circles-requires-2 c κs = search needs
@@ -52,15 +56,15 @@ same-length c = search needs
 same-length-2 : tie.Need-same-length-2
 same-length-2 c = search needs
 
-returns-3 : tie.Need-returns-3
-returns-3 c =
-    let a = c .before .before .before .before .before .before .before .before .before .before .before .before .before .before .before .before .before .before .before .args in
-    let k = c .before .before .before .before .before .before .before .before .before .before .before in
+returns-4 : tie.Need-returns-4
+returns-4 c =
+    let a = c .before .before .before .before .before .before .before .before .before .before .before .before .before .before .before .before .before .before .before .before .args in
+    let k = c .before .before .before .before .before .before .before .before .before .before .before .before in
     let v = c .before .before .before .before .search-circles2 in
-    both-fit (found (c .before .before .before .before .before .before .before .before .before .before .before .before .before .before .before .before .before .before .before)) (a .paths .now) (a .lengths .now) {paths′ = v .last .1 .1 .1 .0} {lengths′ = v .last .1 .1 .1 .1 .0} {count = v .result .count} {used = v .result .used}
-    (omega (arith, c .before .before .before .before .before .before .before .before .if1 .left, used-all (found (c .before .before .before .before .before .before .before .before .before .before .before .before .before .before .before .before .before .before .before)) [] [] (k .search-circles .ensures)))
-    (omega (arith, c .before .before .before .before .before .before .before .if2 .left, counted-all (found (c .before .before .before .before .before .before .before .before .before .before .before .before .before .before .before .before .before .before .before)) [] [] (k .search-circles .ensures)))
-    (counted-all (found (c .before .before .before .before .before .before .before .before .before .before .before .before .before .before .before .before .before .before .before)) [] [] (k .search-circles .ensures)) (v .ensures)
+    both-fit (found (c .before .before .before .before .before .before .before .before .before .before .before .before .before .before .before .before .before .before .before .before)) (a .paths .now) (a .lengths .now) {paths′ = v .last .1 .1 .1 .0} {lengths′ = v .last .1 .1 .1 .1 .0} {count = v .result .count} {used = v .result .used}
+    (omega (arith, c .before .before .before .before .before .before .before .before .if2 .left, used-all (found (c .before .before .before .before .before .before .before .before .before .before .before .before .before .before .before .before .before .before .before .before)) [] [] (k .search-circles .ensures)))
+    (omega (arith, c .before .before .before .before .before .before .before .if3 .left, counted-all (found (c .before .before .before .before .before .before .before .before .before .before .before .before .before .before .before .before .before .before .before .before)) [] [] (k .search-circles .ensures)))
+    (counted-all (found (c .before .before .before .before .before .before .before .before .before .before .before .before .before .before .before .before .before .before .before .before)) [] [] (k .search-circles .ensures)) (v .ensures)
 
 pub write-circles-spec : {M : Type 1} → statement M
 write-circles-spec =
@@ -73,7 +77,8 @@ write-circles-spec =
     search-circles-requires
     returns
     returns-2
+    returns-3
     search-circles-requires-2
     same-length
     same-length-2
-    returns-3)
+    returns-4)

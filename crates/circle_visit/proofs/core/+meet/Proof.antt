@@ -253,12 +253,43 @@ meet-loop-again t c =
       l .loop .inv .4,
     )
 
+meet-cast-if4 : (t : ℕ) → meet-lts.Need-cast-if4 (cl t) (meet-at t) meet.Post meet-Inv-loop meet-μ-loop
+meet-cast-if4 t c = omega (arith, target-in t (c .before .before) (c .if3 .left), states-len t (c .before .before .before), leads t (from-loop t (c .before .before .before)) .few)
+
+meet-mul-if4 : (t : ℕ) → meet-lts.Need-mul-if4 (cl t) (meet-at t) meet.Post meet-Inv-loop meet-μ-loop
+meet-mul-if4 t c = omega (arith, target-in t (c .before .before) (c .if3 .left), states-len t (c .before .before .before), leads t (from-loop t (c .before .before .before)) .few)
+
+meet-slice-read-if4 : (t : ℕ) → meet-lts.Need-slice-read-if4 (cl t) (meet-at t) meet.Post meet-Inv-loop meet-μ-loop
+meet-slice-read-if4 t c = target-in t (c .before .before .before) (c .before .if3 .left)
+
+meet-add-row-2 : (t : ℕ) → meet-lts.Need-add-row-2 (cl t) (meet-at t) meet.Post meet-Inv-loop meet-μ-loop
+meet-add-row-2 t c = omega (arith, row-fits t (c .before .before .before .before))
+
+meet-loop-less-2 : (t : ℕ) → meet-lts.Need-loop-less-2 (cl t) (meet-at t) meet.Post meet-Inv-loop meet-μ-loop
+meet-loop-less-2 t c = omega (arith, c .before .before .before .before .loop-test .taken)
+
+meet-loop-again-2 : (t : ℕ) → meet-lts.Need-loop-again-2 (cl t) (meet-at t) meet.Post meet-Inv-loop meet-μ-loop
+meet-loop-again-2 t c =
+    let d = c .before .before in
+    let l = d .before .before .before in
+    let e = from-loop t l in
+    let a = e .args in
+    let x = getD (a .led .now) (l .loop .row) 0 in (
+      going-found (ledBy (a .starts .now) (a .led .now)) write (ledRow (a .led .now)) (first t e) (begun t e) (l .loop .inv .0) (unless-one x (ne-eqb _ _ (d .if3 .left)))
+          (done-met (ledBy (a .starts .now) (a .led .now)) write (held (l .loop .states) (l .loop .stack) (a .depth + 1) (l .loop .paths) (l .loop .lengths) (l .loop .so-far .count) (l .loop .so-far .used)) x
+          (fresh-not (l .loop .states) x (λ z. omega (arith, z, c .if4 .taken))) (ne-eqb (getD (l .loop .states) x 0) 1 (λ z. omega (arith, z, c .if4 .taken)))),
+      omega (arith, c .before .before .before .before .loop-test .taken),
+      l .loop .inv .2,
+      l .loop .inv .3,
+      l .loop .inv .4,
+    )
+
 meet-add-meet : (t : ℕ) → meet-lts.Need-add-meet (cl t) (meet-at t) meet.Post meet-Inv-loop meet-μ-loop
-meet-add-meet t c = let e = from-loop t (c .before .before .before .before .before .before .before) in omega (arith, placed t (c .before .before .before .before .before .before .before .before .before .before), room t e .places, leads t e .few)
+meet-add-meet t c = let e = from-loop t (c .before .before .before .before .before .before .before .before .before) in omega (arith, placed t (c .before .before .before .before .before .before .before .before .before .before .before .before), room t e .places, leads t e .few)
 
 meet-meet-requires : (t : ℕ) → meet-lts.Need-meet-requires (cl t) (meet-at t) meet.Post meet-Inv-loop meet-μ-loop
 meet-meet-requires t c κs =
-    let q = c .before .before .before .before .before .before in
+    let q = c .before .before .before .before .before .before .before .before in
     let l = q .before in
     let e = from-loop t l in
     let a = e .args in (
@@ -266,22 +297,22 @@ meet-meet-requires t c κs =
       (
         subst (Leads (a .starts .now) (a .led .now)) (sym (states-len t l)) (leads t e),
         (
-          target-in t q (c .before .before .before .before .if3 .left),
+          target-in t q (c .before .before .before .before .before .before .if3 .left),
           again-at t l (omega (arith, rows-few (a .led .now) (first t e) (l .loop .row - first t e), row-below t q, leads t e .rows)),
         ),
       ),
     )
 
-meet-add-row-2 : (t : ℕ) → meet-lts.Need-add-row-2 (cl t) (meet-at t) meet.Post meet-Inv-loop meet-μ-loop
-meet-add-row-2 t c = omega (arith, row-fits t (c .before .before .before .before .before .before .before .before .before .before .before .before .before .before .before))
+meet-add-row-3 : (t : ℕ) → meet-lts.Need-add-row-3 (cl t) (meet-at t) meet.Post meet-Inv-loop meet-μ-loop
+meet-add-row-3 t c = omega (arith, row-fits t (c .before .before .before .before .before .before .before .before .before .before .before .before .before .before .before .before .before))
 
-meet-loop-less-2 : (t : ℕ) → meet-lts.Need-loop-less-2 (cl t) (meet-at t) meet.Post meet-Inv-loop meet-μ-loop
-meet-loop-less-2 t c = search needs
+meet-loop-less-3 : (t : ℕ) → meet-lts.Need-loop-less-3 (cl t) (meet-at t) meet.Post meet-Inv-loop meet-μ-loop
+meet-loop-less-3 t c = search needs
 
-meet-loop-again-2 : (t : ℕ) → meet-lts.Need-loop-again-2 (cl t) (meet-at t) meet.Post meet-Inv-loop meet-μ-loop
-meet-loop-again-2 t c =
+meet-loop-again-3 : (t : ℕ) → meet-lts.Need-loop-again-3 (cl t) (meet-at t) meet.Post meet-Inv-loop meet-μ-loop
+meet-loop-again-3 t c =
     let v = c .before .before .before .before .before .before .before .before in
-    let d = v .before .before .before .before .before in
+    let d = v .before .before .before .before .before .before .before in
     let l = d .before .before .before in
     let e = from-loop t l in
     let a = e .args in (
@@ -353,11 +384,17 @@ pub +meet-spec : {M : Type 1} → statement M
     (meet-add-row t)
     (meet-loop-less t)
     (meet-loop-again t)
-    (meet-add-meet t)
-    (meet-meet-requires t)
+    (meet-cast-if4 t)
+    (meet-mul-if4 t)
+    (meet-slice-read-if4 t)
     (meet-add-row-2 t)
     (meet-loop-less-2 t)
     (meet-loop-again-2 t)
+    (meet-add-meet t)
+    (meet-meet-requires t)
+    (meet-add-row-3 t)
+    (meet-loop-less-3 t)
+    (meet-loop-again-3 t)
     (meet-mul-states-2 t)
     (meet-slice-write-states-2 t)
     (meet-same-length-4 t)
