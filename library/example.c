@@ -11,7 +11,7 @@ int main(void) {
                                              42, 42, 42, 42, 42, 42, 42, 42, 42, 42, 42, 42, 42, /* six lists without a row */ 42, /* order */
                                              44, 48, /* members */ 52, 53, /* imports */ 54, 55, /* entries */ 56, /* seeds */ 56};
   uint32_t plan[4];
-  uint64_t answer = jolmuqter_plan(0, 0, bounds, JOLMUQTER_BOUNDS, columns, sizeof columns / 4, plan, 4);
+  uint64_t answer = jolmuqter_plan(0, 0, bounds, JOLMUQTER_BOUNDS, columns, sizeof columns / 4, JOLMUQTER_NO_NAMES, plan, 4);
   if (answer >= JOLMUQTER_REFUSED) return printf("refused %d\n", (int)(answer - JOLMUQTER_REFUSED)), 1;
   printf("%d modules to wrap:", (int)answer);
   for (int module = 0; module < 4; module++) if (plan[module]) printf(" %d", module);

@@ -1,7 +1,7 @@
 /* The order planner's operations, from target/staticlib/libjolmuqter.a (`rt staticlib jolmuqter`, x86-64 Linux).
  *
  * A slice is a pointer and a length in elements, in this order; a pointer is aligned and isn't null, even where the length is 0. Outputs overlap
- * neither each other nor the inputs. A call uses less than 2 MiB of stack (measured: up to 1.96 MiB), keeps nothing, and may run
+ * neither each other nor the inputs. A call uses less than 2 MiB of stack (measured: up to 1.89 MiB), keeps nothing, and may run
  * in several threads at once.
  *
  * Inputs of every call:
@@ -10,6 +10,8 @@
  *   columns   the 34 columns of the lists below one after the other, list by list in this order
  *   bounds    35 places: where each column starts in `columns`, and where the last ends. The first is 0, none is below the one before, and the last is
  *             the length of `columns`. The columns of a list have as many values as it has rows.
+ *   names     the modules' names in bytes, a line a module, each line 1 to 64 bytes of 33 to 126 and then an LF (10); `~` at the start of a line stands for
+ *             byte 0. Or no byte at all, JOLMUQTER_NO_NAMES: a project without names.
  *
  *   modules        normal (1, external 0), included, sensitive, reads (0 or 1 each), exports (0 None, 1 Esm, 2 CommonJs),
  *                  wrap (0 None, 1 Cjs, 2 Esm), chunk or the mark,
@@ -28,21 +30,23 @@
  *   entries        module, chunk or the mark
  *   seeds          module                                                          0 to 16,384 rows, as any list with no other limit
  *
- * Record targets and dependencies are read through `newer` until a module without one is reached; all else is read as written.
+ * Record targets and dependencies are read through `newer` until a module without one is reached. In actual order, order risk, whole analysis and share the
+ * members of a project with names are read as jolmuqter_sort_chunk_modules arranges them. All else is read as written.
  *
  * Rows count from 0. The mark, JOLMUQTER_MISSING, stands for a value that is missing.
  *
  * Answers: below 2^32 the count, and the outputs are written from place 0; places past what is written stay as they were. Else 2^32 plus the
  * number of a refusal, and no output is changed; the first number that applies, in this order:
- *   1  bounds that don't fit, a list over its limit, columns of one list that differ in length, or no module
- *   2  a value outside its column
+ *   1  bounds that don't fit, a list over its limit, over 16,384 lines of names, columns of one list that differ in length, or no module
+ *   2  a value outside its column, or names that break the form; for the arrangement no name at all too
  *   3  records, statements, members or imports not sorted by their first column
  *   4  an external with a record or a statement; a use of another module's record; a depended row for form 0 or 1; form 0 or 1 without a symbol;
  *      an entry or an import pair twice
  *  10  a `newer` that is neither the mark nor a later module row (2 isn't given for it)
  *   5  a root, entry, chunk or seed without a row, a root for risk or actual order that isn't an analysed entry (included, with a chunk), or over
  *      16,384 seeds
- *   6  an output that is too short: every output needs a place for each module, labels one for each chunk, a share four
+ *   6  an output that is too short: every output needs a place for each module, labels one for each chunk, the
+ *      arrangement one for each member row, a share four
  *   8  for the circles alone, in the place of 6: paths or lengths too short for all paths
  *   9  a plan that isn't one mark for each module, or holds a mark other than 0 and 1; after 5, before 6
  */
@@ -56,8 +60,10 @@
 #define JOLMUQTER_BOUNDS 35
 #define JOLMUQTER_CONDITION(answer) ((uint32_t)((answer) >> 16))
 #define JOLMUQTER_MODULE(answer) ((uint32_t)((answer) & 65535))
+#define JOLMUQTER_NO_NAMES (const uint8_t *)"", 0
 #define JOLMUQTER_TABLE                                                                                                \
-  uint32_t runtime, uint32_t dynamic, const uint32_t *bounds, size_t bounds_len, const uint32_t *columns, size_t columns_len
+  uint32_t runtime, uint32_t dynamic, const uint32_t *bounds, size_t bounds_len, const uint32_t *columns, size_t columns_len,   \
+      const uint8_t *names, size_t names_len
 
 #ifdef __cplusplus
 extern "C" {
@@ -82,6 +88,11 @@ uint64_t jolmuqter_entries_order(JOLMUQTER_TABLE, const uint32_t *entries, size_
 
 /* order: the actual order of an analysed entry. hosts: a place a module, the mark where none is noted. Count: that of listed modules. */
 uint64_t jolmuqter_actual_order(JOLMUQTER_TABLE, uint32_t root, uint32_t *order, size_t order_len, uint32_t *hosts, size_t hosts_len);
+
+/* members: the members of each chunk as rolldown's `sort_chunk_modules` arranges them, at the chunk's member rows. First come modules whose names begin with
+ * `rolldown:` or with byte 0 and `rolldown/`, by their number from the sort; then normal modules without records and without the sensitive flag, by name;
+ * then the others by number; ties by the lower row. Count: that of member rows. */
+uint64_t jolmuqter_sort_chunk_modules(JOLMUQTER_TABLE, uint32_t *members, size_t members_len);
 
 /* labels: a place a chunk, the lowest chunk row of its cyclic component, else the mark. Count: that of cyclic chunks. */
 uint64_t jolmuqter_labels(JOLMUQTER_TABLE, uint32_t *labels, size_t labels_len);

@@ -31,8 +31,10 @@ typedef struct {
   uint32_t bounds[JOLMUQTER_BOUNDS], *columns;
   size_t length;
   int next;
+  const uint8_t *names;
+  size_t names_length;
 } Table;
-#define TABLE(t) 0, 0, (t).bounds, JOLMUQTER_BOUNDS, (t).columns, (t).length
+#define TABLE(t) 0, 0, (t).bounds, JOLMUQTER_BOUNDS, (t).columns, (t).length, (t).names, (t).names_length
 
 static void column(Table *t, const uint32_t *values, size_t n) {
   t->columns = realloc(t->columns, (t->length + n + 1) * sizeof *values);
@@ -49,7 +51,7 @@ static void empty(Table *t, int columns) {
 
 /* Document 01's listing, with other `normal` and `newer` values and imports. */
 static Table replaced(const uint32_t normal[4], const uint32_t newer[4], const uint32_t *from, const uint32_t *to, size_t imports) {
-  Table t = {{0}, NULL, 0, 0};
+  Table t = {{0}, NULL, 0, 0, JOLMUQTER_NO_NAMES};
   column(&t, normal, 4);
   COLUMN(&t, 1, 1, 1, 1), COLUMN(&t, 0, 1, 1, 1), COLUMN(&t, 0, 0, 0, 0);
   COLUMN(&t, 1, 1, 1, 1), COLUMN(&t, 0, 0, 0, 0), COLUMN(&t, 1, 0, 0, 1);
@@ -70,6 +72,12 @@ static Table listing(const uint32_t normal[4], const uint32_t *from, const uint3
   return replaced(normal, LIST(NO, NO, NO, NO), from, to, imports);
 }
 
+/* The same table with names. */
+static Table named(Table t, const char *names) {
+  t.names = (const uint8_t *)names, t.names_length = strlen(names);
+  return t;
+}
+
 static void answers(void) {
   const uint32_t *normal = LIST(1, 1, 1, 1);
   Table t = listing(normal, LIST(0), LIST(1), 1);
@@ -81,17 +89,17 @@ static void answers(void) {
   uint32_t a[5] = {9, 9, 9, 9, 9}, b[5] = {9, 9, 9, 9, 9};
 
   EXPECT(jolmuqter_refusal(TABLE(t)), 0);
-  EXPECT(jolmuqter_refusal(0, 0, t.bounds, 34, t.columns, t.length), REFUSED(1));
-  EXPECT(jolmuqter_refusal(0, 0, t.bounds, 35, t.columns, t.length - 1), REFUSED(1));
-  EXPECT(jolmuqter_refusal(0, 0, t.bounds, 35, t.columns, t.length + 1), REFUSED(1));
-  EXPECT(jolmuqter_refusal(0, 0, t.bounds + 1, 34, t.columns, t.length), REFUSED(1));
+  EXPECT(jolmuqter_refusal(0, 0, t.bounds, 34, t.columns, t.length, JOLMUQTER_NO_NAMES), REFUSED(1));
+  EXPECT(jolmuqter_refusal(0, 0, t.bounds, 35, t.columns, t.length - 1, JOLMUQTER_NO_NAMES), REFUSED(1));
+  EXPECT(jolmuqter_refusal(0, 0, t.bounds, 35, t.columns, t.length + 1, JOLMUQTER_NO_NAMES), REFUSED(1));
+  EXPECT(jolmuqter_refusal(0, 0, t.bounds + 1, 34, t.columns, t.length, JOLMUQTER_NO_NAMES), REFUSED(1));
   Table uneven = listing(normal, LIST(0), LIST(1), 1);
   uneven.bounds[30]++; /* two rows of importing chunks, none of imported ones */
   EXPECT(jolmuqter_refusal(TABLE(uneven)), REFUSED(1));
   uneven.bounds[30] = 0; /* below the bound before */
   EXPECT(jolmuqter_refusal(TABLE(uneven)), REFUSED(1));
-  EXPECT(jolmuqter_refusal(4, 0, t.bounds, 35, t.columns, t.length), REFUSED(2));
-  EXPECT(jolmuqter_refusal(0, 2, t.bounds, 35, t.columns, t.length), REFUSED(2));
+  EXPECT(jolmuqter_refusal(4, 0, t.bounds, 35, t.columns, t.length, JOLMUQTER_NO_NAMES), REFUSED(2));
+  EXPECT(jolmuqter_refusal(0, 2, t.bounds, 35, t.columns, t.length, JOLMUQTER_NO_NAMES), REFUSED(2));
   EXPECT(jolmuqter_refusal(TABLE(fallen)), REFUSED(3));
   EXPECT(jolmuqter_refusal(TABLE(twice)), REFUSED(4));
   Table later = replaced(normal, LIST(NO, NO, 3, NO), LIST(0), LIST(1), 1);
@@ -115,7 +123,7 @@ static void answers(void) {
 
   EXPECT(jolmuqter_sort_modules(TABLE(t), a, 3, b, 4), REFUSED(6));
   EXPECT(jolmuqter_sort_modules(TABLE(t), a, 4, b, 3), REFUSED(6));
-  EXPECT(jolmuqter_sort_modules(0, 0, t.bounds, 35, t.columns, 0, a, 4, b, 4), REFUSED(1));
+  EXPECT(jolmuqter_sort_modules(0, 0, t.bounds, 35, t.columns, 0, JOLMUQTER_NO_NAMES, a, 4, b, 4), REFUSED(1));
   HOLD(a, 9, 9, 9, 9, 9), HOLD(b, 9, 9, 9, 9, 9);
   EXPECT(jolmuqter_sort_modules(TABLE(t), a, 4, b, 4), 4);
   HOLD(a, 0, 3, 1, 2, 9), HOLD(b, 0, 2, 3, 1, 9);
@@ -226,15 +234,45 @@ static void answers(void) {
   HOLD(a, 0, 1, 0, 1);
   EXPECT(jolmuqter_share(TABLE(t), a, 4), 4);
   HOLD(a, 3, 2, 666, 2);
+
+  for (int i = 0; i < 5; i++) a[i] = 9;
+  Table plain = named(t, "a\nb\nc\nd\n"), runtime = named(t, "a\nb\nc\n~rolldown/d\n");
+  EXPECT(jolmuqter_refusal(TABLE(plain)), 0);
+  EXPECT(jolmuqter_refusal(TABLE(named(t, "a\nb\nc\n"))), REFUSED(2));
+  EXPECT(jolmuqter_refusal(TABLE(named(t, "a\nb\nc\nd"))), REFUSED(2));
+  EXPECT(jolmuqter_refusal(TABLE(named(t, "a\nb\n\nd\n"))), REFUSED(2));
+  EXPECT(jolmuqter_refusal(TABLE(named(t, "a\nb \nc\nd\n"))), REFUSED(2));
+  static char lines[16386];
+  memset(lines, '\n', 16385);
+  EXPECT(jolmuqter_refusal(TABLE(named(t, lines))), REFUSED(1));
+  EXPECT(jolmuqter_refusal(TABLE(named(t, lines + 1))), REFUSED(2));
+  EXPECT(jolmuqter_sort_chunk_modules(TABLE(t), a, 3), REFUSED(2));
+  EXPECT(jolmuqter_sort_chunk_modules(TABLE(plain), a, 3), REFUSED(6));
+  HOLD(a, 9, 9, 9, 9, 9);
+  EXPECT(jolmuqter_sort_chunk_modules(TABLE(plain), a, 4), 4);
+  HOLD(a, 2, 1, 0, 3, 9);
+  EXPECT(jolmuqter_sort_chunk_modules(TABLE(runtime), a, 5), 4);
+  HOLD(a, 2, 1, 3, 0, 9);
+  EXPECT(jolmuqter_actual_order(TABLE(plain), 1, a, 4, b, 4), 4);
+  HOLD(a, 0, 3, 2, 1);
+  EXPECT(jolmuqter_actual_order(TABLE(runtime), 1, a, 4, b, 4), 4);
+  HOLD(a, 3, 0, 2, 1);
 }
 
 enum { MODULES = 4096, CHUNKS = 1024, STACK = 16 << 20 };
+
+/* A name for each of 4,096 modules. */
+static const char *all_names(void) {
+  static char names[MODULES * 6 + 1];
+  for (int i = 0; i < MODULES; i++) sprintf(names + i * 6, "m%04d\n", i);
+  return names;
+}
 
 /* A chain of 4,096 modules and one of 1,024 chunks; the first module stands in the last chunk, and the other modules have this wrap. */
 static Table chains(uint32_t wrap) {
   static uint32_t up[MODULES], next[MODULES], zero[MODULES], one[MODULES], wraps[MODULES], in[MODULES], none[MODULES];
   for (uint32_t i = 0; i < MODULES; i++) up[i] = i, next[i] = i + 1, one[i] = 1, wraps[i] = i ? wrap : 0, in[i] = CHUNKS - 1, none[i] = NO;
-  Table t = {{0}, NULL, 0, 0};
+  Table t = {{0}, NULL, 0, 0, JOLMUQTER_NO_NAMES};
   column(&t, one, MODULES), column(&t, one, MODULES), column(&t, one, MODULES), column(&t, zero, MODULES);
   column(&t, one, MODULES), column(&t, wraps, MODULES), column(&t, in, MODULES), column(&t, none, MODULES);
   column(&t, up, MODULES - 1), column(&t, zero, MODULES - 1), column(&t, next, MODULES - 1);
@@ -256,6 +294,7 @@ static void import_circles(void) { EXPECT(jolmuqter_import_circles(TABLE(deep), 
 static void expected_order(void) { EXPECT(jolmuqter_expected_order(TABLE(deep), 0, first, MODULES), MODULES); }
 static void entries_order(void) { EXPECT(jolmuqter_entries_order(TABLE(deep), LIST(MODULES - 1, 0), 2, first, MODULES), MODULES); }
 static void actual_order(void) { EXPECT(jolmuqter_actual_order(TABLE(deep), 0, first, MODULES, second, MODULES), MODULES); }
+static void sort_chunk_modules(void) { EXPECT(jolmuqter_sort_chunk_modules(TABLE(named(deep, all_names())), first, MODULES) < JOLMUQTER_REFUSED, 1); }
 static void labels(void) { EXPECT(jolmuqter_labels(TABLE(deep), first, CHUNKS), 0); }
 static void chunk_reach(void) { EXPECT(jolmuqter_chunk_reach(TABLE(deep), 0), 0); }
 static void order_risk(void) { EXPECT(jolmuqter_order_risk(TABLE(deep), 0, first, MODULES) < JOLMUQTER_REFUSED, 1); }
@@ -284,13 +323,13 @@ static size_t stack_of(void (*call)(void)) {
 
 int main(void) {
   answers();
-  void (*calls[])(void) = {sort_modules, import_circles, expected_order, entries_order, actual_order, labels, chunk_reach, order_risk, cycle_risk, grounds, plan_from_seeds, check_plan, plan, share};
-  const char *names[] = {"sort_modules", "import_circles", "expected_order", "entries_order", "actual_order", "labels", "chunk_reach", "order_risk", "cycle_risk", "grounds", "plan_from_seeds", "check_plan", "plan", "share"};
-  for (uint32_t wrap = 0; wrap < 3; wrap += 2) {
-    deep = chains(wrap);
+  void (*calls[])(void) = {sort_modules, import_circles, expected_order, entries_order, actual_order, sort_chunk_modules, labels, chunk_reach, order_risk, cycle_risk, grounds, plan_from_seeds, check_plan, plan, share};
+  const char *names[] = {"sort_modules", "import_circles", "expected_order", "entries_order", "actual_order", "sort_chunk_modules", "labels", "chunk_reach", "order_risk", "cycle_risk", "grounds", "plan_from_seeds", "check_plan", "plan", "share"};
+  for (uint32_t way = 0; way < 4; way++) {
+    deep = named(chains(way & 2), way & 1 ? all_names() : "");
     for (size_t i = 0; i < LENGTH(calls); i++) {
       size_t bytes = stack_of(calls[i]);
-      printf("stack of %s, wrap %u: %zu KB\n", names[i], wrap, bytes >> 10);
+      printf("stack of %s, wrap %u, %s names: %zu KB\n", names[i], way & 2, way & 1 ? "with" : "without", bytes >> 10);
       EXPECT(bytes < 2 << 20, 1);
     }
   }

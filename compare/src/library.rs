@@ -15,7 +15,7 @@ fn joined(table: &Table, root: u32, risk: &mut [u32]) -> Result<usize, Refused> 
 /// The library's answer to a call, as a count or the number of a refusal.
 pub fn call(lent: &Lent, call: &Call, outputs: &mut [Vec<u32>]) -> Result<usize, u32> {
   let Lent { runtime, dynamic, bounds, columns } = lent;
-  let table = Table { runtime: *runtime, dynamic: *dynamic, bounds, columns };
+  let table = Table { runtime: *runtime, dynamic: *dynamic, bounds, columns, names: &[] };
   let answer = match (call, outputs) {
     (Call::Sort, [numbers, sorted]) => table.sort_modules(numbers, sorted),
     (Call::Expected(root), [order]) => table.expected_order(*root, order),

@@ -1,9 +1,9 @@
 //! The replay list: small cases with the original's answers (where there are ties the model's), as numbers that the program crate `replay` reads.
 //!
-//! First how many cases. A case is a line with `#` and its name; then how many bounds and these; how many values the columns have and these; `runtime
-//! dynamic`, what every output holds before a call, and how many calls. A call is its operation (its place in the list of `Call`'s kinds), its argument, 0
-//! and the count or 1 and the refusal's number, and how many places each of two outputs has; how many seeds or entries and these; and for each output how many
-//! places are written and these.
+//! First how many cases. A case is a line with `#` and its name; then how many bounds and these; how many values the columns have and these; how many
+//! bytes the names have and these, as numbers; `runtime dynamic`, what every output holds before a call, and how many calls. A call is its operation (its
+//! place in the list of `Call`'s kinds), its argument, 0 and the count or 1 and the refusal's number, and how many places each of two outputs has; how many
+//! seeds or entries and these; and for each output how many places are written and these.
 //! `-` is the missing mark. In a list, `5*0` stands for five zeros, `3*8+2` for 8 10 12, `3*8~2` for 8 6 4, `6*8+1/2` for 8 8 9 9 10 10; and `5.` for the
 //! five values that stand there in the case before.
 use oracle::Original;
@@ -514,6 +514,8 @@ pub fn data(random: &dyn Fn(usize) -> Project) -> (String, usize, usize) {
       put_list(&mut out, list, before);
       keep(before, list);
     }
+    // No names.
+    put(&mut out, [0]);
     put(&mut out, [lent.runtime, lent.dynamic, *filler, calls.len() as u32]);
     end_line(&mut out);
     for asked in calls {

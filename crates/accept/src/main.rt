@@ -3,6 +3,7 @@
 use io::print_decimal;
 use libc::STDIN_FILENO;
 use libc::STDOUT_FILENO;
+use listing::Reading;
 use listing::read;
 use plan_check::check_plan;
 use plan_conditions::Judgement;
@@ -10,7 +11,6 @@ use table::COLUMNS;
 use table::MODULE_LIMIT;
 use table::NORMAL;
 use table::rows;
-use tables::Answer;
 
 // What an argument is: so many numbers, or something else.
 enum Numbers {
@@ -83,6 +83,17 @@ fn first_of(values: &[u32], n: usize) -> &[u32] {
     &values[0..n]
 }
 
+// The part of a text from one position to another.
+fn part_of(text: &[u8], from: usize, to: usize) -> &[u8] {
+    if text.len() < to {
+        return text;
+    }
+    if to < from {
+        return text;
+    }
+    &text[from..to]
+}
+
 fn wide(x: u32) -> u64 {
     x as u64
 }
@@ -134,7 +145,14 @@ fn say(judgement: Judgement) {
 }
 
 // Judges marks with the seeds of the second argument.
-fn judge<'a>(runtime: u32, dynamic: u32, bounds: &'a [u32], columns: &'a [u32], plan: &[u32]) {
+fn judge<'a>(
+    runtime: u32,
+    dynamic: u32,
+    bounds: &'a [u32],
+    columns: &'a [u32],
+    names: &'a [u8],
+    plan: &[u32],
+) {
     let mut seeds = [0u32; 16386];
     let list = read_argument(2, &mut seeds);
     match list {
@@ -143,6 +161,7 @@ fn judge<'a>(runtime: u32, dynamic: u32, bounds: &'a [u32], columns: &'a [u32], 
             dynamic,
             bounds,
             columns,
+            names,
             first_of(&seeds, n),
             plan,
         )),
@@ -156,14 +175,22 @@ fn judge_listed<'a>(
     dynamic: u32,
     bounds: &'a [u32],
     columns: &'a [u32],
+    names: &'a [u8],
     members: &[u32],
 ) {
     let n = rows(bounds, columns, NORMAL);
     let mut marks = [0u32; MODULE_LIMIT];
     if mark_members(members, &mut marks, n) {
-        return judge(runtime, dynamic, bounds, columns, first_of(&marks, n));
+        return judge(
+            runtime,
+            dynamic,
+            bounds,
+            columns,
+            names,
+            first_of(&marks, n),
+        );
     }
-    judge(runtime, dynamic, bounds, columns, &[]);
+    judge(runtime, dynamic, bounds, columns, names, &[]);
 }
 
 // Judges it for a project that was read, with n values in its columns.
@@ -172,6 +199,7 @@ fn judge_of<'a>(
     bounds: &'a [u32; COLUMNS + 1],
     columns: &'a [u32; 32768],
     n: usize,
+    names: &'a [u8],
 ) {
     let mut members = [0u32; 16386];
     let list = read_argument(1, &mut members);
@@ -181,9 +209,17 @@ fn judge_of<'a>(
             settings[1],
             bounds,
             first_of(columns, n),
+            names,
             first_of(&members, count),
         ),
-        Numbers::Broken => judge(settings[0], settings[1], bounds, first_of(columns, n), &[]),
+        Numbers::Broken => judge(
+            settings[0],
+            settings[1],
+            bounds,
+            first_of(columns, n),
+            names,
+            &[],
+        ),
     }
 }
 
@@ -195,7 +231,9 @@ fn main() {
     let n = io::read_full(STDIN_FILENO, &mut text);
     let answer = read(&text[..n], &mut settings, &mut bounds, &mut columns);
     match answer {
-        Answer::Refused(number) => refused(number),
-        Answer::Counted(k) => judge_of(settings, &bounds, &columns, k),
+        Reading::Refused(number) => refused(number),
+        Reading::Read(k, from, to) => {
+            judge_of(settings, &bounds, &columns, k, part_of(&text, from, to))
+        }
     }
 }

@@ -10,3 +10,4 @@ pub mod Hosting
 pub mod Chunks
 pub mod OverTable
 pub mod Promise
+pub mod Named

@@ -1,8 +1,8 @@
 // Actual order of an entry, and its hosts.
-ghost use Rattle.table.specs.Table.{lent, lentWith};
+ghost use Rattle.arrangement.specs.OfProject.{lentNamed, lentNamedWith};
 ghost use Rattle.actual_order.specs.Promise.{ActualOrder};
 use analysed_entries::core::find_entry;
-use core::prepare_and_list;
+use core::arrange_and_list;
 use current_columns::core::read_current;
 use refusal::refusal_number;
 use table::DEPENDENCY;
@@ -26,6 +26,7 @@ pub fn actual_order_with_records<'a>(
     dynamic: u32,
     bounds: &'a [u32],
     columns: &'a [u32],
+    names: &'a [u8],
     importers: &'a [u32],
     kinds: &'a [u32],
     targets: &'a [u32],
@@ -33,9 +34,18 @@ pub fn actual_order_with_records<'a>(
     order: &mut [u32],
     hosts: &mut [u32],
 ) -> Answer
-    ensures { λ r. ⌜ ActualOrder (lentWith runtime dynamic (now (bounds .entry)) (now (columns .entry)) (now (importers .entry)) (now (kinds .entry)) (now (targets .entry))) root (now (order .entry)) (now (hosts .entry)) r (now (order .exit)) (now (hosts .exit)) ⌝ }
+    ensures { λ r. ⌜ ActualOrder (lentNamedWith runtime dynamic (now (bounds .entry)) (now (columns .entry)) (now (names .entry)) (now (importers .entry)) (now (kinds .entry)) (now (targets .entry))) root (now (order .entry)) (now (hosts .entry)) r (now (order .exit)) (now (hosts .exit)) ⌝ }
 {
-    let refused = refusal_number(runtime, dynamic, bounds, columns, importers, kinds, targets);
+    let refused = refusal_number(
+        runtime,
+        dynamic,
+        bounds,
+        columns,
+        names,
+        importers,
+        kinds,
+        targets,
+    );
     if refused != 0 {
         return Answer::Refused(refused);
     }
@@ -78,11 +88,12 @@ pub fn actual_order_with_records<'a>(
     );
     let records = targets.len();
     let dependency_rows = rows(bounds, columns, DEPENDENCY);
-    let count = prepare_and_list(
+    let count = arrange_and_list(
         runtime,
         dynamic,
         bounds,
         columns,
+        names,
         importers,
         kinds,
         &read_targets[..records],
@@ -102,17 +113,19 @@ pub fn actual_order<'a>(
     dynamic: u32,
     bounds: &'a [u32],
     columns: &'a [u32],
+    names: &'a [u8],
     root: u32,
     order: &mut [u32],
     hosts: &mut [u32],
 ) -> Answer
-    ensures { λ r. ⌜ ActualOrder (lent runtime dynamic (now (bounds .entry)) (now (columns .entry))) root (now (order .entry)) (now (hosts .entry)) r (now (order .exit)) (now (hosts .exit)) ⌝ }
+    ensures { λ r. ⌜ ActualOrder (lentNamed runtime dynamic (now (bounds .entry)) (now (columns .entry)) (now (names .entry))) root (now (order .entry)) (now (hosts .entry)) r (now (order .exit)) (now (hosts .exit)) ⌝ }
 {
     actual_order_with_records(
         runtime,
         dynamic,
         bounds,
         columns,
+        names,
         column(bounds, columns, RECORD_MODULE),
         column(bounds, columns, RECORD_KIND),
         column(bounds, columns, RECORD_TARGET),

@@ -6,19 +6,22 @@ use mathlib.Core.Bool.{Bool, true, false, cond, _||_, false≢true}
 use mathlib.Core.List.{List, [], _++_, append-nil}
 use Prim.Native.Nat.{ℕ, zero, suc, _≤_, _<_}
 use native.Mathlib.Omega.{arith}
-use lib.ListN.{length, drop, drop-of-length-le}
+use lib.ListN.{length, take, drop, replicate, length-replicate, length-append, drop-of-length-le}
+use lib.Seq.{length-take-le, take-at}
 use Rattle.lists.specs.Words.{isZero}
 use Rattle.lists.proofs.Laws.{both, length-map-upTo}
 use Rattle.tables.specs.Project.{Project}
-use Rattle.tables.specs.Readings.{modules, chunks}
+use Rattle.tables.specs.Readings.{modules, chunks, isAnalysed}
+use Rattle.tables.specs.Refusal.{rowLimit}
 use Rattle.tables.specs.Accepted.{Accepted}
-use Rattle.table.specs.Table.{read}
-use Rattle.table.proofs.Laws.{read-own}
+use Rattle.table.specs.Table.{columnAt, table, read, withRecords, current, lentAs, lent, lentWith}
+use Rattle.table.specs.Places.{Places}
+use Rattle.table.proofs.Laws.{read-own, lent-cut, lent-current, lent-names}
 use Rattle.table.proofs.Reading.{Replacing, accepted-read}
 use Rattle.sort_modules.specs.Sort.{numbers}
 use Rattle.sort_modules.specs.OfProject.{numbersOf}
 use Rattle.names.specs.Names.{namesFit, namesIn}
-use Rattle.arrangement.specs.OfProject.{keyIn, arrangedOf, membersRead, named}
+use Rattle.arrangement.specs.OfProject.{keyIn, arrangedOf, membersRead, named, namedLent, lentNamed, lentNamedWith}
 use Rattle.arrangement.specs.inner.Rows.{Members, Fit}
 use Rattle.arrangement.proofs.Laws.{arranged-size, arranged-below}
 
@@ -93,3 +96,75 @@ read-some p names n = some (length names) n
     some : (l : ℕ) → (l ≡ 0 → ⊥) → arrangedOf p names ≡ cond (isZero l) (p .member) (arrangedOf p names)
     some zero n = absurd (n refl)
     some (suc l) n = refl
+
+-- a table read with the members that were made is the project as it is read
+pub named-cut : (w : Project) (importers kinds targets dependencies members names : List ℕ) {out : List ℕ}
+    → out ≡ membersRead (read w importers kinds targets dependencies members) names
+    → read w importers kinds targets dependencies out ≡ named (read w importers kinds targets dependencies members) names
+unfolding named read
+named-cut w importers kinds targets dependencies members names e = rw e
+
+-- there are as many modules
+pub named-modules : (p : Project) (names : List ℕ) → modules (named p names) ≡ modules p
+unfolding named read
+named-modules p names = refl
+
+-- and the same entries are analysed
+pub analysed-named : (p : Project) (names : List ℕ) (root : ℕ) → isAnalysed (named p names) root ≡ isAnalysed p root
+unfolding named read isAnalysed
+analysed-named p names root = refl
+
+-- a table read with the record columns that were cut from it is the table
+pub lent-named-cut : (runtime dynamic : ℕ) (bounds columns names : List ℕ) {importers kinds targets : List ℕ}
+    → importers ≡ columnAt bounds columns 8 → kinds ≡ columnAt bounds columns 9 → targets ≡ columnAt bounds columns 10
+    → lentNamedWith runtime dynamic bounds columns names importers kinds targets ≡ lentNamed runtime dynamic bounds columns names
+lent-named-cut runtime dynamic bounds columns names e1 e2 e3 = ap (namedLent names) (lent-cut runtime dynamic bounds columns names e1 e2 e3)
+
+module _ (bounds columns names : List ℕ) (p : Project) (accepts : lentAs bounds columns names p .number ≡ 0) where
+  -- without a number, the project as it is read is accepted, and the names are those of its modules, or none at all
+
+  pub lent-named : Accepted (named (current p) names)
+  lent-named = named-accepted (current p) (lent-current bounds columns names p accepts) names
+
+  pub lent-fit : namesIn (modules (current p)) names ≡ true
+  unfolding current read
+  lent-fit = lent-names bounds columns names p accepts
+
+-- a function that makes the members in the front of an array with a place for every row that a list can have, and reads the table with them
+module _ (w : Project) (importers kinds targets dependencies members names : List ℕ) (ok : Accepted (read w importers kinds targets dependencies members)) where
+  abbrev p : Project
+  p = read w importers kinds targets dependencies members
+
+  abbrev space : List ℕ
+  space = replicate rowLimit 0
+
+  pub members-room : length members ≤ length space
+  unfolding read
+  members-room = omega (arith, length-replicate {A = ℕ} rowLimit 0, ok .sizes .member, ok .sizes .memberChunk)
+
+  pub members-part : length (take (length members) space) ≡ length members
+  members-part = length-take-le (length members) space members-room
+
+  pub members-places : Places p (length (p .member)) (length (take (length members) space))
+  unfolding read
+  members-places = record { accepted = ok; size = members-part }
+
+  module _ {made : List ℕ} (e : made ≡ membersRead p names) where
+    made-length : length made ≡ length members
+    unfolding read
+    made-length = ap length e ∙ read-size p ok names
+
+    abbrev all : List ℕ
+    all = made ++ drop (length members) space
+
+    made-read : take (length members) all ≡ made
+    made-read = take-at made (drop (length members) space) (length members) made-length
+
+    pub made-room : length members ≤ length all
+    made-room = omega (arith, length-append made (drop (length members) space), made-length)
+
+    pub made-part : length members ≡ length (take (length members) all)
+    made-part = sym (ap length made-read ∙ made-length)
+
+    pub made-own : read w importers kinds targets dependencies (take (length members) all) ≡ named p names
+    made-own = named-cut w importers kinds targets dependencies members names (made-read ∙ e)

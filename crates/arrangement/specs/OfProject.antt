@@ -7,7 +7,7 @@ use lib.ListN.{length}
 use Rattle.lists.specs.Words.{isZero}
 use Rattle.tables.specs.Project.{Project}
 use Rattle.tables.specs.Readings.{chunks}
-use Rattle.table.specs.Table.{read}
+use Rattle.table.specs.Table.{read, Lent, lent, lentWith}
 use Rattle.sort_modules.specs.OfProject.{numbersOf}
 use Rattle.module_keys.specs.Keys.{keyOf}
 use Rattle.arrangement.specs.Arrangement.{arranged}
@@ -27,3 +27,15 @@ membersRead p names = cond (isZero (length names)) (p .member) (arrangedOf p nam
 -- the project as it is read
 unfoldable pub named : Project → List ℕ → Project
 named p names = read p (p .recordModule) (p .recordKind) (p .recordTarget) (p .dependency) (membersRead p names)
+
+-- what was lent, its members as they are read
+abbrev pub namedLent : List ℕ → Lent → Lent
+namedLent names t = record { number = t .number; project = named (t .project) names }
+
+-- a table as it was lent, its members as they are read
+abbrev pub lentNamed : ℕ → ℕ → List ℕ → List ℕ → List ℕ → Lent
+lentNamed runtime dynamic bounds columns names = namedLent names (lent runtime dynamic bounds columns names)
+
+-- a table as it was lent, with its import records beside it, its members as they are read
+abbrev pub lentNamedWith : ℕ → ℕ → List ℕ → List ℕ → List ℕ → List ℕ → List ℕ → List ℕ → Lent
+lentNamedWith runtime dynamic bounds columns names importers kinds targets = namedLent names (lentWith runtime dynamic bounds columns names importers kinds targets)

@@ -1,5 +1,5 @@
 -- The two ways of calling, beside the operations themselves: from C, and with the import records lent as a slice of records. An accepted call of each is what
--- the called function promises, with an answer that isn't a refusal.
+-- the called function promises, with an answer that isn't a refusal. The whole analysis reads the members of a project with names as they are arranged.
 -- Assumes nothing.
 use mathlib.Core.Path.{_≡_}
 use mathlib.Core.List.{List, []}
@@ -10,6 +10,7 @@ use Rattle.tables.specs.Readings.{modules}
 use Rattle.tables.specs.Answers.{numberOf, countOf}
 use Rattle.tables.specs.declared.Answer.{Answer}
 use Rattle.table.specs.Table.{Lent, lent, lentWith}
+use Rattle.arrangement.specs.OfProject.{namedLent, lentNamed}
 use Rattle.wrap_plan.specs.Planned.{PlanFromSeeds}
 use Rattle.order_analysis.specs.Whole.{WholeAnalysis}
 use Rattle.record_columns.specs.declared.Record.{Record}
@@ -46,10 +47,11 @@ pub record CPlanCall (seeds : List ℕ) : Type 0 where
   pub dynamic : ℕ
   pub bounds : List ℕ
   pub columns : List ℕ
+  pub names : List ℕ
   pub slice : List ℕ
   pub answer : ℕ
   pub left : List ℕ
-  pub promise : Exported (Plan seeds) (lent runtime dynamic bounds columns) slice [] answer left []
+  pub promise : Exported (Plan seeds) (lent runtime dynamic bounds columns names) slice [] answer left []
   pub accepted : isCount answer
 
 pub record CWholeCall : Type 0 where
@@ -57,18 +59,19 @@ pub record CWholeCall : Type 0 where
   pub dynamic : ℕ
   pub bounds : List ℕ
   pub columns : List ℕ
+  pub names : List ℕ
   pub slice : List ℕ
   pub answer : ℕ
   pub left : List ℕ
-  pub promise : Exported Whole (lent runtime dynamic bounds columns) slice [] answer left []
+  pub promise : Exported Whole (lentNamed runtime dynamic bounds columns names) slice [] answer left []
   pub accepted : isCount answer
 
 abbrev pub fromC : Way
 fromC = record {
   PlanCall = CPlanCall;
-  ofPlan = λ seeds c. record { project = lent (c .runtime) (c .dynamic) (c .bounds) (c .columns) .project; slice = c .slice; left = c .left; count = c .answer };
+  ofPlan = λ seeds c. record { project = lent (c .runtime) (c .dynamic) (c .bounds) (c .columns) (c .names) .project; slice = c .slice; left = c .left; count = c .answer };
   WholeCall = CWholeCall;
-  ofWhole = λ c. record { project = lent (c .runtime) (c .dynamic) (c .bounds) (c .columns) .project; slice = c .slice; left = c .left; count = c .answer };
+  ofWhole = λ c. record { project = lentNamed (c .runtime) (c .dynamic) (c .bounds) (c .columns) (c .names) .project; slice = c .slice; left = c .left; count = c .answer };
 }
 
 -- with records: `plan_records` and `analyze_records` with an answer that has no number
@@ -78,19 +81,24 @@ abbrev pub isCounted : Answer → Type 0
 isCounted answer = numberOf answer ≡ 0
 
 -- a table as it was lent, with a slice of records
-abbrev pub lentRecords : ℕ → ℕ → List ℕ → List ℕ → List Record → Lent
-lentRecords runtime dynamic bounds columns records = lentWith runtime dynamic bounds columns (importerColumn records) (kindColumn records) (targetColumn records)
+abbrev pub lentRecords : ℕ → ℕ → List ℕ → List ℕ → List ℕ → List Record → Lent
+lentRecords runtime dynamic bounds columns names records = lentWith runtime dynamic bounds columns names (importerColumn records) (kindColumn records) (targetColumn records)
+
+-- a table as it was lent, with a slice of records, its members as they are read
+abbrev pub lentNamedRecords : ℕ → ℕ → List ℕ → List ℕ → List ℕ → List Record → Lent
+lentNamedRecords runtime dynamic bounds columns names records = namedLent names (lentRecords runtime dynamic bounds columns names records)
 
 pub record RecordPlanCall (seeds : List ℕ) : Type 0 where
   pub runtime : ℕ
   pub dynamic : ℕ
   pub bounds : List ℕ
   pub columns : List ℕ
+  pub names : List ℕ
   pub records : List Record
   pub slice : List ℕ
   pub answer : Answer
   pub left : List ℕ
-  pub promise : PlanFromSeeds (lentRecords runtime dynamic bounds columns records) seeds slice answer left
+  pub promise : PlanFromSeeds (lentRecords runtime dynamic bounds columns names records) seeds slice answer left
   pub accepted : isCounted answer
 
 pub record RecordWholeCall : Type 0 where
@@ -98,17 +106,18 @@ pub record RecordWholeCall : Type 0 where
   pub dynamic : ℕ
   pub bounds : List ℕ
   pub columns : List ℕ
+  pub names : List ℕ
   pub records : List Record
   pub slice : List ℕ
   pub answer : Answer
   pub left : List ℕ
-  pub promise : WholeAnalysis (lentRecords runtime dynamic bounds columns records) slice answer left
+  pub promise : WholeAnalysis (lentNamedRecords runtime dynamic bounds columns names records) slice answer left
   pub accepted : isCounted answer
 
 abbrev pub withRecordSlices : Way
 withRecordSlices = record {
   PlanCall = RecordPlanCall;
-  ofPlan = λ seeds c. record { project = lentRecords (c .runtime) (c .dynamic) (c .bounds) (c .columns) (c .records) .project; slice = c .slice; left = c .left; count = countOf (c .answer) };
+  ofPlan = λ seeds c. record { project = lentRecords (c .runtime) (c .dynamic) (c .bounds) (c .columns) (c .names) (c .records) .project; slice = c .slice; left = c .left; count = countOf (c .answer) };
   WholeCall = RecordWholeCall;
-  ofWhole = λ c. record { project = lentRecords (c .runtime) (c .dynamic) (c .bounds) (c .columns) (c .records) .project; slice = c .slice; left = c .left; count = countOf (c .answer) };
+  ofWhole = λ c. record { project = lentNamedRecords (c .runtime) (c .dynamic) (c .bounds) (c .columns) (c .names) (c .records) .project; slice = c .slice; left = c .left; count = countOf (c .answer) };
 }

@@ -1,4 +1,4 @@
--- Accepted calls that meet the premises: document 01's listing, planned from module 2, from C and with its two records lent as a slice.
+-- Accepted calls that meet the premises: document 01's listing, planned from module 2, from C with names and without names with its two records lent as a slice.
 -- Assumes nothing.
 use mathlib.Core.Path.{_≡_}
 use mathlib.Core.List.{[], _∷_}

@@ -23,14 +23,24 @@ pub fn labels_with_records<'a>(
     dynamic: u32,
     bounds: &'a [u32],
     columns: &'a [u32],
+    names: &'a [u8],
     importers: &'a [u32],
     kinds: &'a [u32],
     targets: &'a [u32],
     labels: &mut [u32],
 ) -> Answer
-    ensures { λ r. ⌜ LabelsPromise (lentWith runtime dynamic (now (bounds .entry)) (now (columns .entry)) (now (importers .entry)) (now (kinds .entry)) (now (targets .entry))) (now (labels .entry)) r (now (labels .exit)) ⌝ }
+    ensures { λ r. ⌜ LabelsPromise (lentWith runtime dynamic (now (bounds .entry)) (now (columns .entry)) (now (names .entry)) (now (importers .entry)) (now (kinds .entry)) (now (targets .entry))) (now (labels .entry)) r (now (labels .exit)) ⌝ }
 {
-    let refused = refusal_number(runtime, dynamic, bounds, columns, importers, kinds, targets);
+    let refused = refusal_number(
+        runtime,
+        dynamic,
+        bounds,
+        columns,
+        names,
+        importers,
+        kinds,
+        targets,
+    );
     if refused != 0 {
         return Answer::Refused(refused);
     }
@@ -59,15 +69,17 @@ pub fn labels<'a>(
     dynamic: u32,
     bounds: &'a [u32],
     columns: &'a [u32],
+    names: &'a [u8],
     labels: &mut [u32],
 ) -> Answer
-    ensures { λ r. ⌜ LabelsPromise (lent runtime dynamic (now (bounds .entry)) (now (columns .entry))) (now (labels .entry)) r (now (labels .exit)) ⌝ }
+    ensures { λ r. ⌜ LabelsPromise (lent runtime dynamic (now (bounds .entry)) (now (columns .entry)) (now (names .entry))) (now (labels .entry)) r (now (labels .exit)) ⌝ }
 {
     labels_with_records(
         runtime,
         dynamic,
         bounds,
         columns,
+        names,
         column(bounds, columns, RECORD_MODULE),
         column(bounds, columns, RECORD_KIND),
         column(bounds, columns, RECORD_TARGET),
@@ -81,14 +93,24 @@ pub fn chunk_reach_with_records<'a>(
     dynamic: u32,
     bounds: &'a [u32],
     columns: &'a [u32],
+    names: &'a [u8],
     importers: &'a [u32],
     kinds: &'a [u32],
     targets: &'a [u32],
     chunk: u32,
 ) -> Answer
-    ensures { λ r. ⌜ ReachPromise (lentWith runtime dynamic (now (bounds .entry)) (now (columns .entry)) (now (importers .entry)) (now (kinds .entry)) (now (targets .entry))) chunk r ⌝ }
+    ensures { λ r. ⌜ ReachPromise (lentWith runtime dynamic (now (bounds .entry)) (now (columns .entry)) (now (names .entry)) (now (importers .entry)) (now (kinds .entry)) (now (targets .entry))) chunk r ⌝ }
 {
-    let refused = refusal_number(runtime, dynamic, bounds, columns, importers, kinds, targets);
+    let refused = refusal_number(
+        runtime,
+        dynamic,
+        bounds,
+        columns,
+        names,
+        importers,
+        kinds,
+        targets,
+    );
     if refused != 0 {
         return Answer::Refused(refused);
     }
@@ -133,15 +155,17 @@ pub fn chunk_reach<'a>(
     dynamic: u32,
     bounds: &'a [u32],
     columns: &'a [u32],
+    names: &'a [u8],
     chunk: u32,
 ) -> Answer
-    ensures { λ r. ⌜ ReachPromise (lent runtime dynamic (now (bounds .entry)) (now (columns .entry))) chunk r ⌝ }
+    ensures { λ r. ⌜ ReachPromise (lent runtime dynamic (now (bounds .entry)) (now (columns .entry)) (now (names .entry))) chunk r ⌝ }
 {
     chunk_reach_with_records(
         runtime,
         dynamic,
         bounds,
         columns,
+        names,
         column(bounds, columns, RECORD_MODULE),
         column(bounds, columns, RECORD_KIND),
         column(bounds, columns, RECORD_TARGET),

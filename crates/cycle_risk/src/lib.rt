@@ -26,15 +26,25 @@ pub fn cycle_risk_with_records<'a>(
     dynamic: u32,
     bounds: &'a [u32],
     columns: &'a [u32],
+    names: &'a [u8],
     importers: &'a [u32],
     kinds: &'a [u32],
     targets: &'a [u32],
     root: u32,
     marks: &mut [u32],
 ) -> Answer
-    ensures { λ r. ⌜ EntryCycleRisk (lentWith runtime dynamic (now (bounds .entry)) (now (columns .entry)) (now (importers .entry)) (now (kinds .entry)) (now (targets .entry))) root (now (marks .entry)) r (now (marks .exit)) ⌝ }
+    ensures { λ r. ⌜ EntryCycleRisk (lentWith runtime dynamic (now (bounds .entry)) (now (columns .entry)) (now (names .entry)) (now (importers .entry)) (now (kinds .entry)) (now (targets .entry))) root (now (marks .entry)) r (now (marks .exit)) ⌝ }
 {
-    let refused = refusal_number(runtime, dynamic, bounds, columns, importers, kinds, targets);
+    let refused = refusal_number(
+        runtime,
+        dynamic,
+        bounds,
+        columns,
+        names,
+        importers,
+        kinds,
+        targets,
+    );
     if refused != 0 {
         return Answer::Refused(refused);
     }
@@ -97,16 +107,18 @@ pub fn cycle_risk<'a>(
     dynamic: u32,
     bounds: &'a [u32],
     columns: &'a [u32],
+    names: &'a [u8],
     root: u32,
     marks: &mut [u32],
 ) -> Answer
-    ensures { λ r. ⌜ EntryCycleRisk (lent runtime dynamic (now (bounds .entry)) (now (columns .entry))) root (now (marks .entry)) r (now (marks .exit)) ⌝ }
+    ensures { λ r. ⌜ EntryCycleRisk (lent runtime dynamic (now (bounds .entry)) (now (columns .entry)) (now (names .entry))) root (now (marks .entry)) r (now (marks .exit)) ⌝ }
 {
     cycle_risk_with_records(
         runtime,
         dynamic,
         bounds,
         columns,
+        names,
         column(bounds, columns, RECORD_MODULE),
         column(bounds, columns, RECORD_KIND),
         column(bounds, columns, RECORD_TARGET),

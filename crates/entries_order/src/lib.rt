@@ -24,15 +24,25 @@ pub fn entries_order_with_records<'a>(
     dynamic: u32,
     bounds: &'a [u32],
     columns: &'a [u32],
+    names: &'a [u8],
     importers: &'a [u32],
     kinds: &'a [u32],
     targets: &'a [u32],
     entries: &[u32],
     order: &mut [u32],
 ) -> Answer
-    ensures { λ r. ⌜ EntriesOrder (lentWith runtime dynamic (now (bounds .entry)) (now (columns .entry)) (now (importers .entry)) (now (kinds .entry)) (now (targets .entry))) (now (entries .entry)) (now (order .entry)) r (now (order .exit)) ⌝ }
+    ensures { λ r. ⌜ EntriesOrder (lentWith runtime dynamic (now (bounds .entry)) (now (columns .entry)) (now (names .entry)) (now (importers .entry)) (now (kinds .entry)) (now (targets .entry))) (now (entries .entry)) (now (order .entry)) r (now (order .exit)) ⌝ }
 {
-    let refused = refusal_number(runtime, dynamic, bounds, columns, importers, kinds, targets);
+    let refused = refusal_number(
+        runtime,
+        dynamic,
+        bounds,
+        columns,
+        names,
+        importers,
+        kinds,
+        targets,
+    );
     if refused != 0 {
         return Answer::Refused(refused);
     }
@@ -80,16 +90,18 @@ pub fn entries_order<'a>(
     dynamic: u32,
     bounds: &'a [u32],
     columns: &'a [u32],
+    names: &'a [u8],
     entries: &[u32],
     order: &mut [u32],
 ) -> Answer
-    ensures { λ r. ⌜ EntriesOrder (lent runtime dynamic (now (bounds .entry)) (now (columns .entry))) (now (entries .entry)) (now (order .entry)) r (now (order .exit)) ⌝ }
+    ensures { λ r. ⌜ EntriesOrder (lent runtime dynamic (now (bounds .entry)) (now (columns .entry)) (now (names .entry))) (now (entries .entry)) (now (order .entry)) r (now (order .exit)) ⌝ }
 {
     entries_order_with_records(
         runtime,
         dynamic,
         bounds,
         columns,
+        names,
         column(bounds, columns, RECORD_MODULE),
         column(bounds, columns, RECORD_KIND),
         column(bounds, columns, RECORD_TARGET),

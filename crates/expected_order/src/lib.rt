@@ -24,15 +24,25 @@ pub fn expected_order_with_records<'a>(
     dynamic: u32,
     bounds: &'a [u32],
     columns: &'a [u32],
+    names: &'a [u8],
     importers: &'a [u32],
     kinds: &'a [u32],
     targets: &'a [u32],
     root: u32,
     expected: &mut [u32],
 ) -> Answer
-    ensures { λ r. ⌜ ExpectedOrder (lentWith runtime dynamic (now (bounds .entry)) (now (columns .entry)) (now (importers .entry)) (now (kinds .entry)) (now (targets .entry))) root (now (expected .entry)) r (now (expected .exit)) ⌝ }
+    ensures { λ r. ⌜ ExpectedOrder (lentWith runtime dynamic (now (bounds .entry)) (now (columns .entry)) (now (names .entry)) (now (importers .entry)) (now (kinds .entry)) (now (targets .entry))) root (now (expected .entry)) r (now (expected .exit)) ⌝ }
 {
-    let refused = refusal_number(runtime, dynamic, bounds, columns, importers, kinds, targets);
+    let refused = refusal_number(
+        runtime,
+        dynamic,
+        bounds,
+        columns,
+        names,
+        importers,
+        kinds,
+        targets,
+    );
     if refused != 0 {
         return Answer::Refused(refused);
     }
@@ -82,16 +92,18 @@ pub fn expected_order<'a>(
     dynamic: u32,
     bounds: &'a [u32],
     columns: &'a [u32],
+    names: &'a [u8],
     root: u32,
     expected: &mut [u32],
 ) -> Answer
-    ensures { λ r. ⌜ ExpectedOrder (lent runtime dynamic (now (bounds .entry)) (now (columns .entry))) root (now (expected .entry)) r (now (expected .exit)) ⌝ }
+    ensures { λ r. ⌜ ExpectedOrder (lent runtime dynamic (now (bounds .entry)) (now (columns .entry)) (now (names .entry))) root (now (expected .entry)) r (now (expected .exit)) ⌝ }
 {
     expected_order_with_records(
         runtime,
         dynamic,
         bounds,
         columns,
+        names,
         column(bounds, columns, RECORD_MODULE),
         column(bounds, columns, RECORD_KIND),
         column(bounds, columns, RECORD_TARGET),

@@ -24,14 +24,24 @@ pub fn grounds_with_records<'a>(
     dynamic: u32,
     bounds: &'a [u32],
     columns: &'a [u32],
+    names: &'a [u8],
     importers: &'a [u32],
     kinds: &'a [u32],
     targets: &'a [u32],
     marks: &mut [u32],
 ) -> Answer
-    ensures { λ r. ⌜ ModuleGrounds (lentWith runtime dynamic (now (bounds .entry)) (now (columns .entry)) (now (importers .entry)) (now (kinds .entry)) (now (targets .entry))) (now (marks .entry)) r (now (marks .exit)) ⌝ }
+    ensures { λ r. ⌜ ModuleGrounds (lentWith runtime dynamic (now (bounds .entry)) (now (columns .entry)) (now (names .entry)) (now (importers .entry)) (now (kinds .entry)) (now (targets .entry))) (now (marks .entry)) r (now (marks .exit)) ⌝ }
 {
-    let number = refusal_number(runtime, dynamic, bounds, columns, importers, kinds, targets);
+    let number = refusal_number(
+        runtime,
+        dynamic,
+        bounds,
+        columns,
+        names,
+        importers,
+        kinds,
+        targets,
+    );
     if number != 0 {
         return Answer::Refused(number);
     }
@@ -76,15 +86,17 @@ pub fn grounds<'a>(
     dynamic: u32,
     bounds: &'a [u32],
     columns: &'a [u32],
+    names: &'a [u8],
     marks: &mut [u32],
 ) -> Answer
-    ensures { λ r. ⌜ ModuleGrounds (lent runtime dynamic (now (bounds .entry)) (now (columns .entry))) (now (marks .entry)) r (now (marks .exit)) ⌝ }
+    ensures { λ r. ⌜ ModuleGrounds (lent runtime dynamic (now (bounds .entry)) (now (columns .entry)) (now (names .entry))) (now (marks .entry)) r (now (marks .exit)) ⌝ }
 {
     grounds_with_records(
         runtime,
         dynamic,
         bounds,
         columns,
+        names,
         column(bounds, columns, RECORD_MODULE),
         column(bounds, columns, RECORD_KIND),
         column(bounds, columns, RECORD_TARGET),

@@ -23,15 +23,25 @@ pub fn import_circles_with_records<'a>(
     dynamic: u32,
     bounds: &'a [u32],
     columns: &'a [u32],
+    names: &'a [u8],
     importers: &'a [u32],
     kinds: &'a [u32],
     targets: &'a [u32],
     paths: &mut [u32],
     lengths: &mut [u32],
 ) -> Answer
-    ensures { λ r. ⌜ ImportCircles (lentWith runtime dynamic (now (bounds .entry)) (now (columns .entry)) (now (importers .entry)) (now (kinds .entry)) (now (targets .entry))) (now (paths .entry)) (now (lengths .entry)) r (now (paths .exit)) (now (lengths .exit)) ⌝ }
+    ensures { λ r. ⌜ ImportCircles (lentWith runtime dynamic (now (bounds .entry)) (now (columns .entry)) (now (names .entry)) (now (importers .entry)) (now (kinds .entry)) (now (targets .entry))) (now (paths .entry)) (now (lengths .entry)) r (now (paths .exit)) (now (lengths .exit)) ⌝ }
 {
-    let refused = refusal_number(runtime, dynamic, bounds, columns, importers, kinds, targets);
+    let refused = refusal_number(
+        runtime,
+        dynamic,
+        bounds,
+        columns,
+        names,
+        importers,
+        kinds,
+        targets,
+    );
     if refused != 0 {
         return Answer::Refused(refused);
     }
@@ -71,16 +81,18 @@ pub fn import_circles<'a>(
     dynamic: u32,
     bounds: &'a [u32],
     columns: &'a [u32],
+    names: &'a [u8],
     paths: &mut [u32],
     lengths: &mut [u32],
 ) -> Answer
-    ensures { λ r. ⌜ ImportCircles (lent runtime dynamic (now (bounds .entry)) (now (columns .entry))) (now (paths .entry)) (now (lengths .entry)) r (now (paths .exit)) (now (lengths .exit)) ⌝ }
+    ensures { λ r. ⌜ ImportCircles (lent runtime dynamic (now (bounds .entry)) (now (columns .entry)) (now (names .entry))) (now (paths .entry)) (now (lengths .entry)) r (now (paths .exit)) (now (lengths .exit)) ⌝ }
 {
     import_circles_with_records(
         runtime,
         dynamic,
         bounds,
         columns,
+        names,
         column(bounds, columns, RECORD_MODULE),
         column(bounds, columns, RECORD_KIND),
         column(bounds, columns, RECORD_TARGET),

@@ -2,12 +2,12 @@
 -- Assumes nothing.
 use mathlib.Core.Path.{_≡_, refl, ap, _∙_}
 use mathlib.Core.Logic.{_⊎_, inl, inr, ⊎-elim, ⊎-map}
-use mathlib.Core.Bool.{Bool, true, false, cond, _&&_}
+use mathlib.Core.Bool.{Bool, true, false, cond, not, _&&_, _||_}
 use mathlib.Core.List.{List, _∷_}
 use Prim.Native.Nat.{ℕ, zero, suc, _≤_}
 use native.Mathlib.Omega.{arith}
 use lib.ListN.{length}
-use lib.Dec.{ltb, leb}
+use lib.Dec.{eqb, ltb, leb}
 use Rattle.lists.specs.Words.{isZero, upTo, ones, bit}
 use Rattle.lists.proofs.Laws.{length-countFrom, length-keep, ones-zeros}
 use Rattle.walk.specs.Walk.{everywhere}
@@ -18,10 +18,14 @@ use Rattle.tables.specs.Refusal.{moduleLimit, below, sizesFit, valuesFit, rowsR
 use Rattle.tables.specs.Answers.{numberOf, verdict}
 use Rattle.tables.specs.Accepted.{Accepted}
 use Rattle.tables.specs.declared.Answer.{Answer}
-use Rattle.table.specs.Table.{boundsFit, table, current, lent, answer}
-use Rattle.table.proofs.Laws.{lent-current}
+use Rattle.names.specs.Names.{namesSized, namesIn}
+use Rattle.table.specs.Table.{boundsFit, table, tableNumber, testedToo, Lent, lent, answer}
+use Rattle.table.proofs.Laws.{none-tested, lent-current}
+use Rattle.arrangement.specs.OfProject.{lentNamed}
+use Rattle.arrangement.proofs.OfProject.{lent-named}
 use Rattle.sort_modules.specs.Sort.{staticsOf, visited, sorted}
 use Rattle.sort_modules.specs.OfProject.{sortedOf}
+use Rattle.sort_chunk_modules.specs.Promise.{namedNumber}
 use Rattle.circle_gathering.specs.Gathering.{joined}
 use Rattle.import_circles.specs.OfProject.{circlesOf}
 use Rattle.import_circles.proofs.Counts.{circles-few}
@@ -42,7 +46,7 @@ use Rattle.sensitivity.specs.Marks.{groundsOf}
 use Rattle.sensitivity.proofs.Marks.{length-grounds}
 use Rattle.order_analysis.specs.Whole.{wholePlan}
 use Rattle.order_analysis.proofs.Promise.{length-whole}
-use Rattle.jolmuqter.specs.Calls.{Call, Sort, Circles, Expected, Entries, Actual, Labels, Reach, OrderRisk, CycleRisk, Plan, Whole, Share, Grounds, Refusal, Promise}
+use Rattle.jolmuqter.specs.Calls.{Call, Sort, Circles, Expected, Entries, Actual, Labels, Reach, OrderRisk, CycleRisk, Plan, Whole, Grounds, Share, Arrange, Refusal, readsMemberOrder, lentTo, Promise}
 use Rattle.jolmuqter.specs.Exported.{coded}
 use Rattle.jolmuqter.specs.ToldApart.{countLimit, numberLimit, AcceptedWith, RefusedWith, AnswersAreToldApart, BelowExactlyIfAccepted}
 
@@ -69,7 +73,7 @@ bit-few false = omega arith
 
 -- a project's number is 4 at most, or 10
 
-abbrev Known : ℕ → Type 0
+abbrev pub Known : ℕ → Type 0
 Known n = (n ≤ 4) ⊎ (n ≡ 10)
 
 refusal-known : (p : Project) → Known (refusal p)
@@ -112,29 +116,30 @@ module _ (call : Call) (a : Answer) (r : ℕ) (code : r ≡ coded a) where
   told-room zero false count known l few e = refused 7 count (inl l) e
   told-room (suc n) fits count known l few e = refused n count (⊎-map (λ k. omega arith) (λ q. q) known) e
 
-module _ (runtime dynamic : ℕ) (bounds columns : List ℕ) where
+-- and so is that with two further tests
+tested-known : (n : ℕ) (one two : Bool) → Known n → Known (testedToo n one two)
+tested-known n one two k = known (eqb n 1 || not one) (eqb n 2 || not two)
+  where
+    known : (a b : Bool) → Known (cond a 1 (cond b 2 n))
+    known true b = inl (omega arith)
+    known false true = inl (omega arith)
+    known false false = k
+
+module _ (t : Lent) (number-known : Known (t .number)) (tested : t .number ≡ 0 → Accepted (t .project)) where
   -- the project as it is read
   abbrev p : Project
-  p = current (table runtime dynamic bounds columns)
-
-  number-known : Known (lent runtime dynamic bounds columns .number)
-  number-known = known (boundsFit bounds columns)
-    where
-      known : (b : Bool) → Known (cond b (refusal (table runtime dynamic bounds columns)) 1)
-      known true = refusal-known (table runtime dynamic bounds columns)
-      known false = inl (omega arith)
+  p = t .project
 
   module _ (first second : List ℕ) (a : Answer) (r : ℕ) (first′ second′ : List ℕ) (code : r ≡ coded a) where
     by-number : (call : Call) → 6 ≤ numberLimit call → (fits room : Bool) (count : ℕ) → (Accepted p → count ≤ countLimit call)
-        → a ≡ answer (verdict (lent runtime dynamic bounds columns .number) fits room) count → AcceptedWith call a r ⊎ RefusedWith call a r
-    by-number call l fits room count few =
-        told call a r code (lent runtime dynamic bounds columns .number) fits room count number-known l (λ z. few (lent-current bounds columns (table runtime dynamic bounds columns) z))
+        → a ≡ answer (verdict (t .number) fits room) count → AcceptedWith call a r ⊎ RefusedWith call a r
+    by-number call l fits room count few = told call a r code (t .number) fits room count number-known l (λ z. few (tested z))
 
-    by-promise : (call : Call) → Promise call (lent runtime dynamic bounds columns) first second a first′ second′ → AcceptedWith call a r ⊎ RefusedWith call a r
+    by-promise : (call : Call) → Promise call t first second a first′ second′ → AcceptedWith call a r ⊎ RefusedWith call a r
     by-promise Sort h = by-number Sort (omega arith) true (leb (modules p) (length first) && leb (modules p) (length second)) (length (sortedOf p)) (λ ok. omega (arith, sorted-few p, ok .sizes .normal)) (h .answered)
     by-promise Circles h =
-        told-room Circles a r code (lent runtime dynamic bounds columns .number) (leb (length (joined (circlesOf p))) (length first) && leb (length (circlesOf p)) (length second)) (length (circlesOf p)) number-known (omega arith)
-        (λ z. circles-few p (lent-current bounds columns (table runtime dynamic bounds columns) z)) (h .answered)
+        told-room Circles a r code (t .number) (leb (length (joined (circlesOf p))) (length first) && leb (length (circlesOf p)) (length second)) (length (circlesOf p)) number-known (omega arith)
+        (λ z. circles-few p (tested z)) (h .answered)
     by-promise (Expected root) h = by-number (Expected root) (omega arith) (ltb root (modules p)) (leb (modules p) (length first)) (length (expectedOf p root)) (λ ok. omega (arith, expected-few p root, ok .sizes .normal)) (h .answered)
     by-promise (Entries entries) h = by-number (Entries entries) (omega arith) (below (modules p) entries) (leb (modules p) (length first)) (length (expectedOfEntries p entries)) (λ ok. omega (arith, entries-length p entries, ok .sizes .normal)) (h .answered)
     by-promise (Actual root) h = by-number (Actual root) (omega arith) (isAnalysed p root) (leb (modules p) (length first) && leb (modules p) (length second)) (length (actualOf p root)) (λ ok. omega (arith, actual-length p root, ok .sizes .normal)) (h .answered)
@@ -146,12 +151,40 @@ module _ (runtime dynamic : ℕ) (bounds columns : List ℕ) where
     by-promise Whole h = by-number Whole (omega arith) true (leb (modules p) (length first)) (ones (wholePlan p)) (λ ok. omega (arith, ones-zeros (wholePlan p), length-whole p, ok .sizes .normal)) (h .answered)
     by-promise Grounds h = by-number Grounds (omega arith) true (leb (modules p) (length first)) (ones (groundsOf p)) (λ ok. omega (arith, ones-zeros (groundsOf p), length-grounds p, ok .sizes .normal)) (h .answered)
     by-promise Share h = by-number Share (omega arith) true (leb 4 (length first)) 4 (λ ok. omega arith) (h .answered)
-    by-promise Refusal h = by-number Refusal (omega arith) true true 0 (λ ok. omega arith) (h ∙ tests-alone (lent runtime dynamic bounds columns .number))
+    by-promise (Arrange names) h =
+        told (Arrange names) a r code (namedNumber t names) true (leb (length (p .member)) (length first)) (length (p .member)) (tested-known (t .number) true (ltb 0 (length names)) number-known) (omega arith)
+        (λ z. let ok = tested (none-tested (t .number) true (ltb 0 (length names)) z .0) in omega (arith, ok .sizes .memberChunk, ok .sizes .member)) (h .answered)
+    by-promise Refusal h = by-number Refusal (omega arith) true true 0 (λ ok. omega arith) (h ∙ tests-alone (t .number))
+
+module _ (runtime dynamic : ℕ) (bounds columns names : List ℕ) where
+  abbrev written : Project
+  written = table runtime dynamic bounds columns
+
+  pub number-known : Known (lent runtime dynamic bounds columns names .number)
+  number-known = tested-known (tableNumber bounds columns written) (namesSized names) (namesIn (modules written) names) (known (boundsFit bounds columns))
+    where
+      known : (b : Bool) → Known (cond b (refusal written) 1)
+      known true = refusal-known written
+      known false = inl (omega arith)
+
+  -- as it was lent to an operation that reads the members' order, or doesn't
+  abbrev lentAt : Bool → Lent
+  lentAt order = cond order (lentNamed runtime dynamic bounds columns names) (lent runtime dynamic bounds columns names)
+
+  lent-known : (order : Bool) → Known (lentAt order .number)
+  lent-known true = number-known
+  lent-known false = number-known
+
+  lent-tested : (order : Bool) → lentAt order .number ≡ 0 → Accepted (lentAt order .project)
+  lent-tested true z = lent-named bounds columns names written z
+  lent-tested false z = lent-current bounds columns names written z
 
 pub answers-are-told-apart : AnswersAreToldApart
 unfolding AnswersAreToldApart
-answers-are-told-apart call runtime dynamic bounds columns first second r first′ second′ e =
-    by-promise runtime dynamic bounds columns first second (e .answer) r first′ second′ (e .code) call (e .promised)
+answers-are-told-apart call runtime dynamic bounds columns names first second r first′ second′ e =
+    let order : Bool = readsMemberOrder call in
+    by-promise (lentTo call runtime dynamic bounds columns names) (lent-known runtime dynamic bounds columns names order) (lent-tested runtime dynamic bounds columns names order)
+    first second (e .answer) r first′ second′ (e .code) call (e .promised)
 
 limit-below : (call : Call) → countLimit call ≤ 134217728
 limit-below Sort = omega arith
@@ -166,13 +199,14 @@ limit-below (CycleRisk root) = omega arith
 limit-below (Plan seeds) = omega arith
 limit-below Whole = omega arith
 limit-below Share = omega arith
+limit-below (Arrange names) = omega arith
 limit-below Grounds = omega arith
 limit-below Refusal = omega arith
 
 pub below-exactly-if-accepted : BelowExactlyIfAccepted
 unfolding AnswersAreToldApart BelowExactlyIfAccepted
-below-exactly-if-accepted call runtime dynamic bounds columns first second r first′ second′ e =
+below-exactly-if-accepted call runtime dynamic bounds columns names first second r first′ second′ e =
     ⊎-elim
     (λ a. (λ l. ap numberOf (a .accepted), λ z. omega (arith, a .within, limit-below call)))
     (λ f. (λ l. absurd (omega (arith, f .code)), λ z. absurd (omega (arith, f .least, ap numberOf (f .refused)))))
-    (answers-are-told-apart call runtime dynamic bounds columns first second r first′ second′ e)
+    (answers-are-told-apart call runtime dynamic bounds columns names first second r first′ second′ e)

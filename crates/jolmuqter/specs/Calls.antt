@@ -1,11 +1,14 @@
 -- What a call on a project that was lent promises.
 -- Assumes nothing.
 use mathlib.Core.Path.{_≡_}
+use mathlib.Core.Bool.{Bool, true, false, cond}
 use mathlib.Core.List.{List}
 use Prim.Native.Nat.{ℕ}
 use Rattle.tables.specs.declared.Answer.{Answer}
-use Rattle.table.specs.Table.{Lent, answer}
+use Rattle.table.specs.Table.{Lent, lent, answer}
+use Rattle.arrangement.specs.OfProject.{lentNamed}
 use Rattle.sort_modules.specs.Promise.{SortModules}
+use Rattle.sort_chunk_modules.specs.Promise.{SortChunkModules}
 use Rattle.import_circles.specs.Promise.{ImportCircles}
 use Rattle.expected_order.specs.Promise.{ExpectedOrder}
 use Rattle.entries_order.specs.Promise.{EntriesOrder}
@@ -32,7 +35,31 @@ pub data Call : Type 0 where
   Whole : Call
   Grounds : Call
   Share : Call
+  Arrange : List ℕ → Call
   Refusal : Call
+
+-- whether an operation reads members in their order, as the arrangement has it
+abbrev pub readsMemberOrder : Call → Bool
+readsMemberOrder Sort = false
+readsMemberOrder Circles = false
+readsMemberOrder (Expected root) = false
+readsMemberOrder (Entries entries) = false
+readsMemberOrder (Actual root) = true
+readsMemberOrder Labels = false
+readsMemberOrder (Reach chunk) = false
+readsMemberOrder (OrderRisk root) = true
+readsMemberOrder (CycleRisk root) = false
+readsMemberOrder (Plan seeds) = false
+readsMemberOrder Whole = true
+readsMemberOrder Grounds = false
+readsMemberOrder Share = true
+readsMemberOrder (Arrange names) = false
+readsMemberOrder Refusal = false
+
+-- a table as it was lent to an operation, its members as they are read where it reads their order
+abbrev pub lentTo : Call → ℕ → ℕ → List ℕ → List ℕ → List ℕ → Lent
+lentTo call runtime dynamic bounds columns names =
+    cond (readsMemberOrder call) (lentNamed runtime dynamic bounds columns names) (lent runtime dynamic bounds columns names)
 
 -- each operation's own promise, of the outputs that it has
 abbrev pub Promise : Call → Lent → List ℕ → List ℕ → Answer → List ℕ → List ℕ → Type 0
@@ -49,4 +76,5 @@ Promise (Plan seeds) t first second r first′ second′ = PlanFromSeeds t seeds
 Promise Whole t first second r first′ second′ = WholeAnalysis t first r first′
 Promise Grounds t first second r first′ second′ = ModuleGrounds t first r first′
 Promise Share t first second r first′ second′ = WrittenShare t first r first′
+Promise (Arrange names) t first second r first′ second′ = SortChunkModules t names first r first′
 Promise Refusal t first second r first′ second′ = r ≡ answer (t .number) 0

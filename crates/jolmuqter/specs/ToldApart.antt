@@ -6,12 +6,11 @@ use mathlib.Core.Logic.{_⊎_}
 use mathlib.Core.Bool.{Bool, true, false, cond}
 use mathlib.Core.List.{List}
 use Prim.Native.Nat.{ℕ, _+_, _^_, _≤_, _<_}
-use Rattle.tables.specs.Refusal.{moduleLimit}
+use Rattle.tables.specs.Refusal.{moduleLimit, rowLimit}
 use Rattle.tables.specs.Answers.{numberOf}
 use Rattle.tables.specs.declared.Answer.{Answer}
 use Rattle.tables.specs.declared.Answer.the-variants.{Refused, Counted}
-use Rattle.table.specs.Table.{lent}
-use Rattle.jolmuqter.specs.Calls.{Call, Sort, Circles, Expected, Entries, Actual, Labels, Reach, OrderRisk, CycleRisk, Plan, Whole, Share, Grounds, Refusal}
+use Rattle.jolmuqter.specs.Calls.{Call, lentTo, Sort, Circles, Expected, Entries, Actual, Labels, Reach, OrderRisk, CycleRisk, Plan, Whole, Grounds, Share, Arrange, Refusal}
 use Rattle.jolmuqter.specs.Exported.{Exported}
 
 abbrev pub isCircles : Call → Bool
@@ -27,12 +26,27 @@ isCircles (CycleRisk root) = false
 isCircles (Plan seeds) = false
 isCircles Whole = false
 isCircles Share = false
+isCircles (Arrange names) = false
 isCircles Grounds = false
 isCircles Refusal = false
 
--- a count is 4,096 at most, that of circles 2 ^ 27
+-- a count is 4,096 at most, that of circles 2 ^ 27, that of member rows 16,384
 abbrev pub countLimit : Call → ℕ
-countLimit call = cond (isCircles call) (2 ^ 27) moduleLimit
+countLimit Circles = 2 ^ 27
+countLimit (Arrange names) = rowLimit
+countLimit Sort = moduleLimit
+countLimit (Expected root) = moduleLimit
+countLimit (Entries entries) = moduleLimit
+countLimit (Actual root) = moduleLimit
+countLimit Labels = moduleLimit
+countLimit (Reach chunk) = moduleLimit
+countLimit (OrderRisk root) = moduleLimit
+countLimit (CycleRisk root) = moduleLimit
+countLimit (Plan seeds) = moduleLimit
+countLimit Whole = moduleLimit
+countLimit Grounds = moduleLimit
+countLimit Share = moduleLimit
+countLimit Refusal = moduleLimit
 
 -- the number of a refusal is 6 at most, that of circles 8, or 10
 abbrev pub numberLimit : Call → ℕ
@@ -54,12 +68,12 @@ pub record RefusedWith (call : Call) (answer : Answer) (r : ℕ) : Type 0 where
 -- every answer is one of the two
 unfoldable pub AnswersAreToldApart : Type 0
 AnswersAreToldApart =
-    (call : Call) (runtime dynamic : ℕ) (bounds columns first second : List ℕ) (r : ℕ) (first′ second′ : List ℕ)
-    (e : Exported call (lent runtime dynamic bounds columns) first second r first′ second′) → AcceptedWith call (e .answer) r ⊎ RefusedWith call (e .answer) r
+    (call : Call) (runtime dynamic : ℕ) (bounds columns names first second : List ℕ) (r : ℕ) (first′ second′ : List ℕ)
+    (e : Exported call (lentTo call runtime dynamic bounds columns names) first second r first′ second′) → AcceptedWith call (e .answer) r ⊎ RefusedWith call (e .answer) r
 
 -- an answer is below 2 ^ 32 exactly if the call is accepted
 unfoldable pub BelowExactlyIfAccepted : Type 0
 BelowExactlyIfAccepted =
-    (call : Call) (runtime dynamic : ℕ) (bounds columns first second : List ℕ) (r : ℕ) (first′ second′ : List ℕ)
-    (e : Exported call (lent runtime dynamic bounds columns) first second r first′ second′)
+    (call : Call) (runtime dynamic : ℕ) (bounds columns names first second : List ℕ) (r : ℕ) (first′ second′ : List ℕ)
+    (e : Exported call (lentTo call runtime dynamic bounds columns names) first second r first′ second′)
     → (r < 2 ^ 32 → numberOf (e .answer) ≡ 0) × (numberOf (e .answer) ≡ 0 → r < 2 ^ 32)

@@ -3,7 +3,8 @@
 ghost use mathlib.Core.Path.{_≡_};
 ghost use mathlib.Core.List.{[]};
 ghost use Rattle.table.specs.Table.{lent, answer};
-ghost use Rattle.jolmuqter.specs.Calls.{Sort, Circles, Expected, Entries, Actual, Labels, Reach, OrderRisk, CycleRisk, Plan, Whole, Share, Grounds, Refusal};
+ghost use Rattle.arrangement.specs.OfProject.{lentNamed};
+ghost use Rattle.jolmuqter.specs.Calls.{Sort, Circles, Expected, Entries, Actual, Labels, Reach, OrderRisk, CycleRisk, Plan, Whole, Grounds, Share, Arrange, Refusal};
 ghost use Rattle.plan_check.specs.Promise.{judgement};
 ghost use Rattle.jolmuqter.specs.Exported.{coded, codedJudgement, Exported};
 use plan_conditions::Judgement;
@@ -31,12 +32,13 @@ pub extern "C" fn jolmuqter_sort_modules<'a>(
     dynamic: u32,
     bounds: &'a [u32],
     columns: &'a [u32],
+    names: &'a [u8],
     numbers: &mut [u32],
     sorted: &mut [u32],
 ) -> u64
-    ensures { λ r. ⌜ Exported Sort (lent runtime dynamic (now (bounds .entry)) (now (columns .entry))) (now (numbers .entry)) (now (sorted .entry)) r (now (numbers .exit)) (now (sorted .exit)) ⌝ }
+    ensures { λ r. ⌜ Exported Sort (lent runtime dynamic (now (bounds .entry)) (now (columns .entry)) (now (names .entry))) (now (numbers .entry)) (now (sorted .entry)) r (now (numbers .exit)) (now (sorted .exit)) ⌝ }
 {
-    code(sort_modules::sort_modules(runtime, dynamic, bounds, columns, numbers, sorted))
+    code(sort_modules::sort_modules(runtime, dynamic, bounds, columns, names, numbers, sorted))
 }
 
 // The import circles: the paths one after the other, and their lengths.
@@ -46,12 +48,13 @@ pub extern "C" fn jolmuqter_import_circles<'a>(
     dynamic: u32,
     bounds: &'a [u32],
     columns: &'a [u32],
+    names: &'a [u8],
     paths: &mut [u32],
     lengths: &mut [u32],
 ) -> u64
-    ensures { λ r. ⌜ Exported Circles (lent runtime dynamic (now (bounds .entry)) (now (columns .entry))) (now (paths .entry)) (now (lengths .entry)) r (now (paths .exit)) (now (lengths .exit)) ⌝ }
+    ensures { λ r. ⌜ Exported Circles (lent runtime dynamic (now (bounds .entry)) (now (columns .entry)) (now (names .entry))) (now (paths .entry)) (now (lengths .entry)) r (now (paths .exit)) (now (lengths .exit)) ⌝ }
 {
-    code(import_circles::import_circles(runtime, dynamic, bounds, columns, paths, lengths))
+    code(import_circles::import_circles(runtime, dynamic, bounds, columns, names, paths, lengths))
 }
 
 // The expected order of any module row.
@@ -61,12 +64,13 @@ pub extern "C" fn jolmuqter_expected_order<'a>(
     dynamic: u32,
     bounds: &'a [u32],
     columns: &'a [u32],
+    names: &'a [u8],
     root: u32,
     order: &mut [u32],
 ) -> u64
-    ensures { λ r. ⌜ Exported (Expected root) (lent runtime dynamic (now (bounds .entry)) (now (columns .entry))) (now (order .entry)) [] r (now (order .exit)) [] ⌝ }
+    ensures { λ r. ⌜ Exported (Expected root) (lent runtime dynamic (now (bounds .entry)) (now (columns .entry)) (now (names .entry))) (now (order .entry)) [] r (now (order .exit)) [] ⌝ }
 {
-    code(expected_order::expected_order(runtime, dynamic, bounds, columns, root, order))
+    code(expected_order::expected_order(runtime, dynamic, bounds, columns, names, root, order))
 }
 
 // The expected order of any module rows, walked together.
@@ -76,12 +80,13 @@ pub extern "C" fn jolmuqter_entries_order<'a>(
     dynamic: u32,
     bounds: &'a [u32],
     columns: &'a [u32],
+    names: &'a [u8],
     entries: &[u32],
     order: &mut [u32],
 ) -> u64
-    ensures { λ r. ⌜ Exported (Entries (now (entries .entry))) (lent runtime dynamic (now (bounds .entry)) (now (columns .entry))) (now (order .entry)) [] r (now (order .exit)) [] ⌝ }
+    ensures { λ r. ⌜ Exported (Entries (now (entries .entry))) (lent runtime dynamic (now (bounds .entry)) (now (columns .entry)) (now (names .entry))) (now (order .entry)) [] r (now (order .exit)) [] ⌝ }
 {
-    code(entries_order::entries_order(runtime, dynamic, bounds, columns, entries, order))
+    code(entries_order::entries_order(runtime, dynamic, bounds, columns, names, entries, order))
 }
 
 // The actual order of an analysed entry, and the hosts.
@@ -91,13 +96,14 @@ pub extern "C" fn jolmuqter_actual_order<'a>(
     dynamic: u32,
     bounds: &'a [u32],
     columns: &'a [u32],
+    names: &'a [u8],
     root: u32,
     order: &mut [u32],
     hosts: &mut [u32],
 ) -> u64
-    ensures { λ r. ⌜ Exported (Actual root) (lent runtime dynamic (now (bounds .entry)) (now (columns .entry))) (now (order .entry)) (now (hosts .entry)) r (now (order .exit)) (now (hosts .exit)) ⌝ }
+    ensures { λ r. ⌜ Exported (Actual root) (lentNamed runtime dynamic (now (bounds .entry)) (now (columns .entry)) (now (names .entry))) (now (order .entry)) (now (hosts .entry)) r (now (order .exit)) (now (hosts .exit)) ⌝ }
 {
-    code(actual_order::actual_order(runtime, dynamic, bounds, columns, root, order, hosts))
+    code(actual_order::actual_order(runtime, dynamic, bounds, columns, names, root, order, hosts))
 }
 
 // The label of each chunk.
@@ -107,11 +113,12 @@ pub extern "C" fn jolmuqter_labels<'a>(
     dynamic: u32,
     bounds: &'a [u32],
     columns: &'a [u32],
+    names: &'a [u8],
     labels: &mut [u32],
 ) -> u64
-    ensures { λ r. ⌜ Exported Labels (lent runtime dynamic (now (bounds .entry)) (now (columns .entry))) (now (labels .entry)) [] r (now (labels .exit)) [] ⌝ }
+    ensures { λ r. ⌜ Exported Labels (lent runtime dynamic (now (bounds .entry)) (now (columns .entry)) (now (names .entry))) (now (labels .entry)) [] r (now (labels .exit)) [] ⌝ }
 {
-    code(chunk_cycles::labels(runtime, dynamic, bounds, columns, labels))
+    code(chunk_cycles::labels(runtime, dynamic, bounds, columns, names, labels))
 }
 
 // Whether a chunk reaches a cyclic one.
@@ -121,11 +128,12 @@ pub extern "C" fn jolmuqter_chunk_reach<'a>(
     dynamic: u32,
     bounds: &'a [u32],
     columns: &'a [u32],
+    names: &'a [u8],
     chunk: u32,
 ) -> u64
-    ensures { λ r. ⌜ Exported (Reach chunk) (lent runtime dynamic (now (bounds .entry)) (now (columns .entry))) [] [] r [] [] ⌝ }
+    ensures { λ r. ⌜ Exported (Reach chunk) (lent runtime dynamic (now (bounds .entry)) (now (columns .entry)) (now (names .entry))) [] [] r [] [] ⌝ }
 {
-    code(chunk_cycles::chunk_reach(runtime, dynamic, bounds, columns, chunk))
+    code(chunk_cycles::chunk_reach(runtime, dynamic, bounds, columns, names, chunk))
 }
 
 // The order risk of an analysed entry.
@@ -135,12 +143,13 @@ pub extern "C" fn jolmuqter_order_risk<'a>(
     dynamic: u32,
     bounds: &'a [u32],
     columns: &'a [u32],
+    names: &'a [u8],
     root: u32,
     risk: &mut [u32],
 ) -> u64
-    ensures { λ r. ⌜ Exported (OrderRisk root) (lent runtime dynamic (now (bounds .entry)) (now (columns .entry))) (now (risk .entry)) [] r (now (risk .exit)) [] ⌝ }
+    ensures { λ r. ⌜ Exported (OrderRisk root) (lentNamed runtime dynamic (now (bounds .entry)) (now (columns .entry)) (now (names .entry))) (now (risk .entry)) [] r (now (risk .exit)) [] ⌝ }
 {
-    code(order_risk::order_risk(runtime, dynamic, bounds, columns, root, risk))
+    code(order_risk::order_risk(runtime, dynamic, bounds, columns, names, root, risk))
 }
 
 // The cycle risk of an analysed entry.
@@ -150,12 +159,13 @@ pub extern "C" fn jolmuqter_cycle_risk<'a>(
     dynamic: u32,
     bounds: &'a [u32],
     columns: &'a [u32],
+    names: &'a [u8],
     root: u32,
     risk: &mut [u32],
 ) -> u64
-    ensures { λ r. ⌜ Exported (CycleRisk root) (lent runtime dynamic (now (bounds .entry)) (now (columns .entry))) (now (risk .entry)) [] r (now (risk .exit)) [] ⌝ }
+    ensures { λ r. ⌜ Exported (CycleRisk root) (lent runtime dynamic (now (bounds .entry)) (now (columns .entry)) (now (names .entry))) (now (risk .entry)) [] r (now (risk .exit)) [] ⌝ }
 {
-    code(cycle_risk::cycle_risk(runtime, dynamic, bounds, columns, root, risk))
+    code(cycle_risk::cycle_risk(runtime, dynamic, bounds, columns, names, root, risk))
 }
 
 // The plan from lent seeds.
@@ -165,12 +175,13 @@ pub extern "C" fn jolmuqter_plan_from_seeds<'a>(
     dynamic: u32,
     bounds: &'a [u32],
     columns: &'a [u32],
+    names: &'a [u8],
     seeds: &[u32],
     plan: &mut [u32],
 ) -> u64
-    ensures { λ r. ⌜ Exported (Plan (now (seeds .entry))) (lent runtime dynamic (now (bounds .entry)) (now (columns .entry))) (now (plan .entry)) [] r (now (plan .exit)) [] ⌝ }
+    ensures { λ r. ⌜ Exported (Plan (now (seeds .entry))) (lent runtime dynamic (now (bounds .entry)) (now (columns .entry)) (now (names .entry))) (now (plan .entry)) [] r (now (plan .exit)) [] ⌝ }
 {
-    code(wrap_plan::plan_from_seeds(runtime, dynamic, bounds, columns, seeds, plan))
+    code(wrap_plan::plan_from_seeds(runtime, dynamic, bounds, columns, names, seeds, plan))
 }
 
 // What is said of a plan, as a number.
@@ -191,12 +202,13 @@ pub extern "C" fn jolmuqter_check_plan<'a>(
     dynamic: u32,
     bounds: &'a [u32],
     columns: &'a [u32],
+    names: &'a [u8],
     seeds: &[u32],
     plan: &[u32],
 ) -> u64
-    ensures { λ r. ⌜ r ≡ codedJudgement (judgement (lent runtime dynamic (now (bounds .entry)) (now (columns .entry))) (now (seeds .entry)) (now (plan .entry))) ⌝ }
+    ensures { λ r. ⌜ r ≡ codedJudgement (judgement (lent runtime dynamic (now (bounds .entry)) (now (columns .entry)) (now (names .entry))) (now (seeds .entry)) (now (plan .entry))) ⌝ }
 {
-    judgement_code(plan_check::check_plan(runtime, dynamic, bounds, columns, seeds, plan))
+    judgement_code(plan_check::check_plan(runtime, dynamic, bounds, columns, names, seeds, plan))
 }
 
 // The plan of the whole analysis.
@@ -206,11 +218,12 @@ pub extern "C" fn jolmuqter_plan<'a>(
     dynamic: u32,
     bounds: &'a [u32],
     columns: &'a [u32],
+    names: &'a [u8],
     plan: &mut [u32],
 ) -> u64
-    ensures { λ r. ⌜ Exported Whole (lent runtime dynamic (now (bounds .entry)) (now (columns .entry))) (now (plan .entry)) [] r (now (plan .exit)) [] ⌝ }
+    ensures { λ r. ⌜ Exported Whole (lentNamed runtime dynamic (now (bounds .entry)) (now (columns .entry)) (now (names .entry))) (now (plan .entry)) [] r (now (plan .exit)) [] ⌝ }
 {
-    code(order_analysis::analyze_execution_order(runtime, dynamic, bounds, columns, plan))
+    code(order_analysis::analyze_execution_order(runtime, dynamic, bounds, columns, names, plan))
 }
 
 // The ground of each module's sensitivity.
@@ -220,11 +233,12 @@ pub extern "C" fn jolmuqter_grounds<'a>(
     dynamic: u32,
     bounds: &'a [u32],
     columns: &'a [u32],
+    names: &'a [u8],
     grounds: &mut [u32],
 ) -> u64
-    ensures { λ r. ⌜ Exported Grounds (lent runtime dynamic (now (bounds .entry)) (now (columns .entry))) (now (grounds .entry)) [] r (now (grounds .exit)) [] ⌝ }
+    ensures { λ r. ⌜ Exported Grounds (lent runtime dynamic (now (bounds .entry)) (now (columns .entry)) (now (names .entry))) (now (grounds .entry)) [] r (now (grounds .exit)) [] ⌝ }
 {
-    code(grounds::grounds(runtime, dynamic, bounds, columns, grounds))
+    code(grounds::grounds(runtime, dynamic, bounds, columns, names, grounds))
 }
 
 // The share of the eligible modules that are planned.
@@ -234,11 +248,27 @@ pub extern "C" fn jolmuqter_share<'a>(
     dynamic: u32,
     bounds: &'a [u32],
     columns: &'a [u32],
+    names: &'a [u8],
     share: &mut [u32],
 ) -> u64
-    ensures { λ r. ⌜ Exported Share (lent runtime dynamic (now (bounds .entry)) (now (columns .entry))) (now (share .entry)) [] r (now (share .exit)) [] ⌝ }
+    ensures { λ r. ⌜ Exported Share (lentNamed runtime dynamic (now (bounds .entry)) (now (columns .entry)) (now (names .entry))) (now (share .entry)) [] r (now (share .exit)) [] ⌝ }
 {
-    code(shares::write_share(runtime, dynamic, bounds, columns, share))
+    code(shares::write_share(runtime, dynamic, bounds, columns, names, share))
+}
+
+// The members of each chunk as `sort_chunk_modules` arranges them, at the chunk's member rows.
+#[no_mangle]
+pub extern "C" fn jolmuqter_sort_chunk_modules<'a>(
+    runtime: u32,
+    dynamic: u32,
+    bounds: &'a [u32],
+    columns: &'a [u32],
+    names: &'a [u8],
+    members: &mut [u32],
+) -> u64
+    ensures { λ r. ⌜ Exported (Arrange (now (names .entry))) (lent runtime dynamic (now (bounds .entry)) (now (columns .entry)) (now (names .entry))) (now (members .entry)) [] r (now (members .exit)) [] ⌝ }
+{
+    code(sort_chunk_modules::sort_chunk_modules(runtime, dynamic, bounds, columns, names, members))
 }
 
 // The answer to the tests alone.
@@ -258,14 +288,16 @@ pub extern "C" fn jolmuqter_refusal<'a>(
     dynamic: u32,
     bounds: &'a [u32],
     columns: &'a [u32],
+    names: &'a [u8],
 ) -> u64
-    ensures { λ r. ⌜ Exported Refusal (lent runtime dynamic (now (bounds .entry)) (now (columns .entry))) [] [] r [] [] ⌝ }
+    ensures { λ r. ⌜ Exported Refusal (lent runtime dynamic (now (bounds .entry)) (now (columns .entry)) (now (names .entry))) [] [] r [] [] ⌝ }
 {
     code(tested(refusal_number(
         runtime,
         dynamic,
         bounds,
         columns,
+        names,
         column(bounds, columns, RECORD_MODULE),
         column(bounds, columns, RECORD_KIND),
         column(bounds, columns, RECORD_TARGET),

@@ -5,4 +5,5 @@ pub mod RowCells
 pub mod Tables
 pub mod Projects
 pub mod Parts
+pub mod Numbers
 pub mod Answered

@@ -1,8 +1,8 @@
 -- What was read is the text of one table, or of none.
 -- Assumes nothing.
-use Prim.Native.Nat.{ℕ, suc, _+_, _-_, _*_, _≤_, _<_}
+use Prim.Native.Nat.{ℕ, suc, _+_, _-_, _*_, _/_, _≤_, _<_}
 use native.Mathlib.Omega.{arith}
-use native.Mathlib.Nat.{zero-mul, suc-mul, mul-comm}
+use native.Mathlib.Nat.{zero-mul, suc-mul, mul-comm, mul-div-cancel}
 use mathlib.Core.Path.{_≡_, refl, sym, ap, ap₂, _∙_, subst}
 use mathlib.Core.Bool.{true}
 use mathlib.Core.List.{List, [], _∷_, _++_, append-nil, map, flatten}
@@ -10,17 +10,21 @@ use lib.ListN.{length, getD, drop, length-append, length-drop, length-map}
 use lib.Seq.{sets, drop-length, drop-cons}
 use Rattle.lists.specs.Words.{upTo, every}
 use Rattle.tables.specs.Project.{Project}
-use Rattle.tables.specs.declared.Answer.the-variants.{Refused, Counted}
-use Rattle.form.specs.Form.{transpose, rowCount, rowsOf, sections, names, lists, render, even, hasText, Renders}
+use Rattle.form.specs.Form.{transpose, rowCount, rowsOf, sections, names, lists, render, even, hasText}
 use Rattle.form.proofs.Lists.{every-head, places, transpose-length}
 use Rattle.form.proofs.Rows.{Rows, column-length, even-rows}
 use Rattle.form.proofs.Injective.{Alike, sections-once, projectOf}
 use Rattle.form.proofs.Injective as form
 use Rattle.form.proofs.Runs.{sets-front}
+use Rattle.named_form.specs.NamedForm.{NameList, nameSection, listFits, RendersNamed}
+use Rattle.name_list.specs.Lying.{LiesIn, NamesLie}
+use Rattle.name_list.specs.declared.Found.{Found}
+use Rattle.name_list.specs.declared.Found.the-variants.{Names, Broken}
 use Rattle.text_rows.specs.inner.Cells.{widths, heads, texts, Wholes, stops}
 use Rattle.text_rows.specs.inner.Steps.{AllRead, AllIs, Room, Steps}
 use Rattle.listing.specs.inner.Columns.{cut, Climbs}
 use Rattle.listing.specs.Reading.{columnsOf, valuesOf, boundsOf, tails, Reads}
+use Rattle.listing.specs.declared.Reading.the-variants.{Refused, Read}
 use Rattle.text_rows.specs.declared.core.Cursor.{Cursor}
 use Rattle.text_rows.specs.declared.core.Cursor.the-variants.{On, Off}
 use Rattle.listing.proofs.Cuts.{tails-length, flatten-append}
@@ -106,16 +110,21 @@ flat-size n [] h = sym (zero-mul n)
 flat-size n (x ∷ xs) h =
     length-append x (flatten xs) ∙ ap₂ _+_ (h 0 (omega arith)) (flat-size n xs (λ k l. h (suc k) (omega arith))) ∙ omega (arith, suc-mul (length xs) n)
 
+-- the values of a list of w columns
+list-size : (w : ℕ) (c : List (List ℕ)) → length c ≡ w → even c ≡ true → length (rowValues c) ≡ rowCount c * w
+list-size w c l e =
+    let r : Rows w (rowsOf c) = rw l at (even-rows c e) in
+    rows-size w (rowsOf c) r ∙ ap (λ (i : ℕ). i * w) (transpose-length (rowCount c) c)
+
 -- row by row and column by column there are as many values
 same-size : (ws : List ℕ) (cs : List (List (List ℕ))) → Shaped ws cs → every even cs ≡ true → length (flatten (map rowValues cs)) ≡ length (flatten (flatten cs))
 unfolding flatten
 same-size [] [] no-list e = refl
 same-size (w ∷ ws) (c ∷ cs) (a-list h l s) e =
     let f = every-head even c cs e in
-    let r : Rows w (rowsOf c) = rw l at (even-rows c (f .0)) in
     let one : length (rowValues c) ≡ length (flatten c) =
-    rows-size w (rowsOf c) r
-    ∙ ap₂ _*_ (transpose-length (rowCount c) c) (sym l)
+    list-size w c l (f .0)
+    ∙ ap (λ (k : ℕ). rowCount c * k) (sym l)
     ∙ mul-comm (rowCount c) (length c)
     ∙ sym (flat-size (rowCount c) c (column-length c (f .0))) in
     length-append (rowValues c) (flatten (map rowValues cs))
@@ -159,19 +168,19 @@ behind (c ∷ cs) (a-list h l s) e one post =
 over-whole : (l xs : List ℕ) → length xs ≡ length l → sets l 0 xs ≡ xs
 over-whole l xs e = sets-front l xs (omega arith) ∙ ap (λ (n : ℕ). xs ++ drop n l) e ∙ ap (λ (r : List ℕ). xs ++ r) (drop-length l) ∙ append-nil xs
 
--- the text of a table is the text of whole rows
-module _ (s : List ℕ) (p : Project) (r : Renders s p) where
+-- the text of a table is the text of whole rows, and the list of names behind it
+module _ (s : List ℕ) (p : Project) (l : NameList) (r : RendersNamed s p l) where
   vss : List (List ℕ)
   vss = map rowValues (lists p)
 
-  row-text : Wholes heads vss × (texts heads vss ≡ s)
-  unfolding hasText render vss
+  row-text : Wholes heads vss × (s ≡ texts heads vss ++ nameSection l)
+  unfolding hasText render vss RendersNamed
   row-text =
       let w = all-wholes names widths (lists p) refl (lists-shaped p) (r .0) in
-      (w .0, w .1 ∙ r .1)
+      (w .0, sym (r .2) ∙ ap (λ (x : List ℕ). x ++ nameSection l) (sym (w .1)))
 
   pub read-off : (d d′ e e′ : List ℕ) → AllIs s heads d d′ e e′ 0 (On 0 0) Off → ⊥
-  read-off d d′ e e′ a = a vss [] (row-text .0) (sym (row-text .1) ∙ sym (append-nil (texts heads vss)))
+  read-off d d′ e e′ a = a vss (nameSection l) (row-text .0) (row-text .1)
 
 -- all lists were read, up to `at`
 module _ (s d e : List ℕ) (at k : ℕ) (d′ e′ : List ℕ) (a : AllRead s heads 0 0 d e 0 at k d′ e′) where
@@ -191,15 +200,11 @@ module _ (s d e : List ℕ) (at k : ℕ) (d′ e′ : List ℕ) (a : AllRead s h
       ∙ ap (λ (x : List ℕ). x ++ drop at s) (all-wholes names widths (found .0) refl (found .1) (found .2) .1)
 
   -- no other table
-  same : (p : Project) → Renders s p → (found .0 ≡ lists p) × (drop at s ≡ [])
-  unfolding hasText render
-  same p r =
-      sections-once names (found .0) (lists p) (drop at s) [] (sym found-count) (shaped-alike widths (found .0) (lists p) (found .1) (lists-shaped p)) (found .2) (r .0)
-      (sym found-text ∙ sym (r .1) ∙ sym (append-nil (sections names (lists p))))
-
-  -- text behind the lists
-  pub read-late : (at ≡ length s → ⊥) → (p : Project) → Renders s p → ⊥
-  read-late n p r = n (omega (arith, ap length (same p r .1), length-drop at s, a .inside))
+  same : (p : Project) (l : NameList) → RendersNamed s p l → (found .0 ≡ lists p) × (drop at s ≡ nameSection l)
+  unfolding hasText render RendersNamed
+  same p l r =
+      sections-once names (found .0) (lists p) (drop at s) (nameSection l) (sym found-count) (shaped-alike widths (found .0) (lists p) (found .1) (lists-shaped p)) (found .2) (r .0)
+      (sym found-text ∙ sym (r .2))
 
   module _ (le : length e ≡ 15) where
     ends-stops : e′ ≡ stops 0 (a .vss)
@@ -208,38 +213,59 @@ module _ (s d e : List ℕ) (at k : ℕ) (d′ e′ : List ℕ) (a : AllRead s h
     pub ends-size : length e′ ≡ 15
     ends-size = ap length ends-stops ∙ stops-count
 
-    -- the first list's values: two exactly if it has one row
-    first-size : getD e′ 0 0 ≡ rowCount (getD (found .0) 0 []) * 2
+    -- the ends of the settings and of the modules
+    first-sizes : (getD e′ 0 0 ≡ rowCount (getD (found .0) 0 []) * 2) × (getD e′ 1 0 ≡ rowCount (getD (found .0) 0 []) * 2 + rowCount (getD (found .0) 1 []) * 8)
     unfolding stops
-    first-size =
-        ap (λ (x : List ℕ). getD x 0 0) (ends-stops ∙ ap (stops 0) (found .3))
-        ∙ first (found .0) (found .1) (found .2)
+    first-sizes =
+        let w = first (found .0) (found .1) (found .2) in
+        let q : e′ ≡ stops 0 (map rowValues (found .0)) = ends-stops ∙ ap (stops 0) (found .3) in
+        (ap (λ (x : List ℕ). getD x 0 0) q ∙ w .0, ap (λ (x : List ℕ). getD x 1 0) q ∙ w .1)
       where
-        first : (cs : List (List (List ℕ))) → Shaped widths cs → every even cs ≡ true → getD (stops 0 (map rowValues cs)) 0 0 ≡ rowCount (getD cs 0 []) * 2
+        second : (n : ℕ) (cs : List (List (List ℕ))) → Shaped (drop 1 widths) cs → every even cs ≡ true
+            → getD (stops n (map rowValues cs)) 0 0 ≡ n + rowCount (getD cs 0 []) * 8
+        second n (c ∷ cs) (a-list h l t) f = ap (λ (k : ℕ). n + k) (list-size 8 c l (every-head even c cs f .0))
+
+        first : (cs : List (List (List ℕ))) → Shaped widths cs → every even cs ≡ true
+            → (getD (stops 0 (map rowValues cs)) 0 0 ≡ rowCount (getD cs 0 []) * 2)
+            × (getD (stops 0 (map rowValues cs)) 1 0 ≡ rowCount (getD cs 0 []) * 2 + rowCount (getD cs 1 []) * 8)
         first (c ∷ cs) (a-list h l t) f =
-            let r : Rows 2 (rowsOf c) = rw l at (even-rows c (every-head even c cs f .0)) in
-            let n : 0 + length (rowValues c) ≡ length (rowValues c) = omega arith in
-            n ∙ rows-size 2 (rowsOf c) r ∙ ap (λ (i : ℕ). i * 2) (transpose-length (rowCount c) c)
+            let g = every-head even c cs f in
+            let n : 0 + length (rowValues c) ≡ rowCount c * 2 = omega (arith, list-size 2 c l (g .0)) in
+            (n, second (0 + length (rowValues c)) cs t (g .1) ∙ ap (λ (k : ℕ). k + rowCount (getD cs 0 []) * 8) n)
 
     -- not one row of settings
-    pub read-unsettled : (getD e′ 0 0 ≡ 2 → ⊥) → (p : Project) → Renders s p → ⊥
-    read-unsettled n p r = n (first-size ∙ ap (λ (cs : List (List (List ℕ))). rowCount (getD cs 0 []) * 2) (same p r .0))
+    pub read-unsettled : (getD e′ 0 0 ≡ 2 → ⊥) → (p : Project) (l : NameList) → RendersNamed s p l → ⊥
+    read-unsettled n p l r = n (first-sizes .0 ∙ ap (λ (cs : List (List (List ℕ))). rowCount (getD cs 0 []) * 2) (same p l r .0))
 
-    module _ (end : at ≡ length s) (two : getD e′ 0 0 ≡ 2) where
+    module _ (two : getD e′ 0 0 ≡ 2) where
+      pub modules-end : 2 ≤ getD e′ 1 0
+      modules-end = omega (arith, first-sizes .0, first-sizes .1)
+
+      -- how many modules there are
+      module-count : (getD e′ 1 0 - 2) / 8 ≡ rowCount (getD (found .0) 1 [])
+      module-count =
+          let r : ℕ = rowCount (getD (found .0) 1 []) in
+          ap (λ (n : ℕ). n / 8) {x = getD e′ 1 0 - 2} {y = r * 8} (omega (arith, first-sizes .0, first-sizes .1)) ∙ mul-div-cancel r (omega arith)
+
+      -- something else behind the lists
+      pub read-broken : NamesLie s at ((getD e′ 1 0 - 2) / 8) Broken → (p : Project) (l : NameList) → RendersNamed s p l → ⊥
+      unfolding RendersNamed
+      read-broken n p l r =
+          let o = same p l r in
+          n l (ap (λ (k : ℕ). listFits k l) (module-count ∙ ap (λ (cs : List (List (List ℕ))). rowCount (getD cs 1 [])) (o .0)) ∙ r .1) (o .1)
+
       abbrev pub result : Project
       result = projectOf (found .0)
 
       result-lists : lists result ≡ found .0
-      result-lists = lists-of (found .0) (found .1) (found .2) (omega (arith, first-size))
+      result-lists = lists-of (found .0) (found .1) (found .2) (omega (arith, first-sizes .0))
 
-      pub result-text : Renders s result
-      unfolding hasText render
-      result-text = (
+      pub result-text : (l : NameList) → listFits ((getD e′ 1 0 - 2) / 8) l ≡ true → drop at s ≡ nameSection l → RendersNamed s result l
+      unfolding hasText render RendersNamed
+      result-text l f q = (
         ap (every even) result-lists ∙ found .2,
-        ap (sections names) result-lists
-            ∙ sym (append-nil (sections names (found .0)))
-            ∙ ap (λ (x : List ℕ). sections names (found .0) ++ x) (sym (drop-length s) ∙ ap (λ (i : ℕ). drop i s) (sym end))
-            ∙ sym found-text,
+        ap (λ (k : ℕ). listFits k l) (ap (λ (cs : List (List (List ℕ))). rowCount (getD cs 1 [])) result-lists ∙ sym module-count) ∙ f,
+        ap₂ _++_ (ap (sections names) result-lists) (sym q) ∙ sym found-text,
       )
 
       module _ (ld : length d ≡ 32768) (lk : k ≤ 32768) where
@@ -255,7 +281,7 @@ module _ (s d e : List ℕ) (at k : ℕ) (d′ e′ : List ℕ) (a : AllRead s h
         parts : Behind (a .vss) (found .0) rest
         parts =
             subst (λ (v : List (List ℕ)). Behind v (found .0) rest) (sym (found .3))
-            (behind (found .0) (found .1) (found .2) (omega (arith, first-size)) rest)
+            (behind (found .0) (found .1) (found .2) (omega (arith, first-sizes .0)) rest)
 
         pub ends-climb : Climbs 2 (drop 1 e′) 32768
         ends-climb = rw ends-stops (parts .climbs 32768 values-size)
@@ -272,16 +298,18 @@ module _ (s d e : List ℕ) (at k : ℕ) (d′ e′ : List ℕ) (a : AllRead s h
             let n : k ≡ length (flatten (a .vss)) = omega (arith, a .count) in
             n ∙ parts .size ∙ ap (λ (cs : List (List (List ℕ))). 2 + length (flatten (flatten (drop 1 cs)))) (sym result-lists)
 
-        pub accepted : (settings settings′ bounds bounds′ columns columns′ : List ℕ) → length s ≤ 65536
+        pub accepted : (settings settings′ bounds bounds′ columns columns′ : List ℕ) (from to : ℕ) → length s ≤ 65536
             → length settings ≡ 2 → length bounds ≡ 35 → length columns ≡ 32768
+            → NamesLie s at ((getD e′ 1 0 - 2) / 8) (Names from to)
             → settings′ ≡ sets settings 0 (getD d′ 0 0 ∷ getD d′ 1 0 ∷ [])
             → bounds′ ≡ sets bounds 0 (0 ∷ tails 0 (cut (drop 1 widths) (drop 1 e′) 2 d′))
             → columns′ ≡ sets columns 0 (flatten (cut (drop 1 widths) (drop 1 e′) 2 d′))
-            → Reads s settings settings′ bounds bounds′ columns columns′ (Counted (k - 2))
+            → Reads s settings settings′ bounds bounds′ columns columns′ (Read (k - 2) from to)
         unfolding flatten
-        accepted settings settings′ bounds bounds′ columns columns′ h ls lb lc es eb ec = (
+        accepted settings settings′ bounds bounds′ columns columns′ from to h ls lb lc n es eb ec = (
           result,
-          (h, result-text),
+          n .0,
+          (h, result-text (n .0) (n .1) (n .2)),
           omega (arith, result-size),
           es
               ∙ over-whole settings (getD d′ 0 0 ∷ getD d′ 1 0 ∷ []) (sym ls)
@@ -290,6 +318,7 @@ module _ (s d e : List ℕ) (at k : ℕ) (d′ e′ : List ℕ) (a : AllRead s h
               ∙ ap (λ (cs : List (List ℕ)). sets bounds 0 (0 ∷ tails 0 cs)) cut-result
               ∙ over-whole bounds (boundsOf result) (ap suc (tails-length 0 (columnsOf result)) ∙ sym lb),
           ec ∙ ap (λ (cs : List (List ℕ)). sets columns 0 (flatten cs)) cut-result ∙ sets-front columns (valuesOf result) (omega (arith, result-size)),
+          n .3,
         )
 
 -- the reader's answers
@@ -298,32 +327,38 @@ module _ {s d d′ e e′ : List ℕ} {r : Cursor} (a : Steps s heads d d′ e e
   turned q h = rw h at a
 
   pub refuse-off : r ≡ Off → (x y z : List ℕ) → Reads s x x y y z z (Refused 7)
-  refuse-off h x y z = (refl, (λ p t. read-off s p (t .1) d d′ e e′ (turned Off h .all)), refl, refl, refl)
+  refuse-off h x y z = (refl, (λ p l t. read-off s p l (t .1) d d′ e e′ (turned Off h .all)), refl, refl, refl)
 
-  module _ (at k : ℕ) (h : r ≡ On at k) where
+  module _ (at k : ℕ) (h : r ≡ On at k) (le : length e ≡ 15) where
     lists-read : AllRead s heads 0 0 d e 0 at k d′ e′
     lists-read = turned (On at k) h .all
 
-    pub refuse-late : (at ≡ length s → ⊥) → (x y z : List ℕ) → Reads s x x y y z z (Refused 7)
-    refuse-late n x y z = (refl, (λ p t. read-late s d e at k d′ e′ lists-read n p (t .1)), refl, refl, refl)
+    pub refuse-unsettled : (getD e′ 0 0 ≡ 2 → ⊥) → (x y z : List ℕ) → Reads s x x y y z z (Refused 7)
+    refuse-unsettled n x y z = (refl, (λ p l t. read-unsettled s d e at k d′ e′ lists-read le n p l (t .1)), refl, refl, refl)
 
-    module _ (le : length e ≡ 15) where
-      pub refuse-unsettled : (getD e′ 0 0 ≡ 2 → ⊥) → (x y z : List ℕ) → Reads s x x y y z z (Refused 7)
-      refuse-unsettled n x y z = (refl, (λ p t. read-unsettled s d e at k d′ e′ lists-read le n p (t .1)), refl, refl, refl)
+    module _ (two : getD e′ 0 0 ≡ 2) where
+      pub settled-end : 2 ≤ getD e′ 1 0
+      settled-end = modules-end s d e at k d′ e′ lists-read le two
 
-      module _ (end : at ≡ length s) (two : getD e′ 0 0 ≡ 2) (ld : length d ≡ 32768) (ls : length s ≤ 65536) where
+      module _ {q : Found} (n : NamesLie s at ((getD e′ 1 0 - 2) / 8) q) where
+        pub refuse-broken : q ≡ Broken → (x y z : List ℕ) → Reads s x x y y z z (Refused 7)
+        refuse-broken b x y z = (refl, (λ p l t. read-broken s d e at k d′ e′ lists-read le two (rw b at n) p l (t .1)), refl, refl, refl)
+
+      module _ (ld : length d ≡ 32768) (ls : length s ≤ 65536) where
         count-fits : k ≤ 32768
         count-fits = let o : Room s (On at k) = turned (On at k) h .room in omega (arith, o .1)
 
         pub accept-climbs : Climbs 2 (drop 1 e′) 32768 × (length e′ ≡ 15)
-        accept-climbs = (ends-climb s d e at k d′ e′ lists-read le end two ld count-fits, ends-size s d e at k d′ e′ lists-read le)
+        accept-climbs = (ends-climb s d e at k d′ e′ lists-read le two ld count-fits, ends-size s d e at k d′ e′ lists-read le)
 
         pub accept-count : 2 ≤ k
-        accept-count = omega (arith, result-size s d e at k d′ e′ lists-read le end two ld count-fits)
+        accept-count = omega (arith, result-size s d e at k d′ e′ lists-read le two ld count-fits)
 
-        pub accept : (settings settings′ bounds bounds′ columns columns′ : List ℕ) → length settings ≡ 2 → length bounds ≡ 35 → length columns ≡ 32768
+        pub accept : {q : Found} (from to : ℕ) → NamesLie s at ((getD e′ 1 0 - 2) / 8) q → q ≡ Names from to
+            → (settings settings′ bounds bounds′ columns columns′ : List ℕ) → length settings ≡ 2 → length bounds ≡ 35 → length columns ≡ 32768
             → settings′ ≡ sets settings 0 (getD d′ 0 0 ∷ getD d′ 1 0 ∷ [])
             → bounds′ ≡ sets bounds 0 (0 ∷ tails 0 (cut (drop 1 widths) (drop 1 e′) 2 d′))
             → columns′ ≡ sets columns 0 (flatten (cut (drop 1 widths) (drop 1 e′) 2 d′))
-            → Reads s settings settings′ bounds bounds′ columns columns′ (Counted (k - 2))
-        accept settings settings′ bounds bounds′ columns columns′ = accepted s d e at k d′ e′ lists-read le end two ld count-fits settings settings′ bounds bounds′ columns columns′ ls
+            → Reads s settings settings′ bounds bounds′ columns columns′ (Read (k - 2) from to)
+        accept {q} from to n g settings settings′ bounds bounds′ columns columns′ hs hb hc =
+            accepted s d e at k d′ e′ lists-read le two ld count-fits settings settings′ bounds bounds′ columns columns′ from to ls hs hb hc (rw g at n)

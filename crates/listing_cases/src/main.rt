@@ -1,9 +1,11 @@
 // Runs the reader and the line writer at their edges, over document 01's listing on standard input.
-// A line is: `case`, its number, the list that it changes, the reading's number, the count of values and the number of the project test.
+// A line is: `case`, its number, the list that it changes, the reading's number, the count of values, the number of the project test and how
+// many bytes the names have; few names are written behind it.
 use libc::STDIN_FILENO;
 use libc::STDOUT_FILENO;
 use lines::put_line;
 use lines::rising;
+use listing::Reading;
 use listing::read;
 use refusal::refusal_number;
 use table::COLUMNS;
@@ -116,16 +118,43 @@ fn first_of(values: &[u32], n: usize) -> &[u32] {
 }
 
 // The number of the project test.
-fn tested<'a>(settings: [u32; 2], bounds: &'a [u32], columns: &'a [u32]) -> u32 {
+fn tested<'a>(settings: [u32; 2], bounds: &'a [u32], columns: &'a [u32], names: &'a [u8]) -> u32 {
     refusal_number(
         settings[0],
         settings[1],
         bounds,
         columns,
+        names,
         column(bounds, columns, RECORD_MODULE),
         column(bounds, columns, RECORD_KIND),
         column(bounds, columns, RECORD_TARGET),
     )
+}
+
+// The part of a text from one position to another.
+fn part_of(text: &[u8], from: usize, to: usize) -> &[u8] {
+    if text.len() < to {
+        return text;
+    }
+    if to < from {
+        return text;
+    }
+    &text[from..to]
+}
+
+// How many bytes a part of a text has.
+fn size_of(part: &[u8]) -> u32 {
+    if 65536 < part.len() {
+        return 65537;
+    }
+    part.len() as u32
+}
+
+// Writes few names.
+fn write_names(names: &[u8]) {
+    if names.len() <= 256 {
+        io::write_all(STDOUT_FILENO, names);
+    }
 }
 
 fn counted<'a>(
@@ -135,15 +164,18 @@ fn counted<'a>(
     settings: [u32; 2],
     bounds: &'a [u32; COLUMNS + 1],
     columns: &'a [u32; 32768],
+    names: &'a [u8],
 ) {
     if 32768 < k {
         return;
     }
+    let number = tested(settings, bounds, first_of(columns, k), names);
     print(
         b"case",
         &[case, list],
-        &[0, k as u32, tested(settings, bounds, first_of(columns, k))],
+        &[0, k as u32, number, size_of(names)],
     );
+    write_names(names);
 }
 
 // Reads the first n bytes of a text, and prints the answer.
@@ -156,8 +188,16 @@ fn answer(case: u32, list: u32, text: &[u8], n: usize) {
     }
     let answer = read(&text[0..n], &mut settings, &mut bounds, &mut columns);
     match answer {
-        Answer::Refused(number) => print(b"case", &[case, list], &[number]),
-        Answer::Counted(k) => counted(case, list, k, settings, &bounds, &columns),
+        Reading::Refused(number) => print(b"case", &[case, list], &[number]),
+        Reading::Read(k, from, to) => counted(
+            case,
+            list,
+            k,
+            settings,
+            &bounds,
+            &columns,
+            part_of(text, from, to),
+        ),
     }
 }
 
@@ -350,6 +390,107 @@ fn newer_cases(listing: &[u8]) {
     );
 }
 
+// The listing with a text behind its last list.
+fn named(listing: &[u8], case: u32, behind: &[u8]) {
+    let mut text = [0u8; 66000];
+    let mut p = put_lists(&mut text, 0, listing, 0, 15);
+    p = put(&mut text, p, behind);
+    answer(case, 15, &text, p);
+}
+
+// The listing with as many modules and names.
+fn many_named(listing: &[u8], case: u32, name: &[u8], times: usize) {
+    let mut text = [0u8; 66000];
+    let mut p = put_lists(&mut text, 0, listing, 0, 1);
+    p = put_names(&mut text, p, listing, 1);
+    p = put_rows(&mut text, p, b"1 1 0 0 1 0 0 -\n", times);
+    p = put_byte(&mut text, p, b'\n');
+    p = put_lists(&mut text, p, listing, 2, 15);
+    p = put(&mut text, p, b"name\n");
+    p = put_rows(&mut text, p, name, times);
+    p = put_byte(&mut text, p, b'\n');
+    answer(case, 15, &text, p);
+}
+
+// What is put behind the listing, case by case from 40 on, with `#` behind each:
+// 40: a name a module
+// 41: `~` at the start, within, alone and twice
+// 42: bytes 33 and 126, and names that are a digit and a word of the form
+// 43: 64 bytes
+// 44: 65 bytes
+// 45: byte 32
+// 46: byte 127
+// 47: byte 255
+// 48: byte 0
+// 49: line ends CR LF
+// 50: a name too few
+// 51: a name too many
+// 52: an empty line among them
+// 53: an empty line before them
+// 54: no name
+// 55: the line alone
+// 56: the line without its end
+// 57: no last empty line
+// 58: no last line end
+// 59: a byte behind the end
+// 60: the list twice
+// 61: the line misspelt
+const BEHIND: [u8; 502] = *b"\
+name\na\nbc\nd/e.js\nf\n\n#\
+name\n~rolldown/runtime.js\na~b\n~\n~~\n\n#\
+name\n!\n!~\n0\nname\n\n#\
+name\na\nb\nc\n0123456789abcdef0123456789abcdef0123456789abcdef0123456789abcdef\n\n#\
+name\na\nb\nc\n0123456789abcdef0123456789abcdef0123456789abcdef0123456789abcdef0\n\n#\
+name\na\nb c\nd\ne\n\n#\
+name\na\nb\x7f\nd\ne\n\n#\
+name\na\nb\xff\nd\ne\n\n#\
+name\n\x00rolldown/runtime.js\nb\nc\nd\n\n#\
+name\r\na\r\nb\r\nc\r\nd\r\n\r\n#\
+name\na\nb\nc\n\n#\
+name\na\nb\nc\nd\ne\n\n#\
+name\na\nb\n\nd\n\n#\
+name\n\na\nb\nc\n\n#\
+name\n\n#\
+name\n#\
+name#\
+name\na\nb\nc\nd\n#\
+name\na\nb\nc\nd#\
+name\na\nb\nc\nd\n\n\n#\
+name\na\nb\nc\nd\n\nname\na\nb\nc\nd\n\n#\
+names\na\nb\nc\nd\n\n#";
+
+// The cases of names.
+fn behind_cases(listing: &[u8], sections: &[u8]) {
+    let mut case = 40;
+    let mut from = 0;
+    let mut to = 0;
+    while to < sections.len() {
+        if sections[to] == b'#' {
+            named(listing, case, part_of(sections, from, to));
+            case = next_case(case);
+            from = to + 1;
+        }
+        to += 1;
+    }
+}
+
+fn next_case(case: u32) -> u32 {
+    if case < 99 { case + 1 } else { 99 }
+}
+
+// Many names, none, and names elsewhere.
+fn name_cases(listing: &[u8]) {
+    behind_cases(listing, &BEHIND);
+    // 62: 3,600 names
+    many_named(listing, 62, b"a\n", 3600);
+    // 63: no module and no name
+    many_named(listing, 63, b"", 0);
+    // 64: modules and no name
+    many_named(listing, 64, b"", 4);
+    // 65: before the seeds
+    replaced(listing, 65, 14, b"name\na\nb\nc\nd\n\nseed\n\n");
+}
+
 fn line_answer(answer: Answer) {
     match answer {
         Answer::Refused(number) => print(b"refused", &[], &[number]),
@@ -393,6 +534,7 @@ fn main() {
     end_cases(&listing);
     number_cases(&listing);
     newer_cases(&listing);
+    name_cases(&listing);
     lists(&listing);
     line_cases(&[4294967295, 10]);
     print(b"largest", &[4294967294], &[0, 9, 10, 99, 100]);

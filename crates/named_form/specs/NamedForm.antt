@@ -19,14 +19,14 @@ abbrev pub nameSection : NameList → List ℕ
 nameSection without = []
 nameSection (list s) = bytes "name" ++ 10 ∷ (s ++ 10 ∷ [])
 
--- "names fewer or more than the modules break the form"
-abbrev pub listFits : Project → NameList → Bool
-listFits p without = true
-listFits p (list s) = namesFit (modules p) s
+-- "names fewer or more than the modules break the form": a list of n modules
+abbrev pub listFits : ℕ → NameList → Bool
+listFits n without = true
+listFits n (list s) = namesFit n s
 
 -- s is the text of the table p with this list
 unfoldable pub RendersNamed : List ℕ → Project → NameList → Type 0
-RendersNamed s p l = (hasText p ≡ true) × (listFits p l ≡ true) × (render p ++ nameSection l ≡ s)
+RendersNamed s p l = (hasText p ≡ true) × (listFits (modules p) l ≡ true) × (render p ++ nameSection l ≡ s)
 
 -- the names as the library takes them: "no name at all" where there is no list
 abbrev pub lentNames : NameList → List ℕ

@@ -1,16 +1,20 @@
 // For crates above, on tested tables.
 ghost use mathlib.Core.Path.{_≡_};
+ghost use mathlib.Core.Bool.{true};
 ghost use lib.ListN.{length};
 ghost use Rattle.lists.specs.Words.{ones, marksOf};
 ghost use Rattle.tables.specs.Project.{Project};
 ghost use Rattle.tables.specs.Readings.{modules};
+ghost use Rattle.names.specs.Names.{namesIn};
 ghost use Rattle.table.specs.Table.{table, read};
+ghost use Rattle.arrangement.specs.OfProject.{named};
 ghost use Rattle.table.specs.Places.{Places};
 ghost use Rattle.risk_of_orders.specs.inner.Steps.{join};
 ghost use Rattle.wrap_rules.specs.Plan.{roots as rootsOf};
 ghost use Rattle.order_analysis.specs.Whole.{wholePlan};
 ghost use Rattle.order_analysis.specs.inner.Analysis.{risksOf, Made};
 use analysed_entries::core::find_entry;
+use arrangement::core::read_members;
 use at_risk::core::add_entry_risk;
 use chunk_cycles::core::label_table;
 use eligibility::of_table::mark_table_eligible;
@@ -23,6 +27,7 @@ use sensitivity::core::mark_table_sensitive;
 use table::CHUNK_LIMIT;
 use table::MODULE_LIMIT;
 use table::ORDER;
+use table::ROW_LIMIT;
 use table::rows;
 use visit_columns::core::PREPARED;
 use visit_columns::core::prepare_table;
@@ -301,4 +306,54 @@ pub fn analyze<'a>(
         plan,
     );
     count_marked(plan)
+}
+
+// The same with the members as they are read.
+pub fn analyze_named<'a>(
+    runtime: u32,
+    dynamic: u32,
+    bounds: &'a [u32],
+    columns: &'a [u32],
+    names: &'a [u8],
+    importers: &'a [u32],
+    kinds: &'a [u32],
+    targets: &'a [u32],
+    dependencies: &'a [u32],
+    members: &'a [u32],
+    plan: &mut [u32],
+) -> usize
+    ghost { Project }
+    requires project { λ p. ⌜ read (table runtime dynamic (now bounds) (now columns)) (now importers) (now kinds) (now targets) (now dependencies) (now members) ≡ p ⌝ }
+    requires names { λ p. ⌜ namesIn (modules p) (now names) ≡ true ⌝ }
+    requires places { λ p. ⌜ Places p (modules p) (length (now plan)) ⌝ }
+    ensures plan { λ p _. ⌜ now (plan .exit) ≡ wholePlan (named p (now (names .entry))) ⌝ }
+    ensures count { λ p r. ⌜ r ≡ ones (wholePlan (named p (now (names .entry)))) ⌝ }
+{
+    let rows = members.len();
+    let mut arranged = [0u32; ROW_LIMIT];
+    read_members(
+        runtime,
+        dynamic,
+        bounds,
+        columns,
+        importers,
+        kinds,
+        targets,
+        dependencies,
+        members,
+        names,
+        &mut arranged[..rows],
+    );
+    analyze(
+        runtime,
+        dynamic,
+        bounds,
+        columns,
+        importers,
+        kinds,
+        targets,
+        dependencies,
+        &arranged[..rows],
+        plan,
+    )
 }

@@ -1,7 +1,7 @@
 // The whole analysis.
-ghost use Rattle.table.specs.Table.{lent, lentWith};
+ghost use Rattle.arrangement.specs.OfProject.{lentNamed, lentNamedWith};
 ghost use Rattle.order_analysis.specs.Whole.{WholeAnalysis};
-use core::analyze;
+use core::analyze_named;
 use current_columns::core::read_current;
 use refusal::refusal_number;
 use table::DEPENDENCY;
@@ -24,14 +24,24 @@ pub fn analyze_execution_order_with_records<'a>(
     dynamic: u32,
     bounds: &'a [u32],
     columns: &'a [u32],
+    names: &'a [u8],
     importers: &'a [u32],
     kinds: &'a [u32],
     targets: &'a [u32],
     marks: &mut [u32],
 ) -> Answer
-    ensures { λ r. ⌜ WholeAnalysis (lentWith runtime dynamic (now (bounds .entry)) (now (columns .entry)) (now (importers .entry)) (now (kinds .entry)) (now (targets .entry))) (now (marks .entry)) r (now (marks .exit)) ⌝ }
+    ensures { λ r. ⌜ WholeAnalysis (lentNamedWith runtime dynamic (now (bounds .entry)) (now (columns .entry)) (now (names .entry)) (now (importers .entry)) (now (kinds .entry)) (now (targets .entry))) (now (marks .entry)) r (now (marks .exit)) ⌝ }
 {
-    let number = refusal_number(runtime, dynamic, bounds, columns, importers, kinds, targets);
+    let number = refusal_number(
+        runtime,
+        dynamic,
+        bounds,
+        columns,
+        names,
+        importers,
+        kinds,
+        targets,
+    );
     if number != 0 {
         return Answer::Refused(number);
     }
@@ -54,11 +64,12 @@ pub fn analyze_execution_order_with_records<'a>(
     );
     let records = targets.len();
     let dependency_rows = rows(bounds, columns, DEPENDENCY);
-    let count = analyze(
+    let count = analyze_named(
         runtime,
         dynamic,
         bounds,
         columns,
+        names,
         importers,
         kinds,
         &read_targets[..records],
@@ -75,15 +86,17 @@ pub fn analyze_execution_order<'a>(
     dynamic: u32,
     bounds: &'a [u32],
     columns: &'a [u32],
+    names: &'a [u8],
     marks: &mut [u32],
 ) -> Answer
-    ensures { λ r. ⌜ WholeAnalysis (lent runtime dynamic (now (bounds .entry)) (now (columns .entry))) (now (marks .entry)) r (now (marks .exit)) ⌝ }
+    ensures { λ r. ⌜ WholeAnalysis (lentNamed runtime dynamic (now (bounds .entry)) (now (columns .entry)) (now (names .entry))) (now (marks .entry)) r (now (marks .exit)) ⌝ }
 {
     analyze_execution_order_with_records(
         runtime,
         dynamic,
         bounds,
         columns,
+        names,
         column(bounds, columns, RECORD_MODULE),
         column(bounds, columns, RECORD_KIND),
         column(bounds, columns, RECORD_TARGET),

@@ -1,8 +1,8 @@
 // The order risk of an entry.
-ghost use Rattle.table.specs.Table.{lent, lentWith};
+ghost use Rattle.arrangement.specs.OfProject.{lentNamed, lentNamedWith};
 ghost use Rattle.at_risk.specs.Entry.{EntryOrderRisk};
 use analysed_entries::core::find_entry;
-use core::mark_order_risk;
+use core::mark_named_order_risk;
 use current_columns::core::read_current;
 use refusal::refusal_number;
 use table::DEPENDENCY;
@@ -26,15 +26,25 @@ pub fn order_risk_with_records<'a>(
     dynamic: u32,
     bounds: &'a [u32],
     columns: &'a [u32],
+    names: &'a [u8],
     importers: &'a [u32],
     kinds: &'a [u32],
     targets: &'a [u32],
     root: u32,
     marks: &mut [u32],
 ) -> Answer
-    ensures { λ r. ⌜ EntryOrderRisk (lentWith runtime dynamic (now (bounds .entry)) (now (columns .entry)) (now (importers .entry)) (now (kinds .entry)) (now (targets .entry))) root (now (marks .entry)) r (now (marks .exit)) ⌝ }
+    ensures { λ r. ⌜ EntryOrderRisk (lentNamedWith runtime dynamic (now (bounds .entry)) (now (columns .entry)) (now (names .entry)) (now (importers .entry)) (now (kinds .entry)) (now (targets .entry))) root (now (marks .entry)) r (now (marks .exit)) ⌝ }
 {
-    let refused = refusal_number(runtime, dynamic, bounds, columns, importers, kinds, targets);
+    let refused = refusal_number(
+        runtime,
+        dynamic,
+        bounds,
+        columns,
+        names,
+        importers,
+        kinds,
+        targets,
+    );
     if refused != 0 {
         return Answer::Refused(refused);
     }
@@ -74,11 +84,12 @@ pub fn order_risk_with_records<'a>(
     );
     let records = targets.len();
     let dependency_rows = rows(bounds, columns, DEPENDENCY);
-    let count = mark_order_risk(
+    let count = mark_named_order_risk(
         runtime,
         dynamic,
         bounds,
         columns,
+        names,
         importers,
         kinds,
         &read_targets[..records],
@@ -97,16 +108,18 @@ pub fn order_risk<'a>(
     dynamic: u32,
     bounds: &'a [u32],
     columns: &'a [u32],
+    names: &'a [u8],
     root: u32,
     marks: &mut [u32],
 ) -> Answer
-    ensures { λ r. ⌜ EntryOrderRisk (lent runtime dynamic (now (bounds .entry)) (now (columns .entry))) root (now (marks .entry)) r (now (marks .exit)) ⌝ }
+    ensures { λ r. ⌜ EntryOrderRisk (lentNamed runtime dynamic (now (bounds .entry)) (now (columns .entry)) (now (names .entry))) root (now (marks .entry)) r (now (marks .exit)) ⌝ }
 {
     order_risk_with_records(
         runtime,
         dynamic,
         bounds,
         columns,
+        names,
         column(bounds, columns, RECORD_MODULE),
         column(bounds, columns, RECORD_KIND),
         column(bounds, columns, RECORD_TARGET),

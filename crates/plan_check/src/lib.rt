@@ -27,15 +27,25 @@ pub fn check_plan_with_records<'a>(
     dynamic: u32,
     bounds: &'a [u32],
     columns: &'a [u32],
+    names: &'a [u8],
     importers: &'a [u32],
     kinds: &'a [u32],
     targets: &'a [u32],
     seeds: &[u32],
     plan: &[u32],
 ) -> Judgement
-    ensures { λ r. ⌜ r ≡ judgement (lentWith runtime dynamic (now (bounds .entry)) (now (columns .entry)) (now (importers .entry)) (now (kinds .entry)) (now (targets .entry))) (now (seeds .entry)) (now (plan .entry)) ⌝ }
+    ensures { λ r. ⌜ r ≡ judgement (lentWith runtime dynamic (now (bounds .entry)) (now (columns .entry)) (now (names .entry)) (now (importers .entry)) (now (kinds .entry)) (now (targets .entry))) (now (seeds .entry)) (now (plan .entry)) ⌝ }
 {
-    let number = refusal_number(runtime, dynamic, bounds, columns, importers, kinds, targets);
+    let number = refusal_number(
+        runtime,
+        dynamic,
+        bounds,
+        columns,
+        names,
+        importers,
+        kinds,
+        targets,
+    );
     if number != 0 {
         return Judgement::Refused(number);
     }
@@ -82,16 +92,18 @@ pub fn check_plan<'a>(
     dynamic: u32,
     bounds: &'a [u32],
     columns: &'a [u32],
+    names: &'a [u8],
     seeds: &[u32],
     plan: &[u32],
 ) -> Judgement
-    ensures { λ r. ⌜ r ≡ judgement (lent runtime dynamic (now (bounds .entry)) (now (columns .entry))) (now (seeds .entry)) (now (plan .entry)) ⌝ }
+    ensures { λ r. ⌜ r ≡ judgement (lent runtime dynamic (now (bounds .entry)) (now (columns .entry)) (now (names .entry))) (now (seeds .entry)) (now (plan .entry)) ⌝ }
 {
     check_plan_with_records(
         runtime,
         dynamic,
         bounds,
         columns,
+        names,
         column(bounds, columns, RECORD_MODULE),
         column(bounds, columns, RECORD_KIND),
         column(bounds, columns, RECORD_TARGET),

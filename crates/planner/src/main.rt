@@ -9,6 +9,7 @@ use libc::STDIN_FILENO;
 use libc::STDOUT_FILENO;
 use lines::put_line;
 use lines::rising;
+use listing::Reading;
 use listing::read;
 use order_analysis::analyze_execution_order;
 use order_risk::order_risk;
@@ -71,10 +72,24 @@ fn print_circles<'a>(paths: &'a [u32], lengths: &'a [u32]) {
 }
 
 // Prints the import circles, or that there are too many of them.
-fn circle_lines<'a>(runtime: u32, dynamic: u32, bounds: &'a [u32], columns: &'a [u32]) {
+fn circle_lines<'a>(
+    runtime: u32,
+    dynamic: u32,
+    bounds: &'a [u32],
+    columns: &'a [u32],
+    names: &'a [u8],
+) {
     let mut paths = [0u32; ROW_LIMIT];
     let mut lengths = [0u32; ROW_LIMIT];
-    let answer = import_circles(runtime, dynamic, bounds, columns, &mut paths, &mut lengths);
+    let answer = import_circles(
+        runtime,
+        dynamic,
+        bounds,
+        columns,
+        names,
+        &mut paths,
+        &mut lengths,
+    );
     match answer {
         Answer::Refused(_) => {
             io::write_all(STDOUT_FILENO, b"circles refused\n");
@@ -84,9 +99,24 @@ fn circle_lines<'a>(runtime: u32, dynamic: u32, bounds: &'a [u32], columns: &'a 
 }
 
 // Prints the expected order of a root.
-fn expected_line<'a>(runtime: u32, dynamic: u32, bounds: &'a [u32], columns: &'a [u32], root: u32) {
+fn expected_line<'a>(
+    runtime: u32,
+    dynamic: u32,
+    bounds: &'a [u32],
+    columns: &'a [u32],
+    names: &'a [u8],
+    root: u32,
+) {
     let mut expected = [0u32; MODULE_LIMIT];
-    let answer = expected_order(runtime, dynamic, bounds, columns, root, &mut expected);
+    let answer = expected_order(
+        runtime,
+        dynamic,
+        bounds,
+        columns,
+        names,
+        root,
+        &mut expected,
+    );
     let Answer::Counted(n) = answer else {
         return;
     };
@@ -94,9 +124,16 @@ fn expected_line<'a>(runtime: u32, dynamic: u32, bounds: &'a [u32], columns: &'a
 }
 
 // Prints the order risk of an analysed entry.
-fn early_line<'a>(runtime: u32, dynamic: u32, bounds: &'a [u32], columns: &'a [u32], root: u32) {
+fn early_line<'a>(
+    runtime: u32,
+    dynamic: u32,
+    bounds: &'a [u32],
+    columns: &'a [u32],
+    names: &'a [u8],
+    root: u32,
+) {
     let mut marks = [0u32; MODULE_LIMIT];
-    let answer = order_risk(runtime, dynamic, bounds, columns, root, &mut marks);
+    let answer = order_risk(runtime, dynamic, bounds, columns, names, root, &mut marks);
     let Answer::Counted(_) = answer else {
         return;
     };
@@ -104,9 +141,16 @@ fn early_line<'a>(runtime: u32, dynamic: u32, bounds: &'a [u32], columns: &'a [u
 }
 
 // Prints the cycle risk of an analysed entry.
-fn cycle_line<'a>(runtime: u32, dynamic: u32, bounds: &'a [u32], columns: &'a [u32], root: u32) {
+fn cycle_line<'a>(
+    runtime: u32,
+    dynamic: u32,
+    bounds: &'a [u32],
+    columns: &'a [u32],
+    names: &'a [u8],
+    root: u32,
+) {
     let mut marks = [0u32; MODULE_LIMIT];
-    let answer = cycle_risk(runtime, dynamic, bounds, columns, root, &mut marks);
+    let answer = cycle_risk(runtime, dynamic, bounds, columns, names, root, &mut marks);
     let Answer::Counted(_) = answer else {
         return;
     };
@@ -114,7 +158,14 @@ fn cycle_line<'a>(runtime: u32, dynamic: u32, bounds: &'a [u32], columns: &'a [u
 }
 
 // Prints the lines of an entry. Actual order refuses an entry that isn't analysed.
-fn entry_lines<'a>(runtime: u32, dynamic: u32, bounds: &'a [u32], columns: &'a [u32], root: u32) {
+fn entry_lines<'a>(
+    runtime: u32,
+    dynamic: u32,
+    bounds: &'a [u32],
+    columns: &'a [u32],
+    names: &'a [u8],
+    root: u32,
+) {
     let mut actual = [0u32; MODULE_LIMIT];
     let mut hosts = [0u32; MODULE_LIMIT];
     let answer = actual_order(
@@ -122,6 +173,7 @@ fn entry_lines<'a>(runtime: u32, dynamic: u32, bounds: &'a [u32], columns: &'a [
         dynamic,
         bounds,
         columns,
+        names,
         root,
         &mut actual,
         &mut hosts,
@@ -129,18 +181,18 @@ fn entry_lines<'a>(runtime: u32, dynamic: u32, bounds: &'a [u32], columns: &'a [
     let Answer::Counted(n) = answer else {
         return;
     };
-    expected_line(runtime, dynamic, bounds, columns, root);
+    expected_line(runtime, dynamic, bounds, columns, names, root);
     print(b"actual", &[root], first_of(&actual, n));
-    early_line(runtime, dynamic, bounds, columns, root);
-    cycle_line(runtime, dynamic, bounds, columns, root);
+    early_line(runtime, dynamic, bounds, columns, names, root);
+    cycle_line(runtime, dynamic, bounds, columns, names, root);
 }
 
 // Prints the lines of each analysed entry, in row order.
-fn entries<'a>(runtime: u32, dynamic: u32, bounds: &'a [u32], columns: &'a [u32]) {
+fn entries<'a>(runtime: u32, dynamic: u32, bounds: &'a [u32], columns: &'a [u32], names: &'a [u8]) {
     let rows = column(bounds, columns, ENTRY);
     let mut row = 0;
     while row < rows.len() {
-        entry_lines(runtime, dynamic, bounds, columns, rows[row]);
+        entry_lines(runtime, dynamic, bounds, columns, names, rows[row]);
         row += 1;
     }
 }
@@ -163,9 +215,15 @@ fn lines_of_grounds(marks: &[u32; MODULE_LIMIT]) {
 }
 
 // Prints the lines of the sensitive modules.
-fn ground_lines<'a>(runtime: u32, dynamic: u32, bounds: &'a [u32], columns: &'a [u32]) {
+fn ground_lines<'a>(
+    runtime: u32,
+    dynamic: u32,
+    bounds: &'a [u32],
+    columns: &'a [u32],
+    names: &'a [u8],
+) {
     let mut marks = [0u32; MODULE_LIMIT];
-    let answer = grounds(runtime, dynamic, bounds, columns, &mut marks);
+    let answer = grounds(runtime, dynamic, bounds, columns, names, &mut marks);
     let Answer::Counted(_) = answer else {
         return;
     };
@@ -173,9 +231,15 @@ fn ground_lines<'a>(runtime: u32, dynamic: u32, bounds: &'a [u32], columns: &'a 
 }
 
 // Prints the line of the plan.
-fn plan_line<'a>(runtime: u32, dynamic: u32, bounds: &'a [u32], columns: &'a [u32]) {
+fn plan_line<'a>(
+    runtime: u32,
+    dynamic: u32,
+    bounds: &'a [u32],
+    columns: &'a [u32],
+    names: &'a [u8],
+) {
     let mut marks = [0u32; MODULE_LIMIT];
-    let answer = analyze_execution_order(runtime, dynamic, bounds, columns, &mut marks);
+    let answer = analyze_execution_order(runtime, dynamic, bounds, columns, names, &mut marks);
     let Answer::Counted(_) = answer else {
         return;
     };
@@ -183,20 +247,39 @@ fn plan_line<'a>(runtime: u32, dynamic: u32, bounds: &'a [u32], columns: &'a [u3
 }
 
 // Prints the lines of a project, or its refusal.
-fn lines<'a>(runtime: u32, dynamic: u32, bounds: &'a [u32], columns: &'a [u32]) {
+fn lines<'a>(runtime: u32, dynamic: u32, bounds: &'a [u32], columns: &'a [u32], names: &'a [u8]) {
     let mut numbers = [0u32; MODULE_LIMIT];
     let mut sorted = [0u32; MODULE_LIMIT];
-    let answer = sort_modules(runtime, dynamic, bounds, columns, &mut numbers, &mut sorted);
+    let answer = sort_modules(
+        runtime,
+        dynamic,
+        bounds,
+        columns,
+        names,
+        &mut numbers,
+        &mut sorted,
+    );
     match answer {
         Answer::Refused(number) => print(b"refused", &[], &[number]),
         Answer::Counted(n) => {
             print(b"sorted", &[], first_of(&sorted, n));
-            circle_lines(runtime, dynamic, bounds, columns);
-            entries(runtime, dynamic, bounds, columns);
-            ground_lines(runtime, dynamic, bounds, columns);
-            plan_line(runtime, dynamic, bounds, columns);
+            circle_lines(runtime, dynamic, bounds, columns, names);
+            entries(runtime, dynamic, bounds, columns, names);
+            ground_lines(runtime, dynamic, bounds, columns, names);
+            plan_line(runtime, dynamic, bounds, columns, names);
         }
     }
+}
+
+// The part of a text from one position to another.
+fn part_of(text: &[u8], from: usize, to: usize) -> &[u8] {
+    if text.len() < to {
+        return text;
+    }
+    if to < from {
+        return text;
+    }
+    &text[from..to]
 }
 
 // Prints the lines of a project that was read, with n values in its columns.
@@ -205,8 +288,15 @@ fn lines_of<'a>(
     bounds: &'a [u32; COLUMNS + 1],
     columns: &'a [u32; 32768],
     n: usize,
+    names: &'a [u8],
 ) {
-    lines(settings[0], settings[1], bounds, first_of(columns, n));
+    lines(
+        settings[0],
+        settings[1],
+        bounds,
+        first_of(columns, n),
+        names,
+    );
 }
 
 fn main() {
@@ -217,7 +307,9 @@ fn main() {
     let n = io::read_full(STDIN_FILENO, &mut text);
     let answer = read(&text[..n], &mut settings, &mut bounds, &mut columns);
     match answer {
-        Answer::Refused(number) => print(b"refused", &[], &[number]),
-        Answer::Counted(k) => lines_of(settings, &bounds, &columns, k),
+        Reading::Refused(number) => print(b"refused", &[], &[number]),
+        Reading::Read(k, from, to) => {
+            lines_of(settings, &bounds, &columns, k, part_of(&text, from, to))
+        }
     }
 }

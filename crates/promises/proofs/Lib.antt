@@ -13,6 +13,7 @@ pub mod LoadRows
 pub mod Load
 pub mod LoadNeeded
 pub mod LoadEvaluation
+pub mod Arranged
 pub mod Risks
 pub mod Grounds
 pub mod OwnTerms

@@ -8,6 +8,7 @@ use lib.ListN.{length, getD}
 use Rattle.tables.specs.Project.{Project, missing}
 use Rattle.tables.specs.Refusal.{newerFits, refusal}
 use Rattle.table.specs.Table.{current, lentAs}
+use Rattle.arrangement.specs.OfProject.{namedLent}
 use Rattle.replacement.specs.Replacement.{latest}
 use Rattle.promises.specs.Changes.{withSeed, withImports}
 
@@ -21,9 +22,11 @@ pub record EndsItsChain (newer : List ℕ) (m : ℕ) : Type 0 where
 unfoldable pub ChainsEnd : Type 0
 ChainsEnd = (newer : List ℕ) → newerFits newer ≡ true → (m : ℕ) → EndsItsChain newer m
 
--- a call's project passes the tests where the project as it was lent does
+-- a call's project passes the tests where the project as it was lent does, with its members as written and as they are read
 unfoldable pub WhatIsReadIsAccepted : Type 0
-WhatIsReadIsAccepted = (bounds columns : List ℕ) (p : Project) → lentAs bounds columns p .number ≡ 0 → refusal (lentAs bounds columns p .project) ≡ 0
+WhatIsReadIsAccepted =
+    (bounds columns names : List ℕ) (p : Project) → let t = lentAs bounds columns names p in
+    t .number ≡ 0 → (refusal (t .project) ≡ 0) × (refusal (namedLent names t .project) ≡ 0)
 
 -- more seed rows and more chunk imports are more of what is read
 pub record ChangesAreRead : Type 0 where

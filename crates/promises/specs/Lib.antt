@@ -18,3 +18,4 @@ pub mod OwnTerms
 pub mod OfCalls
 pub mod Together
 pub mod AsRead
+pub mod Arranged

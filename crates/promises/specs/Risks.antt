@@ -11,6 +11,7 @@ use Rattle.tables.specs.Readings.{modules}
 use Rattle.tables.specs.Answers.{numberOf}
 use Rattle.tables.specs.declared.Answer.{Answer}
 use Rattle.table.specs.Table.{Lent}
+use Rattle.arrangement.specs.OfProject.{named, namedLent}
 use Rattle.at_risk.specs.Entry.{orderRiskOfEntry, cycleRiskOfEntry, riskOfEntry, EntryOrderRisk, EntryCycleRisk}
 
 -- a module is in one set or in the other
@@ -21,9 +22,9 @@ inEither a b m = has a m || has b m
 unfoldable pub RiskIsTheJoin : Type 0
 RiskIsTheJoin = (p : Project) (root : ℕ) → riskOfEntry p root ≡ marksOf (inEither (orderRiskOfEntry p root) (cycleRiskOfEntry p root)) (modules p)
 
--- what two accepted calls leave, joined over the modules, is that risk
+-- what two accepted calls leave, joined over the modules, is that risk; the members as they are read, which the cycle risk doesn't ask for
 unfoldable pub JoinedCallsGiveTheRisk : Type 0
 JoinedCallsGiveTheRisk =
-    (t : Lent) (root : ℕ) (early cycle early′ cycle′ : List ℕ) (r s : Answer)
-    → EntryOrderRisk t root early r early′ → EntryCycleRisk t root cycle s cycle′ → numberOf r ≡ 0 → numberOf s ≡ 0
-    → riskOfEntry (t .project) root ≡ marksOf (inEither early′ cycle′) (modules (t .project))
+    (t : Lent) (names : List ℕ) (root : ℕ) (early cycle early′ cycle′ : List ℕ) (r s : Answer)
+    → EntryOrderRisk (namedLent names t) root early r early′ → EntryCycleRisk t root cycle s cycle′ → numberOf r ≡ 0 → numberOf s ≡ 0
+    → riskOfEntry (named (t .project) names) root ≡ marksOf (inEither early′ cycle′) (modules (t .project))

@@ -1,7 +1,8 @@
 -- What holds of the columns of a list of records: within the limit they are the records' columns, from place 0, and over it the project's number is 1.
 -- Assumes nothing.
-use mathlib.Core.Path.{_≡_, sym, ap, subst, _∙_}
+use mathlib.Core.Path.{_≡_, refl, sym, ap, subst, _∙_}
 use mathlib.Core.List.{List, map}
+use mathlib.Core.Bool.{Bool}
 use mathlib.Core.Logic.{⊎-elim}
 use Prim.Native.Nat.{ℕ, _≤_, _<_}
 use native.Mathlib.Omega.{arith}
@@ -14,10 +15,12 @@ use mir.Val.{Val}
 use denote.Laws.{Is}
 use Rattle.lists.proofs.Laws.{both}
 use Rattle.tables.specs.Project.{Project}
+use Rattle.tables.specs.Readings.{modules}
 use Rattle.tables.specs.Refusal.{rowLimit, sizesFit, refusal}
 use Rattle.tables.proofs.Accepted.{sizes-fit}
 use Rattle.tables.proofs.Number.{number-1}
-use Rattle.table.specs.Table.{table, read, withRecords, boundsFit, lentWith}
+use Rattle.names.specs.Names.{namesSized, namesIn}
+use Rattle.table.specs.Table.{table, read, withRecords, boundsFit, tableNumber, testedToo, lentWith}
 use Rattle.table.proofs.Laws.{number-unfit, number-fit}
 use Rattle.record_columns.specs.declared.Record.{Record}
 use Rattle.record_columns.specs.declared.core.Columns.{Columns}
@@ -64,13 +67,18 @@ as-columns P c records is = subst (λ (d : Columns). d .rows ≤ rowLimit → P 
 over : (p : Project) → rowLimit < length (p .recordModule) → 1 ≡ refusal p
 over p h = ⊎-elim (λ t. let s = sizes-fit p t in absurd (omega (arith, s .recordModule))) (λ f. number-1 p f) (both (sizesFit p))
 
-pub too-many : (c : Columns) (records : List Record) → c ≡ columnsOf records → rowLimit < c .rows → (runtime dynamic : ℕ) (bounds columns : List ℕ)
-    → 1 ≡ lentWith runtime dynamic bounds columns (importerColumn records) (kindColumn records) (targetColumn records) .number
+-- a number 1 stays 1, whatever is tested besides
+stays : (n : ℕ) (one two : Bool) → 1 ≡ n → 1 ≡ testedToo n one two
+stays n one two e = subst (λ (k : ℕ). 1 ≡ testedToo k one two) e refl
+
+pub too-many : (c : Columns) (records : List Record) → c ≡ columnsOf records → rowLimit < c .rows → (runtime dynamic : ℕ) (bounds columns names : List ℕ)
+    → 1 ≡ lentWith runtime dynamic bounds columns names (importerColumn records) (kindColumn records) (targetColumn records) .number
 unfolding read
-too-many c records is h runtime dynamic bounds columns =
+too-many c records is h runtime dynamic bounds columns names =
     let p : Project = withRecords (table runtime dynamic bounds columns) (importerColumn records) (kindColumn records) (targetColumn records) in
     let e : 1 ≡ refusal p = over p (omega (arith, h, ap (λ (d : Columns). d .rows) is, length-map records (λ (r : Record). r .importer))) in
-    ⊎-elim (λ f. e ∙ number-fit bounds columns p f) (λ f. number-unfit bounds columns p f) (both (boundsFit bounds columns))
+    stays (tableNumber bounds columns p) (namesSized names) (namesIn (modules p) names)
+    (⊎-elim (λ f. e ∙ number-fit bounds columns p f) (λ f. number-unfit bounds columns p f) (both (boundsFit bounds columns)))
 
 -- the rows lie within the three arrays
 abbrev pub Within : Columns → Type 0

@@ -23,11 +23,21 @@ fn sort_of<'a>(
     dynamic: u32,
     bounds: &'a [u32],
     columns: &'a [u32],
+    names: &'a [u8],
     rows: [Record; 2],
     numbers: &mut [u32],
     sorted: &mut [u32],
 ) -> Answer {
-    sort_records(runtime, dynamic, bounds, columns, &rows, numbers, sorted)
+    sort_records(
+        runtime,
+        dynamic,
+        bounds,
+        columns,
+        names,
+        &rows,
+        numbers,
+        sorted,
+    )
 }
 
 // Import circles, of rows that are lent.
@@ -36,11 +46,21 @@ fn circle_of<'a>(
     dynamic: u32,
     bounds: &'a [u32],
     columns: &'a [u32],
+    names: &'a [u8],
     rows: [Record; 2],
     paths: &mut [u32],
     lengths: &mut [u32],
 ) -> Answer {
-    circle_records(runtime, dynamic, bounds, columns, &rows, paths, lengths)
+    circle_records(
+        runtime,
+        dynamic,
+        bounds,
+        columns,
+        names,
+        &rows,
+        paths,
+        lengths,
+    )
 }
 
 // Expected order of an entry, of rows that are lent.
@@ -49,11 +69,21 @@ fn expected_of<'a>(
     dynamic: u32,
     bounds: &'a [u32],
     columns: &'a [u32],
+    names: &'a [u8],
     rows: [Record; 2],
     root: u32,
     expected: &mut [u32],
 ) -> Answer {
-    expected_records(runtime, dynamic, bounds, columns, &rows, root, expected)
+    expected_records(
+        runtime,
+        dynamic,
+        bounds,
+        columns,
+        names,
+        &rows,
+        root,
+        expected,
+    )
 }
 
 // Many entries walked together, of rows that are lent.
@@ -62,11 +92,21 @@ fn entries_of<'a>(
     dynamic: u32,
     bounds: &'a [u32],
     columns: &'a [u32],
+    names: &'a [u8],
     rows: [Record; 2],
     entries: &[u32],
     order: &mut [u32],
 ) -> Answer {
-    entries_records(runtime, dynamic, bounds, columns, &rows, entries, order)
+    entries_records(
+        runtime,
+        dynamic,
+        bounds,
+        columns,
+        names,
+        &rows,
+        entries,
+        order,
+    )
 }
 
 // Actual order and hosts of an entry, of rows that are lent.
@@ -75,12 +115,23 @@ fn actual_of<'a>(
     dynamic: u32,
     bounds: &'a [u32],
     columns: &'a [u32],
+    names: &'a [u8],
     rows: [Record; 2],
     root: u32,
     order: &mut [u32],
     hosts: &mut [u32],
 ) -> Answer {
-    actual_records(runtime, dynamic, bounds, columns, &rows, root, order, hosts)
+    actual_records(
+        runtime,
+        dynamic,
+        bounds,
+        columns,
+        names,
+        &rows,
+        root,
+        order,
+        hosts,
+    )
 }
 
 // Labels of the chunks, of rows that are lent.
@@ -89,10 +140,11 @@ fn label_of<'a>(
     dynamic: u32,
     bounds: &'a [u32],
     columns: &'a [u32],
+    names: &'a [u8],
     rows: [Record; 2],
     labels: &mut [u32],
 ) -> Answer {
-    label_records(runtime, dynamic, bounds, columns, &rows, labels)
+    label_records(runtime, dynamic, bounds, columns, names, &rows, labels)
 }
 
 // Whether a chunk reaches a cyclic one, of rows that are lent.
@@ -101,10 +153,11 @@ fn reach_of<'a>(
     dynamic: u32,
     bounds: &'a [u32],
     columns: &'a [u32],
+    names: &'a [u8],
     rows: [Record; 2],
     chunk: u32,
 ) -> Answer {
-    reach_records(runtime, dynamic, bounds, columns, &rows, chunk)
+    reach_records(runtime, dynamic, bounds, columns, names, &rows, chunk)
 }
 
 // Order risk of an entry, of rows that are lent.
@@ -113,11 +166,12 @@ fn order_risk_of<'a>(
     dynamic: u32,
     bounds: &'a [u32],
     columns: &'a [u32],
+    names: &'a [u8],
     rows: [Record; 2],
     root: u32,
     marks: &mut [u32],
 ) -> Answer {
-    order_risk_records(runtime, dynamic, bounds, columns, &rows, root, marks)
+    order_risk_records(runtime, dynamic, bounds, columns, names, &rows, root, marks)
 }
 
 // Cycle risk of an entry, of rows that are lent.
@@ -126,11 +180,12 @@ fn cycle_risk_of<'a>(
     dynamic: u32,
     bounds: &'a [u32],
     columns: &'a [u32],
+    names: &'a [u8],
     rows: [Record; 2],
     root: u32,
     marks: &mut [u32],
 ) -> Answer {
-    cycle_risk_records(runtime, dynamic, bounds, columns, &rows, root, marks)
+    cycle_risk_records(runtime, dynamic, bounds, columns, names, &rows, root, marks)
 }
 
 // Plan from seeds, of rows that are lent.
@@ -139,11 +194,21 @@ fn plan_of<'a>(
     dynamic: u32,
     bounds: &'a [u32],
     columns: &'a [u32],
+    names: &'a [u8],
     rows: [Record; 2],
     seeds: &[u32],
     marks: &mut [u32],
 ) -> Answer {
-    plan_records(runtime, dynamic, bounds, columns, &rows, seeds, marks)
+    plan_records(
+        runtime,
+        dynamic,
+        bounds,
+        columns,
+        names,
+        &rows,
+        seeds,
+        marks,
+    )
 }
 
 // Whole analysis, of rows that are lent.
@@ -152,10 +217,11 @@ fn analyze_of<'a>(
     dynamic: u32,
     bounds: &'a [u32],
     columns: &'a [u32],
+    names: &'a [u8],
     rows: [Record; 2],
     marks: &mut [u32],
 ) -> Answer {
-    analyze_records(runtime, dynamic, bounds, columns, &rows, marks)
+    analyze_records(runtime, dynamic, bounds, columns, names, &rows, marks)
 }
 
 // Grounds of the modules, of rows that are lent.
@@ -164,10 +230,11 @@ fn ground_of<'a>(
     dynamic: u32,
     bounds: &'a [u32],
     columns: &'a [u32],
+    names: &'a [u8],
     rows: [Record; 2],
     marks: &mut [u32],
 ) -> Answer {
-    ground_records(runtime, dynamic, bounds, columns, &rows, marks)
+    ground_records(runtime, dynamic, bounds, columns, names, &rows, marks)
 }
 
 // Share of a project, of rows that are lent.
@@ -176,10 +243,11 @@ fn share_of<'a>(
     dynamic: u32,
     bounds: &'a [u32],
     columns: &'a [u32],
+    names: &'a [u8],
     rows: [Record; 2],
     out: &mut [u32],
 ) -> Answer {
-    share_records(runtime, dynamic, bounds, columns, &rows, out)
+    share_records(runtime, dynamic, bounds, columns, names, &rows, out)
 }
 
 fn wide(x: u32) -> u64 {
@@ -214,10 +282,19 @@ fn print_numbers(numbers: [u32; 4]) {
 }
 
 // The sort, the two orders of entry 1, and entries 3 and 1 walked together.
-fn orders<'a>(bounds: &'a [u32], columns: &'a [u32], rows: [Record; 2]) {
+fn orders<'a>(bounds: &'a [u32], columns: &'a [u32], names: &'a [u8], rows: [Record; 2]) {
     let mut numbers = [7u32; 4];
     let mut sorted = [7u32; 4];
-    let answer = sort_of(0, 0, bounds, columns, rows, &mut numbers, &mut sorted);
+    let answer = sort_of(
+        0,
+        0,
+        bounds,
+        columns,
+        names,
+        rows,
+        &mut numbers,
+        &mut sorted,
+    );
     print_answer(b"sort", answer);
     print_numbers(numbers);
     print_answer(b"sorted", answer);
@@ -225,19 +302,29 @@ fn orders<'a>(bounds: &'a [u32], columns: &'a [u32], rows: [Record; 2]) {
     let mut expected = [7u32; 4];
     print_answer(
         b"expected",
-        expected_of(0, 0, bounds, columns, rows, 1, &mut expected),
+        expected_of(0, 0, bounds, columns, names, rows, 1, &mut expected),
     );
     print_numbers(expected);
     let entries = [3u32, 1];
     let mut together = [7u32; 4];
     print_answer(
         b"entries",
-        entries_of(0, 0, bounds, columns, rows, &entries, &mut together),
+        entries_of(0, 0, bounds, columns, names, rows, &entries, &mut together),
     );
     print_numbers(together);
     let mut order = [7u32; 4];
     let mut hosts = [7u32; 4];
-    let answer = actual_of(0, 0, bounds, columns, rows, 1, &mut order, &mut hosts);
+    let answer = actual_of(
+        0,
+        0,
+        bounds,
+        columns,
+        names,
+        rows,
+        1,
+        &mut order,
+        &mut hosts,
+    );
     print_answer(b"actual", answer);
     print_numbers(order);
     print_answer(b"hosts", answer);
@@ -245,10 +332,10 @@ fn orders<'a>(bounds: &'a [u32], columns: &'a [u32], rows: [Record; 2]) {
 }
 
 // The import circles.
-fn circles<'a>(bounds: &'a [u32], columns: &'a [u32], rows: [Record; 2]) {
+fn circles<'a>(bounds: &'a [u32], columns: &'a [u32], names: &'a [u8], rows: [Record; 2]) {
     let mut paths = [7u32; 4];
     let mut lengths = [7u32; 4];
-    let answer = circle_of(0, 0, bounds, columns, rows, &mut paths, &mut lengths);
+    let answer = circle_of(0, 0, bounds, columns, names, rows, &mut paths, &mut lengths);
     print_answer(b"circles", answer);
     print_numbers(paths);
     print_answer(b"lengths", answer);
@@ -256,56 +343,59 @@ fn circles<'a>(bounds: &'a [u32], columns: &'a [u32], rows: [Record; 2]) {
 }
 
 // Labels, and whether chunk 0 reaches a cyclic one.
-fn cycles<'a>(bounds: &'a [u32], columns: &'a [u32], rows: [Record; 2]) {
+fn cycles<'a>(bounds: &'a [u32], columns: &'a [u32], names: &'a [u8], rows: [Record; 2]) {
     let mut labels = [7u32; 4];
     print_answer(
         b"labels",
-        label_of(0, 0, bounds, columns, rows, &mut labels),
+        label_of(0, 0, bounds, columns, names, rows, &mut labels),
     );
     print_numbers(labels);
-    print_answer(b"reach", reach_of(0, 0, bounds, columns, rows, 0));
+    print_answer(b"reach", reach_of(0, 0, bounds, columns, names, rows, 0));
     io::write_all(STDOUT_FILENO, b"\n");
 }
 
 // Both risks of entry 1, the plan from module 2, the whole analysis, and the grounds.
-fn plans<'a>(bounds: &'a [u32], columns: &'a [u32], rows: [Record; 2]) {
+fn plans<'a>(bounds: &'a [u32], columns: &'a [u32], names: &'a [u8], rows: [Record; 2]) {
     let mut early = [7u32; 4];
     print_answer(
         b"early",
-        order_risk_of(0, 0, bounds, columns, rows, 1, &mut early),
+        order_risk_of(0, 0, bounds, columns, names, rows, 1, &mut early),
     );
     print_numbers(early);
     let mut cycle = [7u32; 4];
     print_answer(
         b"cycle",
-        cycle_risk_of(0, 0, bounds, columns, rows, 1, &mut cycle),
+        cycle_risk_of(0, 0, bounds, columns, names, rows, 1, &mut cycle),
     );
     print_numbers(cycle);
     let seeds = [2u32];
     let mut plan = [7u32; 4];
     print_answer(
         b"plan",
-        plan_of(0, 0, bounds, columns, rows, &seeds, &mut plan),
+        plan_of(0, 0, bounds, columns, names, rows, &seeds, &mut plan),
     );
     print_numbers(plan);
     let mut whole = [7u32; 4];
     print_answer(
         b"analysis",
-        analyze_of(0, 0, bounds, columns, rows, &mut whole),
+        analyze_of(0, 0, bounds, columns, names, rows, &mut whole),
     );
     print_numbers(whole);
     let mut grounds = [7u32; 4];
     print_answer(
         b"grounds",
-        ground_of(0, 0, bounds, columns, rows, &mut grounds),
+        ground_of(0, 0, bounds, columns, names, rows, &mut grounds),
     );
     print_numbers(grounds);
 }
 
 // The share.
-fn shares<'a>(bounds: &'a [u32], columns: &'a [u32], rows: [Record; 2]) {
+fn shares<'a>(bounds: &'a [u32], columns: &'a [u32], names: &'a [u8], rows: [Record; 2]) {
     let mut share = [7u32; 4];
-    print_answer(b"share", share_of(0, 0, bounds, columns, rows, &mut share));
+    print_answer(
+        b"share",
+        share_of(0, 0, bounds, columns, names, rows, &mut share),
+    );
     print_numbers(share);
 }
 
@@ -414,10 +504,10 @@ fn main() {
             target: 3,
         },
     ];
-    orders(&bounds, &columns, rows);
-    circles(&bounds, &columns, rows);
-    cycles(&bounds, &columns, rows);
-    plans(&bounds, &columns, rows);
+    orders(&bounds, &columns, b"", rows);
+    circles(&bounds, &columns, b"", rows);
+    cycles(&bounds, &columns, b"", rows);
+    plans(&bounds, &columns, b"", rows);
     // two modules that import each other
     let ring = [
         Record {
@@ -431,8 +521,8 @@ fn main() {
             target: 1,
         },
     ];
-    circles(&bounds, &columns, ring);
-    shares(&bounds, &columns, rows);
+    circles(&bounds, &columns, b"", ring);
+    shares(&bounds, &columns, b"", rows);
     // a first column that falls is 3
     let fallen = [
         Record {
@@ -446,6 +536,10 @@ fn main() {
             target: 2,
         },
     ];
-    orders(&bounds, &columns, fallen);
-    circles(&bounds, &columns, fallen);
+    orders(&bounds, &columns, b"", fallen);
+    circles(&bounds, &columns, b"", fallen);
+    // the second member of each chunk has a name that comes first
+    orders(&bounds, &columns, b"a\nrolldown:b\nc\n~rolldown/d\n", rows);
+    // fewer names than modules are 2
+    cycles(&bounds, &columns, b"a\n", rows);
 }

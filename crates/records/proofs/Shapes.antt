@@ -26,9 +26,9 @@ number core = record {
   types = tyInt w32 ∷ [];
   typed = λ κs. refl;
   temps = Cols′.mir ∷ [];
-  count = 6;
-  k = 7;
-  js = 6 ∷ [];
+  count = 7;
+  k = 8;
+  js = 7 ∷ [];
   core = core;
   lends = λ rest. rest;
   lent = λ κs a ss. ss;
@@ -46,12 +46,12 @@ list core = record {
   types = sliceTy (tyRef (named 1) mut (tyInt w32)) ∷ [];
   typed = λ κs. refl;
   temps = Cols′.mir ∷ tyRef erased mut (tyInt w32) ∷ sliceTy (tyRef erased mut (tyInt w32)) ∷ [];
-  count = 6;
-  k = 7;
-  js = 9 ∷ [];
+  count = 7;
+  k = 8;
+  js = 10 ∷ [];
   core = core;
-  lends = lending 6 8 9 (tyInt w32);
-  lent = λ κs a. lent (a .0) 8 9;
+  lends = lending 7 9 10 (tyInt w32);
+  lent = λ κs a. lent (a .0) 9 10;
   at-k = refl;
   args = λ κs a u. refl;
 }
@@ -66,12 +66,12 @@ two-lists core = record {
   types = sliceTy (tyRef (named 1) mut (tyInt w32)) ∷ sliceTy (tyRef (named 2) mut (tyInt w32)) ∷ [];
   typed = λ κs. refl;
   temps = Cols′.mir ∷ tyRef erased mut (tyInt w32) ∷ sliceTy (tyRef erased mut (tyInt w32)) ∷ tyRef erased mut (tyInt w32) ∷ sliceTy (tyRef erased mut (tyInt w32)) ∷ [];
-  count = 7;
-  k = 8;
-  js = 10 ∷ 12 ∷ [];
+  count = 8;
+  k = 9;
+  js = 11 ∷ 13 ∷ [];
   core = core;
-  lends = λ rest. lending 6 9 10 (tyInt w32) (lending 7 11 12 (tyInt w32) rest);
-  lent = λ κs a ss. lent (a .1 .0) 11 12 (lent (a .0) 9 10 ss);
+  lends = λ rest. lending 7 10 11 (tyInt w32) (lending 8 12 13 (tyInt w32) rest);
+  lent = λ κs a ss. lent (a .1 .0) 12 13 (lent (a .0) 10 11 ss);
   at-k = refl;
   args = λ κs a u. refl;
 }
@@ -86,12 +86,12 @@ number-list core = record {
   types = tyInt w32 ∷ sliceTy (tyRef (named 1) mut (tyInt w32)) ∷ [];
   typed = λ κs. refl;
   temps = Cols′.mir ∷ tyRef erased mut (tyInt w32) ∷ sliceTy (tyRef erased mut (tyInt w32)) ∷ [];
-  count = 7;
-  k = 8;
-  js = 6 ∷ 10 ∷ [];
+  count = 8;
+  k = 9;
+  js = 7 ∷ 11 ∷ [];
   core = core;
-  lends = lending 7 9 10 (tyInt w32);
-  lent = λ κs a. lent (a .1 .0) 9 10;
+  lends = lending 8 10 11 (tyInt w32);
+  lent = λ κs a. lent (a .1 .0) 10 11;
   at-k = refl;
   args = λ κs a u. refl;
 }
@@ -106,12 +106,12 @@ number-two-lists core = record {
   types = tyInt w32 ∷ sliceTy (tyRef (named 1) mut (tyInt w32)) ∷ sliceTy (tyRef (named 2) mut (tyInt w32)) ∷ [];
   typed = λ κs. refl;
   temps = Cols′.mir ∷ tyRef erased mut (tyInt w32) ∷ sliceTy (tyRef erased mut (tyInt w32)) ∷ tyRef erased mut (tyInt w32) ∷ sliceTy (tyRef erased mut (tyInt w32)) ∷ [];
-  count = 8;
-  k = 9;
-  js = 6 ∷ 11 ∷ 13 ∷ [];
+  count = 9;
+  k = 10;
+  js = 7 ∷ 12 ∷ 14 ∷ [];
   core = core;
-  lends = λ rest. lending 7 10 11 (tyInt w32) (lending 8 12 13 (tyInt w32) rest);
-  lent = λ κs a ss. lent (a .1 .1 .0) 12 13 (lent (a .1 .0) 10 11 ss);
+  lends = λ rest. lending 8 11 12 (tyInt w32) (lending 9 13 14 (tyInt w32) rest);
+  lent = λ κs a ss. lent (a .1 .1 .0) 13 14 (lent (a .1 .0) 11 12 ss);
   at-k = refl;
   args = λ κs a u. refl;
 }
@@ -126,12 +126,12 @@ read-list core = record {
   types = sliceTy (tyRef (named 1) imm (tyInt w32)) ∷ sliceTy (tyRef (named 2) mut (tyInt w32)) ∷ [];
   typed = λ κs. refl;
   temps = Cols′.mir ∷ tyRef erased mut (tyInt w32) ∷ sliceTy (tyRef erased mut (tyInt w32)) ∷ [];
-  count = 7;
-  k = 8;
-  js = 6 ∷ 10 ∷ [];
+  count = 8;
+  k = 9;
+  js = 7 ∷ 11 ∷ [];
   core = core;
-  lends = lending 7 9 10 (tyInt w32);
-  lent = λ κs a. lent (a .1 .0) 9 10;
+  lends = lending 8 10 11 (tyInt w32);
+  lent = λ κs a. lent (a .1 .0) 10 11;
   at-k = refl;
   args = λ κs a u. refl;
 }
@@ -163,22 +163,22 @@ module _ {M : Type 1} (𝓤 : URA M) (H : Heap 𝓤) (A : Atoms 𝓤) (W : Given
   number-lent κs a are C Λ bs u Γ rest q s = s
 
   pub list-lent : Lending 𝓤 H A W (list core)
-  list-lent κs a are C Λ bs u Γ rest q s = let o = list core in lends (mine o κs a .0) (ls o) bs (filled o κs a u) 6 8 9 {Γ = Γ} refl refl refl refl refl refl (are .0 .0 .1 .0) s
+  list-lent κs a are C Λ bs u Γ rest q s = let o = list core in lends (mine o κs a .0) (ls o) bs (filled o κs a u) 7 9 10 {Γ = Γ} refl refl refl refl refl refl (are .0 .0 .1 .0) s
 
   pub two-lists-lent : Lending 𝓤 H A W (two-lists core)
   two-lists-lent κs a are C Λ bs u Γ rest q s =
       let o = two-lists core in
-      lends (mine o κs a .0) (ls o) bs (filled o κs a u) 6 9 10 {Γ = Γ} refl refl refl refl refl refl (are .0 .0 .1 .0)
-      (lends (mine o κs a .1 .0) (ls o) bs (lent (mine o κs a .0) 9 10 (filled o κs a u)) 7 11 12 {Γ = Γ} refl refl refl refl refl refl (are .1 .0 .0 .1 .0) s)
+      lends (mine o κs a .0) (ls o) bs (filled o κs a u) 7 10 11 {Γ = Γ} refl refl refl refl refl refl (are .0 .0 .1 .0)
+      (lends (mine o κs a .1 .0) (ls o) bs (lent (mine o κs a .0) 10 11 (filled o κs a u)) 8 12 13 {Γ = Γ} refl refl refl refl refl refl (are .1 .0 .0 .1 .0) s)
 
   pub number-list-lent : Lending 𝓤 H A W (number-list core)
-  number-list-lent κs a are C Λ bs u Γ rest q s = let o = number-list core in lends (mine o κs a .1 .0) (ls o) bs (filled o κs a u) 7 9 10 {Γ = Γ} refl refl refl refl refl refl (are .1 .0 .0 .1 .0) s
+  number-list-lent κs a are C Λ bs u Γ rest q s = let o = number-list core in lends (mine o κs a .1 .0) (ls o) bs (filled o κs a u) 8 10 11 {Γ = Γ} refl refl refl refl refl refl (are .1 .0 .0 .1 .0) s
 
   pub number-two-lists-lent : Lending 𝓤 H A W (number-two-lists core)
   number-two-lists-lent κs a are C Λ bs u Γ rest q s =
       let o = number-two-lists core in
-      lends (mine o κs a .1 .0) (ls o) bs (filled o κs a u) 7 10 11 {Γ = Γ} refl refl refl refl refl refl (are .1 .0 .0 .1 .0)
-      (lends (mine o κs a .1 .1 .0) (ls o) bs (lent (mine o κs a .1 .0) 10 11 (filled o κs a u)) 8 12 13 {Γ = Γ} refl refl refl refl refl refl (are .1 .1 .0 .0 .1 .0) s)
+      lends (mine o κs a .1 .0) (ls o) bs (filled o κs a u) 8 11 12 {Γ = Γ} refl refl refl refl refl refl (are .1 .0 .0 .1 .0)
+      (lends (mine o κs a .1 .1 .0) (ls o) bs (lent (mine o κs a .1 .0) 11 12 (filled o κs a u)) 9 13 14 {Γ = Γ} refl refl refl refl refl refl (are .1 .1 .0 .0 .1 .0) s)
 
   pub read-list-lent : Lending 𝓤 H A W (read-list core)
-  read-list-lent κs a are C Λ bs u Γ rest q s = let o = read-list core in lends (mine o κs a .1 .0) (ls o) bs (filled o κs a u) 7 9 10 {Γ = Γ} refl refl refl refl refl refl (are .1 .0 .0 .1 .0) s
+  read-list-lent κs a are C Λ bs u Γ rest q s = let o = read-list core in lends (mine o κs a .1 .0) (ls o) bs (filled o κs a u) 8 10 11 {Γ = Γ} refl refl refl refl refl refl (are .1 .0 .0 .1 .0) s

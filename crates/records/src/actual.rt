@@ -1,7 +1,7 @@
 // Actual order and hosts of an entry, over the columns of a list of records.
 ghost use mathlib.Core.Path.{_≡_};
 ghost use mathlib.Core.List.{List};
-ghost use Rattle.table.specs.Table.{lentWith};
+ghost use Rattle.arrangement.specs.OfProject.{lentNamedWith};
 ghost use Rattle.actual_order.specs.Promise.{ActualOrder};
 ghost use Rattle.record_columns.specs.declared.Record.{Record};
 ghost use Rattle.record_columns.specs.Rows.{columnsOf, importerColumn, kindColumn, targetColumn};
@@ -16,12 +16,13 @@ pub fn actual_columns<'a>(
     dynamic: u32,
     bounds: &'a [u32],
     columns: &'a [u32],
+    names: &'a [u8],
     made: Columns,
     root: u32,
     order: &mut [u32],
     hosts: &mut [u32],
 ) -> Answer
-    ensures { λ r. ⌜ ((records : List Record) → made ≡ columnsOf records → ActualOrder (lentWith runtime dynamic (now (bounds .entry)) (now (columns .entry)) (importerColumn records) (kindColumn records) (targetColumn records)) root (now (order .entry)) (now (hosts .entry)) r (now (order .exit)) (now (hosts .exit))) ⌝ }
+    ensures { λ r. ⌜ ((records : List Record) → made ≡ columnsOf records → ActualOrder (lentNamedWith runtime dynamic (now (bounds .entry)) (now (columns .entry)) (now (names .entry)) (importerColumn records) (kindColumn records) (targetColumn records)) root (now (order .entry)) (now (hosts .entry)) r (now (order .exit)) (now (hosts .exit))) ⌝ }
 {
     let rows = made.rows;
     if ROW_LIMIT < rows {
@@ -35,6 +36,7 @@ pub fn actual_columns<'a>(
         dynamic,
         bounds,
         columns,
+        names,
         &importers[..rows],
         &kinds[..rows],
         &targets[..rows],

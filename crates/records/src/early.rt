@@ -1,7 +1,7 @@
 // Order risk of an entry, over the columns of a list of records.
 ghost use mathlib.Core.Path.{_≡_};
 ghost use mathlib.Core.List.{List};
-ghost use Rattle.table.specs.Table.{lentWith};
+ghost use Rattle.arrangement.specs.OfProject.{lentNamedWith};
 ghost use Rattle.at_risk.specs.Entry.{EntryOrderRisk};
 ghost use Rattle.record_columns.specs.declared.Record.{Record};
 ghost use Rattle.record_columns.specs.Rows.{columnsOf, importerColumn, kindColumn, targetColumn};
@@ -16,11 +16,12 @@ pub fn order_risk_columns<'a>(
     dynamic: u32,
     bounds: &'a [u32],
     columns: &'a [u32],
+    names: &'a [u8],
     made: Columns,
     root: u32,
     marks: &mut [u32],
 ) -> Answer
-    ensures { λ r. ⌜ ((records : List Record) → made ≡ columnsOf records → EntryOrderRisk (lentWith runtime dynamic (now (bounds .entry)) (now (columns .entry)) (importerColumn records) (kindColumn records) (targetColumn records)) root (now (marks .entry)) r (now (marks .exit))) ⌝ }
+    ensures { λ r. ⌜ ((records : List Record) → made ≡ columnsOf records → EntryOrderRisk (lentNamedWith runtime dynamic (now (bounds .entry)) (now (columns .entry)) (now (names .entry)) (importerColumn records) (kindColumn records) (targetColumn records)) root (now (marks .entry)) r (now (marks .exit))) ⌝ }
 {
     let rows = made.rows;
     if ROW_LIMIT < rows {
@@ -34,6 +35,7 @@ pub fn order_risk_columns<'a>(
         dynamic,
         bounds,
         columns,
+        names,
         &importers[..rows],
         &kinds[..rows],
         &targets[..rows],

@@ -16,11 +16,12 @@ pub fn entries_columns<'a>(
     dynamic: u32,
     bounds: &'a [u32],
     columns: &'a [u32],
+    names: &'a [u8],
     made: Columns,
     entries: &[u32],
     order: &mut [u32],
 ) -> Answer
-    ensures { λ r. ⌜ ((records : List Record) → made ≡ columnsOf records → EntriesOrder (lentWith runtime dynamic (now (bounds .entry)) (now (columns .entry)) (importerColumn records) (kindColumn records) (targetColumn records)) (now (entries .entry)) (now (order .entry)) r (now (order .exit))) ⌝ }
+    ensures { λ r. ⌜ ((records : List Record) → made ≡ columnsOf records → EntriesOrder (lentWith runtime dynamic (now (bounds .entry)) (now (columns .entry)) (now (names .entry)) (importerColumn records) (kindColumn records) (targetColumn records)) (now (entries .entry)) (now (order .entry)) r (now (order .exit))) ⌝ }
 {
     let rows = made.rows;
     if ROW_LIMIT < rows {
@@ -34,6 +35,7 @@ pub fn entries_columns<'a>(
         dynamic,
         bounds,
         columns,
+        names,
         &importers[..rows],
         &kinds[..rows],
         &targets[..rows],

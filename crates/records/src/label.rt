@@ -16,10 +16,11 @@ pub fn label_columns<'a>(
     dynamic: u32,
     bounds: &'a [u32],
     columns: &'a [u32],
+    names: &'a [u8],
     made: Columns,
     labels: &mut [u32],
 ) -> Answer
-    ensures { λ r. ⌜ ((records : List Record) → made ≡ columnsOf records → LabelsPromise (lentWith runtime dynamic (now (bounds .entry)) (now (columns .entry)) (importerColumn records) (kindColumn records) (targetColumn records)) (now (labels .entry)) r (now (labels .exit))) ⌝ }
+    ensures { λ r. ⌜ ((records : List Record) → made ≡ columnsOf records → LabelsPromise (lentWith runtime dynamic (now (bounds .entry)) (now (columns .entry)) (now (names .entry)) (importerColumn records) (kindColumn records) (targetColumn records)) (now (labels .entry)) r (now (labels .exit))) ⌝ }
 {
     let rows = made.rows;
     if ROW_LIMIT < rows {
@@ -33,6 +34,7 @@ pub fn label_columns<'a>(
         dynamic,
         bounds,
         columns,
+        names,
         &importers[..rows],
         &kinds[..rows],
         &targets[..rows],

@@ -1,5 +1,6 @@
 // The operations with the import records lent as a slice of records, in the place of the table's own, which aren't read.
 ghost use Rattle.table.specs.Table.{lentWith};
+ghost use Rattle.arrangement.specs.OfProject.{lentNamedWith};
 ghost use Rattle.sort_modules.specs.Promise.{SortModules};
 ghost use Rattle.import_circles.specs.Promise.{ImportCircles};
 ghost use Rattle.expected_order.specs.Promise.{ExpectedOrder};
@@ -50,14 +51,24 @@ pub fn sort_records<'a>(
     dynamic: u32,
     bounds: &'a [u32],
     columns: &'a [u32],
+    names: &'a [u8],
     records: &'a [Record],
     numbers: &mut [u32],
     sorted: &mut [u32],
 ) -> Answer
-    ensures { λ r. ⌜ SortModules (lentWith runtime dynamic (now (bounds .entry)) (now (columns .entry)) (importerColumn (now (records .entry))) (kindColumn (now (records .entry))) (targetColumn (now (records .entry)))) (now (numbers .entry)) (now (sorted .entry)) r (now (numbers .exit)) (now (sorted .exit)) ⌝ }
+    ensures { λ r. ⌜ SortModules (lentWith runtime dynamic (now (bounds .entry)) (now (columns .entry)) (now (names .entry)) (importerColumn (now (records .entry))) (kindColumn (now (records .entry))) (targetColumn (now (records .entry)))) (now (numbers .entry)) (now (sorted .entry)) r (now (numbers .exit)) (now (sorted .exit)) ⌝ }
 {
     let made = columns_of(records);
-    sort_columns(runtime, dynamic, bounds, columns, made, numbers, sorted)
+    sort_columns(
+        runtime,
+        dynamic,
+        bounds,
+        columns,
+        names,
+        made,
+        numbers,
+        sorted,
+    )
 }
 
 // Import circles.
@@ -66,14 +77,24 @@ pub fn circle_records<'a>(
     dynamic: u32,
     bounds: &'a [u32],
     columns: &'a [u32],
+    names: &'a [u8],
     records: &'a [Record],
     paths: &mut [u32],
     lengths: &mut [u32],
 ) -> Answer
-    ensures { λ r. ⌜ ImportCircles (lentWith runtime dynamic (now (bounds .entry)) (now (columns .entry)) (importerColumn (now (records .entry))) (kindColumn (now (records .entry))) (targetColumn (now (records .entry)))) (now (paths .entry)) (now (lengths .entry)) r (now (paths .exit)) (now (lengths .exit)) ⌝ }
+    ensures { λ r. ⌜ ImportCircles (lentWith runtime dynamic (now (bounds .entry)) (now (columns .entry)) (now (names .entry)) (importerColumn (now (records .entry))) (kindColumn (now (records .entry))) (targetColumn (now (records .entry)))) (now (paths .entry)) (now (lengths .entry)) r (now (paths .exit)) (now (lengths .exit)) ⌝ }
 {
     let made = columns_of(records);
-    circle_columns(runtime, dynamic, bounds, columns, made, paths, lengths)
+    circle_columns(
+        runtime,
+        dynamic,
+        bounds,
+        columns,
+        names,
+        made,
+        paths,
+        lengths,
+    )
 }
 
 // Expected order of an entry.
@@ -82,14 +103,24 @@ pub fn expected_records<'a>(
     dynamic: u32,
     bounds: &'a [u32],
     columns: &'a [u32],
+    names: &'a [u8],
     records: &'a [Record],
     root: u32,
     expected: &mut [u32],
 ) -> Answer
-    ensures { λ r. ⌜ ExpectedOrder (lentWith runtime dynamic (now (bounds .entry)) (now (columns .entry)) (importerColumn (now (records .entry))) (kindColumn (now (records .entry))) (targetColumn (now (records .entry)))) root (now (expected .entry)) r (now (expected .exit)) ⌝ }
+    ensures { λ r. ⌜ ExpectedOrder (lentWith runtime dynamic (now (bounds .entry)) (now (columns .entry)) (now (names .entry)) (importerColumn (now (records .entry))) (kindColumn (now (records .entry))) (targetColumn (now (records .entry)))) root (now (expected .entry)) r (now (expected .exit)) ⌝ }
 {
     let made = columns_of(records);
-    expected_columns(runtime, dynamic, bounds, columns, made, root, expected)
+    expected_columns(
+        runtime,
+        dynamic,
+        bounds,
+        columns,
+        names,
+        made,
+        root,
+        expected,
+    )
 }
 
 // Many entries walked together.
@@ -98,14 +129,24 @@ pub fn entries_records<'a>(
     dynamic: u32,
     bounds: &'a [u32],
     columns: &'a [u32],
+    names: &'a [u8],
     records: &'a [Record],
     entries: &[u32],
     order: &mut [u32],
 ) -> Answer
-    ensures { λ r. ⌜ EntriesOrder (lentWith runtime dynamic (now (bounds .entry)) (now (columns .entry)) (importerColumn (now (records .entry))) (kindColumn (now (records .entry))) (targetColumn (now (records .entry)))) (now (entries .entry)) (now (order .entry)) r (now (order .exit)) ⌝ }
+    ensures { λ r. ⌜ EntriesOrder (lentWith runtime dynamic (now (bounds .entry)) (now (columns .entry)) (now (names .entry)) (importerColumn (now (records .entry))) (kindColumn (now (records .entry))) (targetColumn (now (records .entry)))) (now (entries .entry)) (now (order .entry)) r (now (order .exit)) ⌝ }
 {
     let made = columns_of(records);
-    entries_columns(runtime, dynamic, bounds, columns, made, entries, order)
+    entries_columns(
+        runtime,
+        dynamic,
+        bounds,
+        columns,
+        names,
+        made,
+        entries,
+        order,
+    )
 }
 
 // Actual order and hosts of an entry.
@@ -114,15 +155,26 @@ pub fn actual_records<'a>(
     dynamic: u32,
     bounds: &'a [u32],
     columns: &'a [u32],
+    names: &'a [u8],
     records: &'a [Record],
     root: u32,
     order: &mut [u32],
     hosts: &mut [u32],
 ) -> Answer
-    ensures { λ r. ⌜ ActualOrder (lentWith runtime dynamic (now (bounds .entry)) (now (columns .entry)) (importerColumn (now (records .entry))) (kindColumn (now (records .entry))) (targetColumn (now (records .entry)))) root (now (order .entry)) (now (hosts .entry)) r (now (order .exit)) (now (hosts .exit)) ⌝ }
+    ensures { λ r. ⌜ ActualOrder (lentNamedWith runtime dynamic (now (bounds .entry)) (now (columns .entry)) (now (names .entry)) (importerColumn (now (records .entry))) (kindColumn (now (records .entry))) (targetColumn (now (records .entry)))) root (now (order .entry)) (now (hosts .entry)) r (now (order .exit)) (now (hosts .exit)) ⌝ }
 {
     let made = columns_of(records);
-    actual_columns(runtime, dynamic, bounds, columns, made, root, order, hosts)
+    actual_columns(
+        runtime,
+        dynamic,
+        bounds,
+        columns,
+        names,
+        made,
+        root,
+        order,
+        hosts,
+    )
 }
 
 // Labels of the chunks.
@@ -131,13 +183,14 @@ pub fn label_records<'a>(
     dynamic: u32,
     bounds: &'a [u32],
     columns: &'a [u32],
+    names: &'a [u8],
     records: &'a [Record],
     labels: &mut [u32],
 ) -> Answer
-    ensures { λ r. ⌜ LabelsPromise (lentWith runtime dynamic (now (bounds .entry)) (now (columns .entry)) (importerColumn (now (records .entry))) (kindColumn (now (records .entry))) (targetColumn (now (records .entry)))) (now (labels .entry)) r (now (labels .exit)) ⌝ }
+    ensures { λ r. ⌜ LabelsPromise (lentWith runtime dynamic (now (bounds .entry)) (now (columns .entry)) (now (names .entry)) (importerColumn (now (records .entry))) (kindColumn (now (records .entry))) (targetColumn (now (records .entry)))) (now (labels .entry)) r (now (labels .exit)) ⌝ }
 {
     let made = columns_of(records);
-    label_columns(runtime, dynamic, bounds, columns, made, labels)
+    label_columns(runtime, dynamic, bounds, columns, names, made, labels)
 }
 
 // Whether a chunk reaches a cyclic one.
@@ -146,13 +199,14 @@ pub fn reach_records<'a>(
     dynamic: u32,
     bounds: &'a [u32],
     columns: &'a [u32],
+    names: &'a [u8],
     records: &'a [Record],
     chunk: u32,
 ) -> Answer
-    ensures { λ r. ⌜ ReachPromise (lentWith runtime dynamic (now (bounds .entry)) (now (columns .entry)) (importerColumn (now (records .entry))) (kindColumn (now (records .entry))) (targetColumn (now (records .entry)))) chunk r ⌝ }
+    ensures { λ r. ⌜ ReachPromise (lentWith runtime dynamic (now (bounds .entry)) (now (columns .entry)) (now (names .entry)) (importerColumn (now (records .entry))) (kindColumn (now (records .entry))) (targetColumn (now (records .entry)))) chunk r ⌝ }
 {
     let made = columns_of(records);
-    reach_columns(runtime, dynamic, bounds, columns, made, chunk)
+    reach_columns(runtime, dynamic, bounds, columns, names, made, chunk)
 }
 
 // Order risk of an entry.
@@ -161,14 +215,15 @@ pub fn order_risk_records<'a>(
     dynamic: u32,
     bounds: &'a [u32],
     columns: &'a [u32],
+    names: &'a [u8],
     records: &'a [Record],
     root: u32,
     marks: &mut [u32],
 ) -> Answer
-    ensures { λ r. ⌜ EntryOrderRisk (lentWith runtime dynamic (now (bounds .entry)) (now (columns .entry)) (importerColumn (now (records .entry))) (kindColumn (now (records .entry))) (targetColumn (now (records .entry)))) root (now (marks .entry)) r (now (marks .exit)) ⌝ }
+    ensures { λ r. ⌜ EntryOrderRisk (lentNamedWith runtime dynamic (now (bounds .entry)) (now (columns .entry)) (now (names .entry)) (importerColumn (now (records .entry))) (kindColumn (now (records .entry))) (targetColumn (now (records .entry)))) root (now (marks .entry)) r (now (marks .exit)) ⌝ }
 {
     let made = columns_of(records);
-    order_risk_columns(runtime, dynamic, bounds, columns, made, root, marks)
+    order_risk_columns(runtime, dynamic, bounds, columns, names, made, root, marks)
 }
 
 // Cycle risk of an entry.
@@ -177,14 +232,15 @@ pub fn cycle_risk_records<'a>(
     dynamic: u32,
     bounds: &'a [u32],
     columns: &'a [u32],
+    names: &'a [u8],
     records: &'a [Record],
     root: u32,
     marks: &mut [u32],
 ) -> Answer
-    ensures { λ r. ⌜ EntryCycleRisk (lentWith runtime dynamic (now (bounds .entry)) (now (columns .entry)) (importerColumn (now (records .entry))) (kindColumn (now (records .entry))) (targetColumn (now (records .entry)))) root (now (marks .entry)) r (now (marks .exit)) ⌝ }
+    ensures { λ r. ⌜ EntryCycleRisk (lentWith runtime dynamic (now (bounds .entry)) (now (columns .entry)) (now (names .entry)) (importerColumn (now (records .entry))) (kindColumn (now (records .entry))) (targetColumn (now (records .entry)))) root (now (marks .entry)) r (now (marks .exit)) ⌝ }
 {
     let made = columns_of(records);
-    cycle_risk_columns(runtime, dynamic, bounds, columns, made, root, marks)
+    cycle_risk_columns(runtime, dynamic, bounds, columns, names, made, root, marks)
 }
 
 // Plan from seeds.
@@ -193,14 +249,15 @@ pub fn plan_records<'a>(
     dynamic: u32,
     bounds: &'a [u32],
     columns: &'a [u32],
+    names: &'a [u8],
     records: &'a [Record],
     seeds: &[u32],
     marks: &mut [u32],
 ) -> Answer
-    ensures { λ r. ⌜ PlanFromSeeds (lentWith runtime dynamic (now (bounds .entry)) (now (columns .entry)) (importerColumn (now (records .entry))) (kindColumn (now (records .entry))) (targetColumn (now (records .entry)))) (now (seeds .entry)) (now (marks .entry)) r (now (marks .exit)) ⌝ }
+    ensures { λ r. ⌜ PlanFromSeeds (lentWith runtime dynamic (now (bounds .entry)) (now (columns .entry)) (now (names .entry)) (importerColumn (now (records .entry))) (kindColumn (now (records .entry))) (targetColumn (now (records .entry)))) (now (seeds .entry)) (now (marks .entry)) r (now (marks .exit)) ⌝ }
 {
     let made = columns_of(records);
-    plan_columns(runtime, dynamic, bounds, columns, made, seeds, marks)
+    plan_columns(runtime, dynamic, bounds, columns, names, made, seeds, marks)
 }
 
 // Whole analysis.
@@ -209,13 +266,14 @@ pub fn analyze_records<'a>(
     dynamic: u32,
     bounds: &'a [u32],
     columns: &'a [u32],
+    names: &'a [u8],
     records: &'a [Record],
     marks: &mut [u32],
 ) -> Answer
-    ensures { λ r. ⌜ WholeAnalysis (lentWith runtime dynamic (now (bounds .entry)) (now (columns .entry)) (importerColumn (now (records .entry))) (kindColumn (now (records .entry))) (targetColumn (now (records .entry)))) (now (marks .entry)) r (now (marks .exit)) ⌝ }
+    ensures { λ r. ⌜ WholeAnalysis (lentNamedWith runtime dynamic (now (bounds .entry)) (now (columns .entry)) (now (names .entry)) (importerColumn (now (records .entry))) (kindColumn (now (records .entry))) (targetColumn (now (records .entry)))) (now (marks .entry)) r (now (marks .exit)) ⌝ }
 {
     let made = columns_of(records);
-    analyze_columns(runtime, dynamic, bounds, columns, made, marks)
+    analyze_columns(runtime, dynamic, bounds, columns, names, made, marks)
 }
 
 // Grounds of the modules.
@@ -224,13 +282,14 @@ pub fn ground_records<'a>(
     dynamic: u32,
     bounds: &'a [u32],
     columns: &'a [u32],
+    names: &'a [u8],
     records: &'a [Record],
     marks: &mut [u32],
 ) -> Answer
-    ensures { λ r. ⌜ ModuleGrounds (lentWith runtime dynamic (now (bounds .entry)) (now (columns .entry)) (importerColumn (now (records .entry))) (kindColumn (now (records .entry))) (targetColumn (now (records .entry)))) (now (marks .entry)) r (now (marks .exit)) ⌝ }
+    ensures { λ r. ⌜ ModuleGrounds (lentWith runtime dynamic (now (bounds .entry)) (now (columns .entry)) (now (names .entry)) (importerColumn (now (records .entry))) (kindColumn (now (records .entry))) (targetColumn (now (records .entry)))) (now (marks .entry)) r (now (marks .exit)) ⌝ }
 {
     let made = columns_of(records);
-    ground_columns(runtime, dynamic, bounds, columns, made, marks)
+    ground_columns(runtime, dynamic, bounds, columns, names, made, marks)
 }
 
 // Share of a project.
@@ -239,11 +298,12 @@ pub fn share_records<'a>(
     dynamic: u32,
     bounds: &'a [u32],
     columns: &'a [u32],
+    names: &'a [u8],
     records: &'a [Record],
     out: &mut [u32],
 ) -> Answer
-    ensures { λ r. ⌜ WrittenShare (lentWith runtime dynamic (now (bounds .entry)) (now (columns .entry)) (importerColumn (now (records .entry))) (kindColumn (now (records .entry))) (targetColumn (now (records .entry)))) (now (out .entry)) r (now (out .exit)) ⌝ }
+    ensures { λ r. ⌜ WrittenShare (lentNamedWith runtime dynamic (now (bounds .entry)) (now (columns .entry)) (now (names .entry)) (importerColumn (now (records .entry))) (kindColumn (now (records .entry))) (targetColumn (now (records .entry)))) (now (out .entry)) r (now (out .exit)) ⌝ }
 {
     let made = columns_of(records);
-    share_columns(runtime, dynamic, bounds, columns, made, out)
+    share_columns(runtime, dynamic, bounds, columns, names, made, out)
 }

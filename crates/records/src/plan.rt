@@ -16,11 +16,12 @@ pub fn plan_columns<'a>(
     dynamic: u32,
     bounds: &'a [u32],
     columns: &'a [u32],
+    names: &'a [u8],
     made: Columns,
     seeds: &[u32],
     marks: &mut [u32],
 ) -> Answer
-    ensures { λ r. ⌜ ((records : List Record) → made ≡ columnsOf records → PlanFromSeeds (lentWith runtime dynamic (now (bounds .entry)) (now (columns .entry)) (importerColumn records) (kindColumn records) (targetColumn records)) (now (seeds .entry)) (now (marks .entry)) r (now (marks .exit))) ⌝ }
+    ensures { λ r. ⌜ ((records : List Record) → made ≡ columnsOf records → PlanFromSeeds (lentWith runtime dynamic (now (bounds .entry)) (now (columns .entry)) (now (names .entry)) (importerColumn records) (kindColumn records) (targetColumn records)) (now (seeds .entry)) (now (marks .entry)) r (now (marks .exit))) ⌝ }
 {
     let rows = made.rows;
     if ROW_LIMIT < rows {
@@ -34,6 +35,7 @@ pub fn plan_columns<'a>(
         dynamic,
         bounds,
         columns,
+        names,
         &importers[..rows],
         &kinds[..rows],
         &targets[..rows],

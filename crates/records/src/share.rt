@@ -1,7 +1,7 @@
 // Share of a project, over the columns of a list of records.
 ghost use mathlib.Core.Path.{_≡_};
 ghost use mathlib.Core.List.{List};
-ghost use Rattle.table.specs.Table.{lentWith};
+ghost use Rattle.arrangement.specs.OfProject.{lentNamedWith};
 ghost use Rattle.shares.specs.Share.{WrittenShare};
 ghost use Rattle.record_columns.specs.declared.Record.{Record};
 ghost use Rattle.record_columns.specs.Rows.{columnsOf, importerColumn, kindColumn, targetColumn};
@@ -16,10 +16,11 @@ pub fn share_columns<'a>(
     dynamic: u32,
     bounds: &'a [u32],
     columns: &'a [u32],
+    names: &'a [u8],
     made: Columns,
     out: &mut [u32],
 ) -> Answer
-    ensures { λ r. ⌜ ((records : List Record) → made ≡ columnsOf records → WrittenShare (lentWith runtime dynamic (now (bounds .entry)) (now (columns .entry)) (importerColumn records) (kindColumn records) (targetColumn records)) (now (out .entry)) r (now (out .exit))) ⌝ }
+    ensures { λ r. ⌜ ((records : List Record) → made ≡ columnsOf records → WrittenShare (lentNamedWith runtime dynamic (now (bounds .entry)) (now (columns .entry)) (now (names .entry)) (importerColumn records) (kindColumn records) (targetColumn records)) (now (out .entry)) r (now (out .exit))) ⌝ }
 {
     let rows = made.rows;
     if ROW_LIMIT < rows {
@@ -33,6 +34,7 @@ pub fn share_columns<'a>(
         dynamic,
         bounds,
         columns,
+        names,
         &importers[..rows],
         &kinds[..rows],
         &targets[..rows],

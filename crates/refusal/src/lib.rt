@@ -1,17 +1,21 @@
-// The tests 1 to 4 and 10 of a table, with its import records beside it.
+// The tests 1 to 4 and 10 of a table, with its names and import records beside it.
 ghost use mathlib.Core.Path.{_≡_};
-ghost use Rattle.table.specs.Table.{table, boundsFit, withRecords, lentWith};
+ghost use Rattle.table.specs.Table.{table, boundsFit, withRecords, tableNumber, testedToo, lentWith};
 ghost use Rattle.tables.specs.Refusal.{refusal};
 use agree::rows_agree;
 use agree::rows_rise;
 use column_tests::core::is_rising;
 use column_tests::core::newer_fits;
+use names::names_in;
+use names::names_sized;
 use sizes::chunks_sized;
 use sizes::code_sized;
 use sizes::symbols_sized;
 use table::COLUMNS;
 use table::NEWER;
+use table::NORMAL;
 use table::column;
+use table::rows;
 use values::chunks_in;
 use values::code_in;
 use values::symbols_in;
@@ -67,7 +71,7 @@ fn project_number<'a>(
 }
 
 // The number of a table: 1 where its bounds don't fit, else its project's.
-pub fn refusal_number<'a>(
+fn table_number<'a>(
     runtime: u32,
     dynamic: u32,
     bounds: &'a [u32],
@@ -76,10 +80,41 @@ pub fn refusal_number<'a>(
     kinds: &'a [u32],
     targets: &'a [u32],
 ) -> u32
-    ensures { λ r. ⌜ r ≡ lentWith runtime dynamic (now (bounds .entry)) (now (columns .entry)) (now (importers .entry)) (now (kinds .entry)) (now (targets .entry)) .number ⌝ }
+    ensures { λ r. ⌜ r ≡ tableNumber (now (bounds .entry)) (now (columns .entry)) (withRecords (table runtime dynamic (now (bounds .entry)) (now (columns .entry))) (now (importers .entry)) (now (kinds .entry)) (now (targets .entry))) ⌝ }
 {
     if !bounds_fit(bounds, columns) {
         return 1;
     }
     project_number(runtime, dynamic, bounds, columns, importers, kinds, targets)
+}
+
+// A number where 1 tests one thing more, and 2 another.
+pub fn tested_too(number: u32, one: bool, two: bool) -> u32
+    ensures { λ r. ⌜ r ≡ testedToo number one two ⌝ }
+{
+    if (number == 1) | !one {
+        return 1;
+    }
+    if (number == 2) | !two {
+        return 2;
+    }
+    number
+}
+
+// The number of a table with its names, which 1 and 2 test too.
+pub fn refusal_number<'a>(
+    runtime: u32,
+    dynamic: u32,
+    bounds: &'a [u32],
+    columns: &'a [u32],
+    names: &'a [u8],
+    importers: &'a [u32],
+    kinds: &'a [u32],
+    targets: &'a [u32],
+) -> u32
+    ensures { λ r. ⌜ r ≡ lentWith runtime dynamic (now (bounds .entry)) (now (columns .entry)) (now (names .entry)) (now (importers .entry)) (now (kinds .entry)) (now (targets .entry)) .number ⌝ }
+{
+    let number = table_number(runtime, dynamic, bounds, columns, importers, kinds, targets);
+    let modules = rows(bounds, columns, NORMAL);
+    tested_too(number, names_sized(names), names_in(names, modules))
 }

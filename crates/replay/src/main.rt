@@ -1,5 +1,11 @@
 // Runs the library on every call of a replay list, which stands on standard input, and compares each answer and both outputs, whole,
 // with what the list says. README.md says how the list was made.
+//
+// First how many cases. A case is a line with `#` and its name; then how many bounds and these; how many values the columns have and these; how many bytes
+// the names have and these, as numbers; `runtime dynamic`, what every output holds before a call, and how many calls. A call is its operation, its argument,
+// 0 and the count or 1 and the refusal's number, and how many places each of two outputs has; how many seeds or entries and these; and for each output how
+// many places are written and these. `-` is the missing mark. In a list, `5*0` stands for five zeros, `3*8+2` for 8 10 12, `3*8~2` for 8 6 4, `6*8+1/2` for
+// 8 8 9 9 10 10; and `5.` for the five values that stand there in the case before. Without names a case has a 0 for them.
 use libc::STDIN_FILENO;
 use libc::STDOUT_FILENO;
 use table::RECORD_KIND;
@@ -204,9 +210,20 @@ fn value_of(run: Run, stands: u32) -> u32 {
     run.value
 }
 
-// Reads n values into out, and says where the next may begin.
-fn fill(text: &[u8], at: usize, out: &mut [u32], n: u32) -> usize {
-    let mut run = Run {
+// The same as a byte, 255 for what is larger.
+fn byte_of(run: Run, stands: u8) -> u8 {
+    if run.kept {
+        return stands;
+    }
+    if 255 < run.value {
+        return 255;
+    }
+    run.value as u8
+}
+
+// No value left, and the next run may begin here.
+fn no_run(at: usize) -> Run {
+    Run {
         left: 0,
         value: 0,
         step: 0,
@@ -214,7 +231,12 @@ fn fill(text: &[u8], at: usize, out: &mut [u32], n: u32) -> usize {
         turn: 1,
         kept: false,
         at: at,
-    };
+    }
+}
+
+// Reads n values into out, and says where the next may begin.
+fn fill(text: &[u8], at: usize, out: &mut [u32], n: u32) -> usize {
+    let mut run = no_run(at);
     let mut i = 0;
     while i < out.len() {
         if n as usize <= i {
@@ -222,6 +244,22 @@ fn fill(text: &[u8], at: usize, out: &mut [u32], n: u32) -> usize {
         }
         run = run_on(text, run);
         out[i] = value_of(run, out[i]);
+        run = rest(run);
+        i += 1;
+    }
+    run.at
+}
+
+// Reads n values into out as bytes, and says where the next may begin.
+fn fill_bytes(text: &[u8], at: usize, out: &mut [u8], n: u32) -> usize {
+    let mut run = no_run(at);
+    let mut i = 0;
+    while i < out.len() {
+        if n as usize <= i {
+            return run.at;
+        }
+        run = run_on(text, run);
+        out[i] = byte_of(run, out[i]);
         run = rest(run);
         i += 1;
     }
@@ -261,13 +299,29 @@ fn first_of(list: &[u32], n: u32) -> &[u32] {
     &list[0..end]
 }
 
+// The same of bytes.
+fn first_bytes(list: &[u8], n: u32) -> &[u8] {
+    let end = n as usize;
+    if list.len() <= end {
+        return list;
+    }
+    &list[0..end]
+}
+
 // The test of the tables alone.
-fn test<'a>(runtime: u32, dynamic: u32, bounds: &'a [u32], columns: &'a [u32]) -> Answer {
+fn test<'a>(
+    runtime: u32,
+    dynamic: u32,
+    bounds: &'a [u32],
+    columns: &'a [u32],
+    names: &'a [u8],
+) -> Answer {
     let number = refusal::refusal_number(
         runtime,
         dynamic,
         bounds,
         columns,
+        names,
         column(bounds, columns, RECORD_MODULE),
         column(bounds, columns, RECORD_KIND),
         column(bounds, columns, RECORD_TARGET),
@@ -284,13 +338,14 @@ fn ask_none<'a>(
     dynamic: u32,
     bounds: &'a [u32],
     columns: &'a [u32],
+    names: &'a [u8],
     operation: u32,
     argument: u32,
 ) -> Answer {
     if operation == 4 {
-        return chunk_cycles::chunk_reach(runtime, dynamic, bounds, columns, argument);
+        return chunk_cycles::chunk_reach(runtime, dynamic, bounds, columns, names, argument);
     }
-    test(runtime, dynamic, bounds, columns)
+    test(runtime, dynamic, bounds, columns, names)
 }
 
 // Of two marks the one that is 1, else the first.
@@ -331,15 +386,16 @@ fn both_risks<'a>(
     dynamic: u32,
     bounds: &'a [u32],
     columns: &'a [u32],
+    names: &'a [u8],
     first: &mut [u32],
     root: u32,
 ) -> Answer {
-    let early = order_risk::order_risk(runtime, dynamic, bounds, columns, root, first);
+    let early = order_risk::order_risk(runtime, dynamic, bounds, columns, names, root, first);
     let Answer::Counted(_) = early else {
         return early;
     };
     let mut more = [0u32; 16392];
-    let cycle = cycle_risk::cycle_risk(runtime, dynamic, bounds, columns, root, &mut more);
+    let cycle = cycle_risk::cycle_risk(runtime, dynamic, bounds, columns, names, root, &mut more);
     let Answer::Counted(_) = cycle else {
         return cycle;
     };
@@ -352,21 +408,45 @@ fn ask_one<'a>(
     dynamic: u32,
     bounds: &'a [u32],
     columns: &'a [u32],
+    names: &'a [u8],
     seeds: &'a [u32],
     first: &mut [u32],
     operation: u32,
     argument: u32,
 ) -> Answer {
     match operation {
-        1 => expected_order::expected_order(runtime, dynamic, bounds, columns, argument, first),
-        3 => chunk_cycles::labels(runtime, dynamic, bounds, columns, first),
-        5 => both_risks(runtime, dynamic, bounds, columns, first, argument),
-        6 => wrap_plan::plan_from_seeds(runtime, dynamic, bounds, columns, seeds, first),
-        9 => order_risk::order_risk(runtime, dynamic, bounds, columns, argument, first),
-        10 => cycle_risk::cycle_risk(runtime, dynamic, bounds, columns, argument, first),
-        11 => entries_order::entries_order(runtime, dynamic, bounds, columns, seeds, first),
-        12 => grounds::grounds(runtime, dynamic, bounds, columns, first),
-        _ => order_analysis::analyze_execution_order(runtime, dynamic, bounds, columns, first),
+        1 => expected_order::expected_order(
+            runtime,
+            dynamic,
+            bounds,
+            columns,
+            names,
+            argument,
+            first,
+        ),
+        3 => chunk_cycles::labels(runtime, dynamic, bounds, columns, names, first),
+        5 => both_risks(runtime, dynamic, bounds, columns, names, first, argument),
+        6 => wrap_plan::plan_from_seeds(runtime, dynamic, bounds, columns, names, seeds, first),
+        9 => order_risk::order_risk(runtime, dynamic, bounds, columns, names, argument, first),
+        10 => cycle_risk::cycle_risk(runtime, dynamic, bounds, columns, names, argument, first),
+        11 => entries_order::entries_order(runtime, dynamic, bounds, columns, names, seeds, first),
+        12 => grounds::grounds(runtime, dynamic, bounds, columns, names, first),
+        15 => sort_chunk_modules::sort_chunk_modules(
+            runtime,
+            dynamic,
+            bounds,
+            columns,
+            names,
+            first,
+        ),
+        _ => order_analysis::analyze_execution_order(
+            runtime,
+            dynamic,
+            bounds,
+            columns,
+            names,
+            first,
+        ),
     }
 }
 
@@ -376,16 +456,34 @@ fn ask_two<'a>(
     dynamic: u32,
     bounds: &'a [u32],
     columns: &'a [u32],
+    names: &'a [u8],
     first: &mut [u32],
     second: &mut [u32],
     operation: u32,
     argument: u32,
 ) -> Answer {
     match operation {
-        0 => sort_modules::sort_modules(runtime, dynamic, bounds, columns, first, second),
-        13 => import_circles::import_circles(runtime, dynamic, bounds, columns, first, second),
+        0 => sort_modules::sort_modules(runtime, dynamic, bounds, columns, names, first, second),
+        13 => import_circles::import_circles(
+            runtime,
+            dynamic,
+            bounds,
+            columns,
+            names,
+            first,
+            second,
+        ),
         _ => {
-            actual_order::actual_order(runtime, dynamic, bounds, columns, argument, first, second)
+            actual_order::actual_order(
+                runtime,
+                dynamic,
+                bounds,
+                columns,
+                names,
+                argument,
+                first,
+                second,
+            )
         }
     }
 }
@@ -396,6 +494,7 @@ fn ask<'a>(
     dynamic: u32,
     bounds: &'a [u32],
     columns: &'a [u32],
+    names: &'a [u8],
     seeds: &'a [u32],
     first: &mut [u32],
     second: &mut [u32],
@@ -408,17 +507,27 @@ fn ask<'a>(
             dynamic,
             bounds,
             columns,
+            names,
             first,
             second,
             operation,
             argument,
         ),
-        4 | 8 => ask_none(runtime, dynamic, bounds, columns, operation, argument),
+        4 | 8 => ask_none(
+            runtime,
+            dynamic,
+            bounds,
+            columns,
+            names,
+            operation,
+            argument,
+        ),
         _ => ask_one(
             runtime,
             dynamic,
             bounds,
             columns,
+            names,
             seeds,
             first,
             operation,
@@ -473,6 +582,7 @@ fn answer_of<'a>(
     settings: [u32; 4],
     bounds: &'a [u32],
     columns: &'a [u32],
+    names: &'a [u8],
     seeds: &'a [u32],
     first: &mut [u32],
     second: &mut [u32],
@@ -491,6 +601,7 @@ fn answer_of<'a>(
         settings[1],
         bounds,
         columns,
+        names,
         seeds,
         &mut first[0..one],
         &mut second[0..two],
@@ -506,6 +617,7 @@ fn judge<'a>(
     settings: [u32; 4],
     bounds: &'a [u32],
     columns: &'a [u32],
+    names: &'a [u8],
     seeds: &'a [u32],
     head: [u32; 6],
 ) -> Done {
@@ -516,6 +628,7 @@ fn judge<'a>(
         settings,
         bounds,
         columns,
+        names,
         seeds,
         &mut first,
         &mut second,
@@ -539,6 +652,7 @@ fn call_of<'a>(
     settings: [u32; 4],
     bounds: &'a [u32],
     columns: &'a [u32],
+    names: &'a [u8],
 ) -> Done {
     let mut head = [0u32; 6];
     let mut seeds = [0u32; 16385];
@@ -550,6 +664,7 @@ fn call_of<'a>(
         settings,
         bounds,
         columns,
+        names,
         first_of(&seeds, some.0),
         head,
     )
@@ -575,12 +690,13 @@ fn calls_of<'a>(
     settings: [u32; 4],
     bounds: &'a [u32],
     columns: &'a [u32],
+    names: &'a [u8],
     calls: u32,
 ) -> Done {
     let mut done = Done(0, 0, at);
     let mut k = 0;
     while k < calls {
-        done = call_of(text, done, settings, bounds, columns);
+        done = call_of(text, done, settings, bounds, columns, names);
         k += 1;
     }
     done
@@ -617,32 +733,54 @@ fn read_list(text: &[u8], at: usize, out: &mut [u32]) -> Word {
     Word(length.0, next)
 }
 
-// The calls of a case on these columns.
-fn case_on<'a>(text: &[u8], at: usize, bounds: &'a [u32], columns: &'a [u32]) -> Done {
+// The same of bytes.
+fn read_bytes(text: &[u8], at: usize, out: &mut [u8]) -> Word {
+    let length = number(text, at);
+    let next = fill_bytes(text, length.1, out, length.0);
+    Word(length.0, next)
+}
+
+// The calls of a case on these columns, with these names.
+fn case_on<'a>(
+    text: &[u8],
+    at: usize,
+    bounds: &'a [u32],
+    columns: &'a [u32],
+    names: &'a [u8],
+) -> Done {
     let mut settings = [0u32; 4];
     let next = fill(text, at, &mut settings, 4);
-    let done = calls_of(text, next, settings, bounds, columns, settings[3]);
+    let done = calls_of(text, next, settings, bounds, columns, names, settings[3]);
     print_done(done);
     done
 }
 
-// A case: its bounds and columns stay in these slices for the next.
-fn case(text: &[u8], at: usize, bounds: &mut [u32], columns: &mut [u32]) -> Done {
+// A case: its bounds, columns and names stay in these slices for the next.
+fn case(text: &[u8], at: usize, bounds: &mut [u32], columns: &mut [u32], names: &mut [u8]) -> Done {
     let some = read_list(text, print_name(text, at), bounds);
     let all = read_list(text, some.1, columns);
+    let lines = read_bytes(text, all.1, names);
     case_on(
         text,
-        all.1,
+        lines.1,
         first_of(bounds, some.0),
         first_of(columns, all.0),
+        first_bytes(names, lines.0),
     )
 }
 
-fn cases(text: &[u8], at: usize, bounds: &mut [u32], columns: &mut [u32], many: u32) -> Done {
+fn cases(
+    text: &[u8],
+    at: usize,
+    bounds: &mut [u32],
+    columns: &mut [u32],
+    names: &mut [u8],
+    many: u32,
+) -> Done {
     let mut all = Done(0, 0, at);
     let mut k = 0;
     while k < many {
-        let one = case(text, all.2, bounds, columns);
+        let one = case(text, all.2, bounds, columns, names);
         all = Done(
             std::num::wrapping_add_u64(all.0, one.0),
             std::num::wrapping_add_u64(all.1, one.1),
@@ -653,9 +791,9 @@ fn cases(text: &[u8], at: usize, bounds: &mut [u32], columns: &mut [u32], many: 
     all
 }
 
-fn replay(text: &[u8], bounds: &mut [u32], columns: &mut [u32]) {
+fn replay(text: &[u8], bounds: &mut [u32], columns: &mut [u32], names: &mut [u8]) {
     let many = number(text, 0);
-    let all = cases(text, many.1, bounds, columns, many.0);
+    let all = cases(text, many.1, bounds, columns, names, many.0);
     print(b"cases ", wide(many.0));
     print(b", calls ", all.1);
     print(b", agree ", all.0);
@@ -663,9 +801,10 @@ fn replay(text: &[u8], bounds: &mut [u32], columns: &mut [u32]) {
 }
 
 fn main() {
-    let mut text = [0u8; 262144];
+    let mut text = [0u8; 524288];
     let mut bounds = [0u32; 64];
     let mut columns = [0u32; 131072];
+    let mut names = [0u8; 266240];
     let n = io::read_full(STDIN_FILENO, &mut text);
-    replay(&text[..n], &mut bounds, &mut columns);
+    replay(&text[..n], &mut bounds, &mut columns, &mut names);
 }

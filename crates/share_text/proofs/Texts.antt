@@ -1,19 +1,18 @@
 -- The outcome of a text that was read.
 -- Assumes nothing.
-use mathlib.Core.Path.{_≡_, sym, ap, subst, _∙_}
+use mathlib.Core.Path.{_≡_, sym, ap, ap₂, subst, _∙_}
 use mathlib.Core.Logic.{inl, inr, ⊎-elim}
 use mathlib.Core.List.{List}
-use Prim.Native.Nat.{ℕ, _≤_}
+use Prim.Native.Nat.{ℕ, _-_, _≤_}
 use native.Mathlib.Omega.{arith}
 use lib.ListN.{length, getD, take, drop, length-append}
-use Rattle.tables.specs.Project.{Project}
-use Rattle.tables.specs.Refusal.{refusal}
-use Rattle.tables.specs.declared.Answer.the-variants as A
-use Rattle.table.specs.Table.{current, lent}
-use Rattle.table.proofs.Laws.{number-fit}
-use Rattle.listing.specs.Reading.{IsText, valuesOf, boundsOf, Reads}
-use Rattle.listing.proofs.Parts.{bounds-fit}
-use Rattle.listing.proofs.Answered.{reads-lent}
+use Rattle.table.specs.Table.{Lent}
+use Rattle.arrangement.specs.OfProject.{namedLent, lentNamed}
+use Rattle.named_form.specs.NamedForm.{lentNames}
+use Rattle.listing.specs.Reading.{valuesOf, boundsOf, Reads}
+use Rattle.listing.specs.declared.Reading.the-variants.{Read}
+use Rattle.listing.specs.declared.Reading.the-variants as L
+use Rattle.listing.proofs.Answered.{text-lent, reads-lent}
 use Rattle.share_totals.specs.declared.Outcome.{Outcome}
 use Rattle.share_totals.specs.declared.Outcome.the-variants.{Refused}
 use Rattle.share_totals.specs.Within.{Fits}
@@ -22,16 +21,30 @@ use Rattle.shares.proofs.Promise.{project-fits}
 use Rattle.share_text.specs.Texts.{TextOutcome}
 
 module _ (s settings settings′ bounds bounds′ columns columns′ : List ℕ) where
-  pub text-refused : (n : ℕ) → Reads s settings settings′ bounds bounds′ columns columns′ (A.Refused n) → TextOutcome s (Refused n)
+  pub text-refused : (n : ℕ) → Reads s settings settings′ bounds bounds′ columns columns′ (L.Refused n) → TextOutcome s (Refused n)
   text-refused n a = inr (a .1, ap Refused (a .0))
 
-  module _ (k : ℕ) (a : Reads s settings settings′ bounds bounds′ columns columns′ (A.Counted k)) where
+  module _ (k from to : ℕ) (a : Reads s settings settings′ bounds bounds′ columns columns′ (Read k from to)) where
     -- the values that were read stand in the columns
     pub text-room : k ≤ length columns′
-    text-room = omega (arith, a .2, ap length (a .5), length-append (valuesOf (a .0)) (drop (length (valuesOf (a .0))) columns))
+    text-room = omega (arith, a .3, ap length (a .6), length-append (valuesOf (a .0)) (drop (length (valuesOf (a .0))) columns))
 
-    pub text-shared : (r : Outcome) → r ≡ outcomeOf (lent (getD settings′ 0 0) (getD settings′ 1 0) bounds′ (take k columns′)) → TextOutcome s r
-    text-shared r e = inl (a .0, a .1, e ∙ ap outcomeOf (reads-lent s settings settings′ bounds bounds′ columns columns′ (a .0) (a .1) k a))
+    -- and the names in the text
+    pub text-names : (from ≤ to) × (to ≤ length s)
+    text-names = (a .7 .0, a .7 .1)
+
+    pub text-shared : (r : Outcome) (names : List ℕ) → names ≡ take (to - from) (drop from s)
+        → r ≡ outcomeOf (lentNamed (getD settings′ 0 0) (getD settings′ 1 0) bounds′ (take k columns′) names) → TextOutcome s r
+    text-shared r names n e =
+        let w = reads-lent s settings settings′ bounds bounds′ columns columns′ (a .0) (a .1) (a .2) k from to a in
+        inl (
+          a .0,
+          a .1,
+          a .2,
+          e
+              ∙ ap (λ (x : List ℕ). outcomeOf (lentNamed (getD settings′ 0 0) (getD settings′ 1 0) bounds′ (take k columns′) x)) n
+              ∙ ap₂ (λ (x : List ℕ) (t : Lent). outcomeOf (namedLent x t)) (w .0) (w .1),
+        )
 
 -- a text's outcome fits the totals
 pub text-fits : (s : List ℕ) (r : Outcome) → TextOutcome s r → Fits r
@@ -39,5 +52,6 @@ text-fits s r =
     ⊎-elim
     (λ a.
     let p = a .0 in
-    subst Fits (sym (a .2 ∙ ap (λ (n : ℕ). outcomeOf (record { number = n; project = current p })) (number-fit (boundsOf p) (valuesOf p) p (bounds-fit p)))) (project-fits (boundsOf p) (valuesOf p) p))
+    let l = a .1 in
+    subst Fits (sym (a .3 ∙ ap (λ (t : Lent). outcomeOf (namedLent (lentNames l) t)) (sym (text-lent s p l (a .2 .1))))) (project-fits (boundsOf p) (valuesOf p) (lentNames l) p))
     (λ a. subst Fits (sym (a .1)) tt)

@@ -1,12 +1,13 @@
 // The share of a project's text, and the lines of a season's report.
 ghost use mathlib.Core.Path.{_≡_};
-ghost use Prim.Native.Nat.{_≤_};
-ghost use lib.ListN.{length, getD, take};
-ghost use Rattle.table.specs.Table.{lent};
+ghost use Prim.Native.Nat.{_-_, _≤_};
+ghost use lib.ListN.{length, getD, take, drop};
+ghost use Rattle.arrangement.specs.OfProject.{lentNamed};
 ghost use Rattle.shares.specs.Share.{outcomeOf};
 ghost use Rattle.share_text.specs.Texts.{TextOutcome};
 ghost use Rattle.share_text.specs.Report.{outcomeLine, Put};
 use lines::put_line;
+use listing::Reading;
 use listing::read;
 use share_totals::Outcome;
 use shares::share;
@@ -23,17 +24,32 @@ fn first_of(values: &[u32], n: usize) -> &[u32]
     &values[..n]
 }
 
-// The share of a table that was read, with n values in its columns.
+// The part of a text from one position to another.
+fn part_of(text: &[u8], from: usize, to: usize) -> &[u8]
+    requires { ⌜ (from ≤ to) × (to ≤ length (now text)) ⌝ }
+    ensures { λ r. ⌜ now r ≡ take (to - from) (drop from (now (text .entry))) ⌝ }
+{
+    &text[from..to]
+}
+
+// The share of a table that was read, with n values in its columns, and names.
 fn share_of_columns<'a>(
     settings: [u32; 2],
     bounds: &'a [u32; COLUMNS + 1],
     columns: &'a [u32; 32768],
     n: usize,
+    names: &'a [u8],
 ) -> Outcome
     requires { ⌜ n ≤ length (now columns) ⌝ }
-    ensures { λ r. ⌜ r ≡ outcomeOf (lent (getD settings 0 0) (getD settings 1 0) (now (bounds .entry)) (take n (now (columns .entry)))) ⌝ }
+    ensures { λ r. ⌜ r ≡ outcomeOf (lentNamed (getD settings 0 0) (getD settings 1 0) (now (bounds .entry)) (take n (now (columns .entry))) (now (names .entry))) ⌝ }
 {
-    share(settings[0], settings[1], bounds, first_of(columns, n))
+    share(
+        settings[0],
+        settings[1],
+        bounds,
+        first_of(columns, n),
+        names,
+    )
 }
 
 // The outcome of a project's text: 7 where it is none.
@@ -45,8 +61,10 @@ pub fn share_of_text(text: &[u8]) -> Outcome
     let mut columns = [0u32; 32768];
     let answer = read(text, &mut settings, &mut bounds, &mut columns);
     match answer {
-        Answer::Refused(number) => Outcome::Refused(number),
-        Answer::Counted(n) => share_of_columns(settings, &bounds, &columns, n),
+        Reading::Refused(number) => Outcome::Refused(number),
+        Reading::Read(n, from, to) => {
+            share_of_columns(settings, &bounds, &columns, n, part_of(text, from, to))
+        }
     }
 }
 

@@ -13,7 +13,9 @@ use Rattle.tables.specs.Accepted.{Accepted}
 use Rattle.tables.specs.declared.Answer.the-variants as A
 use Rattle.tables.proofs.Answering.{verdict-project, verdict-short, verdict-none, after-refused, after-accepted}
 use Rattle.table.specs.Table.{current, Lent, lentAs}
-use Rattle.table.proofs.Laws.{answer-refused, answer-accepted, lent-current}
+use Rattle.table.proofs.Laws.{answer-refused, answer-accepted}
+use Rattle.arrangement.specs.OfProject.{named, namedLent}
+use Rattle.arrangement.proofs.OfProject.{lent-named}
 use Rattle.share_totals.specs.declared.Outcome.{Outcome}
 use Rattle.share_totals.specs.declared.Outcome.the-variants.{Share, Refused}
 use Rattle.share_totals.specs.Shares.{quotientOf, remainderOf, shareOf, outcome}
@@ -56,9 +58,10 @@ module _ (e p : ℕ) where
   shared-numbers (suc v) a b c d q = let z : _≡_ {A = ℕ} 0 1 = cc in absurd (omega arith)
 
 -- the outcome of a project that was lent fits the totals
-pub project-fits : (bounds columns : List ℕ) (p : Project) → Fits (outcomeOf (lentAs bounds columns p))
-project-fits bounds columns p =
-    outcome-fits (eligibleCount (current p)) (plannedCount (current p)) (lentAs bounds columns p .number) (λ z. (planned-eligible (current p), eligible-few (current p) (lent-current bounds columns p z)))
+pub project-fits : (bounds columns names : List ℕ) (p : Project) → Fits (outcomeOf (namedLent names (lentAs bounds columns names p)))
+project-fits bounds columns names p =
+    let q = named (current p) names in
+    outcome-fits (eligibleCount q) (plannedCount q) (lentAs bounds columns names p .number) (λ z. (planned-eligible q, eligible-few q (lent-named bounds columns names p z)))
 
 module _ (t : Lent) (out : List ℕ) where
   abbrev number : ℕ

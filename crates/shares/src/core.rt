@@ -1,19 +1,24 @@
 // For crates above, on tested tables.
 ghost use mathlib.Core.Path.{_≡_};
+ghost use mathlib.Core.Bool.{true};
 ghost use mathlib.Core.List.{_∷_};
 ghost use Prim.Native.Nat.{_≤_};
 ghost use lib.ListN.{length, drop};
 ghost use Rattle.tables.specs.Project.{Project};
 ghost use Rattle.tables.specs.Readings.{modules};
+ghost use Rattle.names.specs.Names.{namesIn};
 ghost use Rattle.table.specs.Table.{table, read};
+ghost use Rattle.arrangement.specs.OfProject.{named};
 ghost use Rattle.table.specs.Places.{Places};
 ghost use Rattle.share_totals.specs.Shares.{shareOf};
 ghost use Rattle.shares.specs.Share.{eligibleCount, plannedCount};
+use arrangement::core::read_members;
 use eligibility::of_table::mark_table_eligible;
 use lists::core::count_marked;
 use order_analysis::core::analyze;
 use share_totals::Outcome;
 use share_totals::core::share_of;
+use table::ROW_LIMIT;
 
 // How many modules are eligible.
 fn count_eligible<'a>(
@@ -102,4 +107,53 @@ pub fn put_four(out: &mut [u32], a: u32, b: u32, c: u32, d: u32)
     out[1] = b;
     out[2] = c;
     out[3] = d;
+}
+
+// The same with the members as they are read.
+pub fn share_of_named<'a>(
+    runtime: u32,
+    dynamic: u32,
+    bounds: &'a [u32],
+    columns: &'a [u32],
+    names: &'a [u8],
+    importers: &'a [u32],
+    kinds: &'a [u32],
+    targets: &'a [u32],
+    dependencies: &'a [u32],
+    members: &'a [u32],
+    marks: &mut [u32],
+) -> Outcome
+    ghost { Project }
+    requires project { λ p. ⌜ read (table runtime dynamic (now bounds) (now columns)) (now importers) (now kinds) (now targets) (now dependencies) (now members) ≡ p ⌝ }
+    requires names { λ p. ⌜ namesIn (modules p) (now names) ≡ true ⌝ }
+    requires places { λ p. ⌜ Places p (modules p) (length (now marks)) ⌝ }
+    ensures { λ p r. ⌜ r ≡ shareOf (eligibleCount (named p (now (names .entry)))) (plannedCount (named p (now (names .entry)))) ⌝ }
+{
+    let rows = members.len();
+    let mut arranged = [0u32; ROW_LIMIT];
+    read_members(
+        runtime,
+        dynamic,
+        bounds,
+        columns,
+        importers,
+        kinds,
+        targets,
+        dependencies,
+        members,
+        names,
+        &mut arranged[..rows],
+    );
+    share_of_table(
+        runtime,
+        dynamic,
+        bounds,
+        columns,
+        importers,
+        kinds,
+        targets,
+        dependencies,
+        &arranged[..rows],
+        marks,
+    )
 }

@@ -1,9 +1,9 @@
 // The share of a project's eligible modules that are planned.
 ghost use mathlib.Core.Path.{_≡_};
-ghost use Rattle.table.specs.Table.{lent, lentWith};
+ghost use Rattle.arrangement.specs.OfProject.{lentNamed, lentNamedWith};
 ghost use Rattle.shares.specs.Share.{outcomeOf, WrittenShare};
 use core::put_four;
-use core::share_of_table;
+use core::share_of_named;
 use current_columns::core::read_current;
 use refusal::refusal_number;
 use share_totals::Outcome;
@@ -28,13 +28,23 @@ pub fn share_with_records<'a>(
     dynamic: u32,
     bounds: &'a [u32],
     columns: &'a [u32],
+    names: &'a [u8],
     importers: &'a [u32],
     kinds: &'a [u32],
     targets: &'a [u32],
 ) -> Outcome
-    ensures { λ r. ⌜ r ≡ outcomeOf (lentWith runtime dynamic (now (bounds .entry)) (now (columns .entry)) (now (importers .entry)) (now (kinds .entry)) (now (targets .entry))) ⌝ }
+    ensures { λ r. ⌜ r ≡ outcomeOf (lentNamedWith runtime dynamic (now (bounds .entry)) (now (columns .entry)) (now (names .entry)) (now (importers .entry)) (now (kinds .entry)) (now (targets .entry))) ⌝ }
 {
-    let number = refusal_number(runtime, dynamic, bounds, columns, importers, kinds, targets);
+    let number = refusal_number(
+        runtime,
+        dynamic,
+        bounds,
+        columns,
+        names,
+        importers,
+        kinds,
+        targets,
+    );
     if number != 0 {
         return Outcome::Refused(number);
     }
@@ -55,11 +65,12 @@ pub fn share_with_records<'a>(
     let records = targets.len();
     let dependency_rows = rows(bounds, columns, DEPENDENCY);
     let mut marks = [0u32; MODULE_LIMIT];
-    share_of_table(
+    share_of_named(
         runtime,
         dynamic,
         bounds,
         columns,
+        names,
         importers,
         kinds,
         &read_targets[..records],
@@ -70,14 +81,21 @@ pub fn share_with_records<'a>(
 }
 
 // The same of a table with records of its own.
-pub fn share<'a>(runtime: u32, dynamic: u32, bounds: &'a [u32], columns: &'a [u32]) -> Outcome
-    ensures { λ r. ⌜ r ≡ outcomeOf (lent runtime dynamic (now (bounds .entry)) (now (columns .entry))) ⌝ }
+pub fn share<'a>(
+    runtime: u32,
+    dynamic: u32,
+    bounds: &'a [u32],
+    columns: &'a [u32],
+    names: &'a [u8],
+) -> Outcome
+    ensures { λ r. ⌜ r ≡ outcomeOf (lentNamed runtime dynamic (now (bounds .entry)) (now (columns .entry)) (now (names .entry))) ⌝ }
 {
     share_with_records(
         runtime,
         dynamic,
         bounds,
         columns,
+        names,
         column(bounds, columns, RECORD_MODULE),
         column(bounds, columns, RECORD_KIND),
         column(bounds, columns, RECORD_TARGET),
@@ -90,14 +108,24 @@ pub fn write_share_with_records<'a>(
     dynamic: u32,
     bounds: &'a [u32],
     columns: &'a [u32],
+    names: &'a [u8],
     importers: &'a [u32],
     kinds: &'a [u32],
     targets: &'a [u32],
     out: &mut [u32],
 ) -> Answer
-    ensures { λ r. ⌜ WrittenShare (lentWith runtime dynamic (now (bounds .entry)) (now (columns .entry)) (now (importers .entry)) (now (kinds .entry)) (now (targets .entry))) (now (out .entry)) r (now (out .exit)) ⌝ }
+    ensures { λ r. ⌜ WrittenShare (lentNamedWith runtime dynamic (now (bounds .entry)) (now (columns .entry)) (now (names .entry)) (now (importers .entry)) (now (kinds .entry)) (now (targets .entry))) (now (out .entry)) r (now (out .exit)) ⌝ }
 {
-    let outcome = share_with_records(runtime, dynamic, bounds, columns, importers, kinds, targets);
+    let outcome = share_with_records(
+        runtime,
+        dynamic,
+        bounds,
+        columns,
+        names,
+        importers,
+        kinds,
+        targets,
+    );
     match outcome {
         Outcome::Refused(number) => Answer::Refused(number),
         Outcome::Share(eligible, planned, quotient, remainder) => {
@@ -116,15 +144,17 @@ pub fn write_share<'a>(
     dynamic: u32,
     bounds: &'a [u32],
     columns: &'a [u32],
+    names: &'a [u8],
     out: &mut [u32],
 ) -> Answer
-    ensures { λ r. ⌜ WrittenShare (lent runtime dynamic (now (bounds .entry)) (now (columns .entry))) (now (out .entry)) r (now (out .exit)) ⌝ }
+    ensures { λ r. ⌜ WrittenShare (lentNamed runtime dynamic (now (bounds .entry)) (now (columns .entry)) (now (names .entry))) (now (out .entry)) r (now (out .exit)) ⌝ }
 {
     write_share_with_records(
         runtime,
         dynamic,
         bounds,
         columns,
+        names,
         column(bounds, columns, RECORD_MODULE),
         column(bounds, columns, RECORD_KIND),
         column(bounds, columns, RECORD_TARGET),

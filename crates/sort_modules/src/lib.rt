@@ -25,15 +25,25 @@ pub fn sort_modules_with_records<'a>(
     dynamic: u32,
     bounds: &'a [u32],
     columns: &'a [u32],
+    names: &'a [u8],
     importers: &'a [u32],
     kinds: &'a [u32],
     targets: &'a [u32],
     numbers: &mut [u32],
     sorted: &mut [u32],
 ) -> Answer
-    ensures { λ r. ⌜ SortModules (lentWith runtime dynamic (now (bounds .entry)) (now (columns .entry)) (now (importers .entry)) (now (kinds .entry)) (now (targets .entry))) (now (numbers .entry)) (now (sorted .entry)) r (now (numbers .exit)) (now (sorted .exit)) ⌝ }
+    ensures { λ r. ⌜ SortModules (lentWith runtime dynamic (now (bounds .entry)) (now (columns .entry)) (now (names .entry)) (now (importers .entry)) (now (kinds .entry)) (now (targets .entry))) (now (numbers .entry)) (now (sorted .entry)) r (now (numbers .exit)) (now (sorted .exit)) ⌝ }
 {
-    let refused = refusal_number(runtime, dynamic, bounds, columns, importers, kinds, targets);
+    let refused = refusal_number(
+        runtime,
+        dynamic,
+        bounds,
+        columns,
+        names,
+        importers,
+        kinds,
+        targets,
+    );
     if refused != 0 {
         return Answer::Refused(refused);
     }
@@ -83,16 +93,18 @@ pub fn sort_modules<'a>(
     dynamic: u32,
     bounds: &'a [u32],
     columns: &'a [u32],
+    names: &'a [u8],
     numbers: &mut [u32],
     sorted: &mut [u32],
 ) -> Answer
-    ensures { λ r. ⌜ SortModules (lent runtime dynamic (now (bounds .entry)) (now (columns .entry))) (now (numbers .entry)) (now (sorted .entry)) r (now (numbers .exit)) (now (sorted .exit)) ⌝ }
+    ensures { λ r. ⌜ SortModules (lent runtime dynamic (now (bounds .entry)) (now (columns .entry)) (now (names .entry))) (now (numbers .entry)) (now (sorted .entry)) r (now (numbers .exit)) (now (sorted .exit)) ⌝ }
 {
     sort_modules_with_records(
         runtime,
         dynamic,
         bounds,
         columns,
+        names,
         column(bounds, columns, RECORD_MODULE),
         column(bounds, columns, RECORD_KIND),
         column(bounds, columns, RECORD_TARGET),

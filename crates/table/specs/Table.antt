@@ -1,16 +1,18 @@
 -- A table: where each column starts, with where the last ends, and all columns one after the other.
 -- Assumes nothing.
-use mathlib.Core.Bool.{Bool, cond, _&&_}
+use mathlib.Core.Bool.{Bool, cond, not, _&&_, _||_}
 use mathlib.Core.List.{List, []}
 use Prim.Native.Nat.{ℕ, _+_, _-_}
 use lib.ListN.{length, getD, take, drop}
 use lib.Dec.{eqb, leb}
 use Rattle.tables.specs.Project.{Project}
+use Rattle.tables.specs.Readings.{modules}
 use Rattle.tables.specs.Refusal.{rises, refusal}
 use Rattle.tables.specs.declared.Answer.{Answer}
 use Rattle.tables.specs.declared.Answer.the-variants.{Refused, Counted}
 use Rattle.lists.specs.Words.{isZero}
 use Rattle.replacement.specs.Replacement.{asRead}
+use Rattle.names.specs.Names.{namesSized, namesIn}
 
 -- the part from one place to another, empty where they don't fit
 unfoldable pub part : List ℕ → ℕ → ℕ → List ℕ
@@ -116,22 +118,31 @@ withRecords p importers kinds targets = read p importers kinds targets (p .depen
 unfoldable pub current : Project → Project
 current p = read p (p .recordModule) (p .recordKind) (asRead (p .newer) (p .recordTarget)) (asRead (p .newer) (p .dependency)) (p .member)
 
--- a project as it is read, with the number of its tests as it was lent: 1 where the bounds don't fit, else the project's
+-- the number of a table: 1 where the bounds don't fit, else the project's
+abbrev pub tableNumber : List ℕ → List ℕ → Project → ℕ
+tableNumber bounds columns p = cond (boundsFit bounds columns) (refusal p) 1
+
+-- a number where 1 tests one thing more, and 2 another
+abbrev pub testedToo : ℕ → Bool → Bool → ℕ
+testedToo n one two = cond (eqb n 1 || not one) 1 (cond (eqb n 2 || not two) 2 n)
+
+-- a project as it is read, its members as written, with the number of its tests as it was lent, the names among what 1 and 2 test
 pub record Lent : Type 0 where
   pub number : ℕ
   pub project : Project
 
-abbrev pub lentAs : List ℕ → List ℕ → Project → Lent
-lentAs bounds columns p = record { number = cond (boundsFit bounds columns) (refusal p) 1; project = current p }
+abbrev pub lentAs : List ℕ → List ℕ → List ℕ → Project → Lent
+lentAs bounds columns names p =
+    record { number = testedToo (tableNumber bounds columns p) (namesSized names) (namesIn (modules p) names); project = current p }
 
 -- a table as it was lent
-abbrev pub lent : ℕ → ℕ → List ℕ → List ℕ → Lent
-lent runtime dynamic bounds columns = lentAs bounds columns (table runtime dynamic bounds columns)
+abbrev pub lent : ℕ → ℕ → List ℕ → List ℕ → List ℕ → Lent
+lent runtime dynamic bounds columns names = lentAs bounds columns names (table runtime dynamic bounds columns)
 
 -- a table as it was lent, with its import records beside it
-abbrev pub lentWith : ℕ → ℕ → List ℕ → List ℕ → List ℕ → List ℕ → List ℕ → Lent
-lentWith runtime dynamic bounds columns importers kinds targets =
-    lentAs bounds columns (withRecords (table runtime dynamic bounds columns) importers kinds targets)
+abbrev pub lentWith : ℕ → ℕ → List ℕ → List ℕ → List ℕ → List ℕ → List ℕ → List ℕ → Lent
+lentWith runtime dynamic bounds columns names importers kinds targets =
+    lentAs bounds columns names (withRecords (table runtime dynamic bounds columns) importers kinds targets)
 
 -- what an operation answers: the number of a refusal, else the count
 abbrev pub answer : ℕ → ℕ → Answer

@@ -75,7 +75,7 @@ pub enum Place {
 }
 
 // The position behind `name` and a line end, where these stand at `at`.
-fn match_line(s: &[u8], at: usize, name: &[u8]) -> Place
+pub fn match_line(s: &[u8], at: usize, name: &[u8]) -> Place
     requires { ⌜ at ≤ length (now s) ⌝ }
     ensures { λ r. ⌜ LineIs (now (s .entry)) at (now (name .entry)) r ⌝ }
 {

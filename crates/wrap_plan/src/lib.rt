@@ -25,15 +25,25 @@ pub fn plan_from_seeds_with_records<'a>(
     dynamic: u32,
     bounds: &'a [u32],
     columns: &'a [u32],
+    names: &'a [u8],
     importers: &'a [u32],
     kinds: &'a [u32],
     targets: &'a [u32],
     seeds: &[u32],
     marks: &mut [u32],
 ) -> Answer
-    ensures { λ r. ⌜ PlanFromSeeds (lentWith runtime dynamic (now (bounds .entry)) (now (columns .entry)) (now (importers .entry)) (now (kinds .entry)) (now (targets .entry))) (now (seeds .entry)) (now (marks .entry)) r (now (marks .exit)) ⌝ }
+    ensures { λ r. ⌜ PlanFromSeeds (lentWith runtime dynamic (now (bounds .entry)) (now (columns .entry)) (now (names .entry)) (now (importers .entry)) (now (kinds .entry)) (now (targets .entry))) (now (seeds .entry)) (now (marks .entry)) r (now (marks .exit)) ⌝ }
 {
-    let number = refusal_number(runtime, dynamic, bounds, columns, importers, kinds, targets);
+    let number = refusal_number(
+        runtime,
+        dynamic,
+        bounds,
+        columns,
+        names,
+        importers,
+        kinds,
+        targets,
+    );
     if number != 0 {
         return Answer::Refused(number);
     }
@@ -81,16 +91,18 @@ pub fn plan_from_seeds<'a>(
     dynamic: u32,
     bounds: &'a [u32],
     columns: &'a [u32],
+    names: &'a [u8],
     seeds: &[u32],
     marks: &mut [u32],
 ) -> Answer
-    ensures { λ r. ⌜ PlanFromSeeds (lent runtime dynamic (now (bounds .entry)) (now (columns .entry))) (now (seeds .entry)) (now (marks .entry)) r (now (marks .exit)) ⌝ }
+    ensures { λ r. ⌜ PlanFromSeeds (lent runtime dynamic (now (bounds .entry)) (now (columns .entry)) (now (names .entry))) (now (seeds .entry)) (now (marks .entry)) r (now (marks .exit)) ⌝ }
 {
     plan_from_seeds_with_records(
         runtime,
         dynamic,
         bounds,
         columns,
+        names,
         column(bounds, columns, RECORD_MODULE),
         column(bounds, columns, RECORD_KIND),
         column(bounds, columns, RECORD_TARGET),

@@ -7,13 +7,15 @@ pub const MISSING: u32 = u32::MAX;
 /// How many columns a table has.
 pub const COLUMNS: usize = 34;
 
-/// A project: the two settings, where each column starts, with where the last ends, and all columns one after the other.
+/// A project: the two settings, where each column starts, with where the last ends, all columns one after the other, and the modules' names, a line each, or
+/// none at all.
 #[derive(Clone, Copy, Debug)]
 pub struct Table<'a> {
   pub runtime: u32,
   pub dynamic: u32,
   pub bounds: &'a [u32],
   pub columns: &'a [u32],
+  pub names: &'a [u8],
 }
 
 /// The number of a refusal, 1 to 6 or 8 to 10. No output was changed.
@@ -51,7 +53,7 @@ macro_rules! operations {
   ($answer:ident $result:ty; $($(#[$about:meta])* $safe:ident = $name:ident [$($value:ident)*] [$($list:ident)*] [$($output:ident)*];)*) => {
     unsafe extern "C" {
       $(fn $name(
-        runtime: u32, dynamic: u32, bounds: *const u32, _: usize, columns: *const u32, _: usize,
+        runtime: u32, dynamic: u32, bounds: *const u32, _: usize, columns: *const u32, _: usize, names: *const u8, _: usize,
         $($value: u32,)* $($list: *const u32, _: usize,)* $($output: *mut u32, _: usize,)*
       ) -> u64;)*
     }
@@ -64,6 +66,7 @@ macro_rules! operations {
           $name(
             self.runtime, self.dynamic,
             self.bounds.as_ptr(), self.bounds.len(), self.columns.as_ptr(), self.columns.len(),
+            self.names.as_ptr(), self.names.len(),
             $($value,)* $($list.as_ptr(), $list.len(),)* $($output.as_mut_ptr(), $output.len(),)*
           )
         })
@@ -86,6 +89,8 @@ operations! {
   entries_order = jolmuqter_entries_order [] [entries] [order];
   /// The actual order of an analysed entry, and the hosts. Counts the listed modules.
   actual_order = jolmuqter_actual_order [root] [] [order hosts];
+  /// The members of each chunk as rolldown arranges them, at the chunk's member rows. Counts the member rows.
+  sort_chunk_modules = jolmuqter_sort_chunk_modules [] [] [members];
   /// The label of each chunk. Counts the cyclic chunks.
   labels = jolmuqter_labels [] [] [labels];
   /// Counts 1 if the chunk reaches a cyclic one, else 0.

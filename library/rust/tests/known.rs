@@ -42,7 +42,7 @@ fn with<T>(change: impl FnOnce(&mut Lists), ask: impl FnOnce(Table) -> T) -> T {
   let mut lists = listing();
   change(&mut lists);
   let (bounds, columns) = table(&lists);
-  ask(Table { runtime: 0, dynamic: 0, bounds: &bounds, columns: &columns })
+  ask(Table { runtime: 0, dynamic: 0, bounds: &bounds, columns: &columns, names: &[] })
 }
 
 fn unchanged(_: &mut Lists) {}
@@ -139,6 +139,36 @@ fn gives_the_actual_order() {
   let wrapped = |lists: &mut Lists| (lists[MODULES][2][5], lists[MODULES][3][5]) = (2, 2);
   assert_eq!(with(wrapped, |table| table.actual_order(1, &mut order, &mut hosts)), Ok(4));
   assert_eq!((order, hosts), ([0, 2, 3, 1], [MISSING, MISSING, 1, 1]));
+}
+
+/// Names of the four modules, the last that of a runtime module.
+const NAMES: &[u8] = b"a\nb\nc\nrolldown:d\n";
+
+#[test]
+fn arranges_members() {
+  let mut members = [9; 5];
+  let mut ask = |names: &[u8], room: usize| with(unchanged, |table| Table { names, ..table }.sort_chunk_modules(&mut members[..room])).map(|count| (count, members));
+  assert_eq!(ask(b"", 3), Err(Refused(2)));
+  assert_eq!(ask(NAMES, 3), Err(Refused(6)));
+  assert_eq!(ask(b"a\nb\nc\nd\n", 4), Ok((4, [2, 1, 0, 3, 9])));
+  assert_eq!(ask(NAMES, 5), Ok((4, [2, 1, 3, 0, 9])));
+}
+
+#[test]
+fn reads_members_as_they_are_arranged() {
+  let (mut order, mut hosts) = ([9; 4], [9; 4]);
+  assert_eq!(with(unchanged, |table| Table { names: NAMES, ..table }.actual_order(1, &mut order, &mut hosts)), Ok(4));
+  assert_eq!((order, hosts), ([3, 0, 2, 1], [MISSING; 4]));
+}
+
+#[test]
+fn refuses_names_that_break_the_form() {
+  let ask = |names: &[u8]| with(unchanged, |table| Table { names, ..table }.refusal());
+  assert_eq!(ask(NAMES), Ok(0));
+  for names in [&b"a\nb\nc\n"[..], b"a\nb\nc\nd", b"a\nb\n\nd\n", b"a\nb\nc \nd\n", b"a\nb\nc\nd\ne\n", &[10; 16384]] {
+    assert_eq!(ask(names), Err(Refused(2)));
+  }
+  assert_eq!(ask(&[10; 16385]), Err(Refused(1)));
 }
 
 #[test]

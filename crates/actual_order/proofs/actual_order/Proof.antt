@@ -4,7 +4,7 @@ use mathlib.Core.Path.{subst}
 use mathlib.Core.List.{List}
 use Prim.Native.Nat.{ℕ}
 use Rattle.table.specs.Table.{Lent}
-use Rattle.table.proofs.Laws.{lent-cut}
+use Rattle.arrangement.proofs.OfProject.{lent-named-cut}
 use Rattle.actual_order.specs.Promise.{ActualOrder}
 use borrow.Author.Needs.{needs}
 use Rattle.actual_order.proofs.actual_order.Statement.{statement}
@@ -12,13 +12,13 @@ use Rattle.actual_order.proofs.actual_order.Tie as tie
 
 returns : tie.Need-returns
 returns c =
-    let a = c .before .before .before .before .before .before .before .before .before .before .before .before .before .before .args in
+    let a = c .before .before .before .before .before .before .before .before .before .before .before .before .before .before .before .args in
     let done = c .before .before .before .before .actual-order-with-records in
-    let out = done .last .1 .1 .1 .1 .1 .1 .1 .1 in
+    let out = done .last .1 .1 .1 .1 .1 .1 .1 .1 .1 in
     let order : List ℕ = out .0 in
     let hosts : List ℕ = out .1 .0 in
     subst (λ (t : Lent). ActualOrder t (a .root) (a .order .now) (a .hosts .now) (done .result) order hosts)
-    (lent-cut (a .runtime) (a .dynamic) (a .bounds .now) (a .columns .now) (c .before .before .before .before .before .before .before .before .before .column .ensures) (c .before .before .before .before .before .before .before .before .column2 .ensures) (c .before .before .before .before .before .before .before .column3 .ensures))
+    (lent-named-cut (a .runtime) (a .dynamic) (a .bounds .now) (a .columns .now) (a .names .now) (c .before .before .before .before .before .before .before .before .before .column .ensures) (c .before .before .before .before .before .before .before .before .column2 .ensures) (c .before .before .before .before .before .before .before .column3 .ensures))
     (done .ensures)
 
 pub actual-order-spec : {M : Type 1} → statement M

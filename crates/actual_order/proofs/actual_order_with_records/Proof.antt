@@ -12,9 +12,12 @@ use Rattle.tables.specs.Readings.{modules, isAnalysed}
 use Rattle.tables.specs.Refusal.{rowLimit}
 use Rattle.tables.specs.Accepted.{Accepted}
 use Rattle.tables.specs.declared.Answer.the-variants.{Counted}
-use Rattle.table.specs.Table.{table, read, withRecords, current, Lent, lentWith}
+use Rattle.table.specs.Table.{table, read, withRecords, current, Lent}
 use Rattle.table.proofs.Laws.{records-cut, lent-accepted, lent-current}
 use Rattle.current_columns.proofs.Read.{current-cut, targets-room, targets-size, dependencies-room, dependencies-size}
+use Rattle.names.specs.Names.{namesIn}
+use Rattle.arrangement.specs.OfProject.{named, lentNamedWith}
+use Rattle.arrangement.proofs.OfProject.{analysed-named, lent-fit}
 use Rattle.analysed_entries.specs.inner.Entries.{Entry, Found}
 use Rattle.analysed_entries.proofs.AsRead.{found-read}
 use Rattle.actual_order.specs.Actual.{runOf}
@@ -29,25 +32,28 @@ use Rattle.actual_order.proofs.actual_order_with_records.Tie as tie
 -- the entry, what was lent, and its project as it is written and as it is read
 
 abbrev lents : tie.Start → Lent
-lents e = let a = e .args in lentWith (a .runtime) (a .dynamic) (a .bounds .now) (a .columns .now) (a .importers .now) (a .kinds .now) (a .targets .now)
+lents e = let a = e .args in lentNamedWith (a .runtime) (a .dynamic) (a .bounds .now) (a .columns .now) (a .names .now) (a .importers .now) (a .kinds .now) (a .targets .now)
 
 abbrev written : tie.Start → Project
 written e = let a = e .args in withRecords (table (a .runtime) (a .dynamic) (a .bounds .now) (a .columns .now)) (a .importers .now) (a .kinds .now) (a .targets .now)
 
+abbrev current-of : tie.Start → Project
+current-of e = current (written e)
+
 abbrev of : tie.Start → Project
-of e = current (written e)
+of e = named (current-of e) (e .args .names .now)
 
 abbrev entry : tie.After-column2 → tie.Start
-entry k = k .before .before .before .before .before .before .before .before .before .before .before
+entry k = k .before .before .before .before .before .before .before .before .before .before .before .before
 
 accepts : (k : tie.After-column2) → lents (entry k) .number ≡ 0
 accepts k = sym (k .before .before .before .refusal-number .ensures) ∙ k .before .before .if1 .left
 
 tested : (k : tie.After-column2) → Accepted (written (entry k))
-tested k = let a = entry k .args in lent-accepted (a .bounds .now) (a .columns .now) (written (entry k)) (accepts k)
+tested k = let a = entry k .args in lent-accepted (a .bounds .now) (a .columns .now) (a .names .now) (written (entry k)) (accepts k)
 
-ok : (k : tie.After-column2) → Accepted (of (entry k))
-ok k = let a = entry k .args in lent-current (a .bounds .now) (a .columns .now) (written (entry k)) (accepts k)
+ok : (k : tie.After-column2) → Accepted (current-of (entry k))
+ok k = let a = entry k .args in lent-current (a .bounds .now) (a .columns .now) (a .names .now) (written (entry k)) (accepts k)
 
 -- the entry is looked for in the project as it is written
 as-written : (k : tie.After-column2) → let a = entry k .args in read (table (a .runtime) (a .dynamic) (a .bounds .now) (a .columns .now)) (a .importers .now) (a .kinds .now) (a .targets .now) (k .before .column .result .now) (k .column2 .result .now) ≡ written (entry k)
@@ -55,13 +61,16 @@ as-written k =
     let a = entry k .args in
     records-cut (a .runtime) (a .dynamic) (a .bounds .now) (a .columns .now) (a .importers .now) (a .kinds .now) (a .targets .now) (k .before .column .ensures) (k .column2 .ensures)
 
-found : (k : tie.After-find-entry) → Found (of (entry (k .before))) (entry (k .before) .args .root) (k .find-entry .result)
+found : (k : tie.After-find-entry) → Found (current-of (entry (k .before))) (entry (k .before) .args .root) (k .find-entry .result)
 found k =
     let e = entry (k .before) in
     found-read (written e) (e .args .root) (k .find-entry .result) (subst (λ (p : Project). Found p (e .args .root) (k .find-entry .result)) (as-written (k .before)) (k .find-entry .ensures))
 
-abbrev here : (c : tie.Else2) → let e = entry (c .before .before) in (isAnalysed (of e) (e .args .root) ≡ true) × Entry (of e) (e .args .root) (c .before .find-entry .result)
-here c = found (c .before) .some (c .if2 .left)
+abbrev here : (c : tie.Else2) → let e = entry (c .before .before) in (isAnalysed (of e) (e .args .root) ≡ true) × Entry (current-of e) (e .args .root) (c .before .find-entry .result)
+here c =
+    let e = entry (c .before .before) in
+    let s = found (c .before) .some (c .if2 .left) in
+    (analysed-named (current-of e) (e .args .names .now) (e .args .root) ∙ s .0, s .1)
 
 -- the module count, and the part of the hosts that has a place a module
 
@@ -69,8 +78,12 @@ abbrev count : tie.After-rows → ℕ
 count k = k .rows .result
 
 counted : (k : tie.After-rows) → count k ≡ modules (of (entry (k .before .before .before)))
-unfolding table read current
+unfolding table read current named
 counted k = k .rows .ensures
+
+counted-read : (k : tie.After-rows) → count k ≡ modules (current-of (entry (k .before .before .before)))
+unfolding table read current
+counted-read k = k .rows .ensures
 
 part : (c : tie.Else4) → let k = c .before .before in length (take (count k) (entry (k .before .before .before) .args .hosts .now)) ≡ count k
 part c = let k = c .before .before in length-take-le (count k) (entry (k .before .before .before) .args .hosts .now) (c .if4 .left)
@@ -83,13 +96,13 @@ made-targets k = k .read-current .last .1 .1 .1 .1 .1 .1 .1 .0
 abbrev made-dependencies : tie.After-read-current → List ℕ
 made-dependencies k = k .read-current .last .1 .1 .1 .1 .1 .1 .1 .1 .0
 
-own : (k : tie.After-read-dependencies3) → let a = k .before .before .before .before .before .before .before .before .before .before .before .before .before .before .before .before .before .before .before .before .before .before .before .before .args in read (table (a .runtime) (a .dynamic) (a .bounds .now) (a .columns .now)) (a .importers .now) (a .kinds .now) (take (length (a .targets .now)) (made-targets (k .before .before .before .before .before))) (take (k .before .before .rows2 .result) (made-dependencies (k .before .before .before .before .before))) (k .before .before .before .before .before .before .before .before .before .before .before .before .before .column2 .result .now) ≡ of (k .before .before .before .before .before .before .before .before .before .before .before .before .before .before .before .before .before .before .before .before .before .before .before .before)
+own : (k : tie.After-read-dependencies3) → let a = k .before .before .before .before .before .before .before .before .before .before .before .before .before .before .before .before .before .before .before .before .before .before .before .before .before .args in read (table (a .runtime) (a .dynamic) (a .bounds .now) (a .columns .now)) (a .importers .now) (a .kinds .now) (take (length (a .targets .now)) (made-targets (k .before .before .before .before .before))) (take (k .before .before .rows2 .result) (made-dependencies (k .before .before .before .before .before))) (k .before .before .before .before .before .before .before .before .before .before .before .before .before .column2 .result .now) ≡ current-of (k .before .before .before .before .before .before .before .before .before .before .before .before .before .before .before .before .before .before .before .before .before .before .before .before .before)
 own k =
-    let a = k .before .before .before .before .before .before .before .before .before .before .before .before .before .before .before .before .before .before .before .before .before .before .before .before .args in
+    let a = k .before .before .before .before .before .before .before .before .before .before .before .before .before .before .before .before .before .before .before .before .before .before .before .before .before .args in
     current-cut (a .runtime) (a .dynamic) (a .bounds .now) (a .columns .now) (a .importers .now) (a .kinds .now) (a .targets .now) (k .before .before .before .before .before .read-current .ensures) (k .before .before .rows2 .ensures) (k .before .before .before .before .before .before .before .before .before .before .before .before .before .column2 .ensures)
 
 returns : tie.Need-returns
-returns c = let e = c .before .before .before .before .before .before .before .before .before in project-refused (lents e) (e .args .root) (e .args .order .now) (e .args .hosts .now) (c .before .refusal-number .result) (c .before .refusal-number .ensures) (c .if1 .taken)
+returns c = let e = c .before .before .before .before .before .before .before .before .before .before in project-refused (lents e) (e .args .root) (e .args .order .now) (e .args .hosts .now) (c .before .refusal-number .result) (c .before .refusal-number .ensures) (c .if1 .taken)
 
 find-entry-requires : tie.Need-find-entry-requires
 find-entry-requires c κs = subst Accepted (sym (as-written c)) (tested c)
@@ -98,7 +111,7 @@ returns-2 : tie.Need-returns-2
 returns-2 c =
     let k = c .before .before in
     let e = entry k in
-    root-refused (lents e) (e .args .root) (e .args .order .now) (e .args .hosts .now) (accepts k) (found (c .before) .none (c .if2 .taken))
+    root-refused (lents e) (e .args .root) (e .args .order .now) (e .args .hosts .now) (accepts k) (analysed-named (current-of e) (e .args .names .now) (e .args .root) ∙ found (c .before) .none (c .if2 .taken))
 
 returns-3 : tie.Need-returns-3
 returns-3 c =
@@ -118,37 +131,39 @@ read-current-requires c κs = (tested (c .before .before .before .before .before
 
 array-share-prefix-read-targets : tie.Need-array-share-prefix-read-targets
 array-share-prefix-read-targets c =
-    let a = c .before .before .before .before .before .before .before .before .before .before .before .before .before .before .before .before .before .before .before .before .before .before .args in
+    let a = c .before .before .before .before .before .before .before .before .before .before .before .before .before .before .before .before .before .before .before .before .before .before .before .args in
     targets-room (a .runtime) (a .dynamic) (a .bounds .now) (a .columns .now) (a .importers .now) (a .kinds .now) (a .targets .now) (tested (c .before .before .before .before .before .before .before .before .before .before .before)) (c .before .before .before .read-current .ensures)
 
-slice-aggregate-prepare-and-list : tie.Need-slice-aggregate-prepare-and-list
-slice-aggregate-prepare-and-list c =
-    let a = c .before .before .before .before .before .before .before .before .before .before .before .before .before .before .before .before .before .before .before .before .before .before .before .args in
+slice-aggregate-arrange-and-list : tie.Need-slice-aggregate-arrange-and-list
+slice-aggregate-arrange-and-list c =
+    let a = c .before .before .before .before .before .before .before .before .before .before .before .before .before .before .before .before .before .before .before .before .before .before .before .before .args in
     targets-size (a .runtime) (a .dynamic) (a .bounds .now) (a .columns .now) (a .importers .now) (a .kinds .now) (a .targets .now) (tested (c .before .before .before .before .before .before .before .before .before .before .before .before)) (c .before .before .before .before .read-current .ensures)
 
 array-share-prefix-read-dependencies : tie.Need-array-share-prefix-read-dependencies
 array-share-prefix-read-dependencies c =
-    let a = c .before .before .before .before .before .before .before .before .before .before .before .before .before .before .before .before .before .before .before .before .before .before .before .args in
+    let a = c .before .before .before .before .before .before .before .before .before .before .before .before .before .before .before .before .before .before .before .before .before .before .before .before .args in
     dependencies-room (a .runtime) (a .dynamic) (a .bounds .now) (a .columns .now) (a .importers .now) (a .kinds .now) (a .targets .now) (tested (c .before .before .before .before .before .before .before .before .before .before .before .before)) (c .before .before .before .before .read-current .ensures) (c .before .rows2 .ensures)
 
-slice-aggregate-prepare-and-list-2 : tie.Need-slice-aggregate-prepare-and-list-2
-slice-aggregate-prepare-and-list-2 c =
-    let a = c .before .before .before .before .before .before .before .before .before .before .before .before .before .before .before .before .before .before .before .before .before .before .before .before .args in
+slice-aggregate-arrange-and-list-2 : tie.Need-slice-aggregate-arrange-and-list-2
+slice-aggregate-arrange-and-list-2 c =
+    let a = c .before .before .before .before .before .before .before .before .before .before .before .before .before .before .before .before .before .before .before .before .before .before .before .before .before .args in
     dependencies-size (a .runtime) (a .dynamic) (a .bounds .now) (a .columns .now) (a .importers .now) (a .kinds .now) (a .targets .now) (tested (c .before .before .before .before .before .before .before .before .before .before .before .before .before)) (c .before .before .before .before .before .read-current .ensures) (c .before .before .rows2 .ensures)
 
-slice-aggregate-prepare-and-list-3 : tie.Need-slice-aggregate-prepare-and-list-3
-slice-aggregate-prepare-and-list-3 c = sym (part (c .before .before .before .before .before .before .before .before .before .before))
+slice-aggregate-arrange-and-list-3 : tie.Need-slice-aggregate-arrange-and-list-3
+slice-aggregate-arrange-and-list-3 c = sym (part (c .before .before .before .before .before .before .before .before .before .before))
 
-slice-relend-prefix-prepare-and-list : tie.Need-slice-relend-prefix-prepare-and-list
-slice-relend-prefix-prepare-and-list c = c .before .before .before .before .before .before .before .before .before .if4 .left
+slice-relend-prefix-arrange-and-list : tie.Need-slice-relend-prefix-arrange-and-list
+slice-relend-prefix-arrange-and-list c = c .before .before .before .before .before .before .before .before .before .if4 .left
 
-prepare-and-list-requires : tie.Need-prepare-and-list-requires
-prepare-and-list-requires c κs =
+arrange-and-list-requires : tie.Need-arrange-and-list-requires
+arrange-and-list-requires c κs =
     let k = c .before .before .before .before .before .before .before .before .before .before .before .before .before .before .before in
     let a = entry k .args in
     let n = c .before .before .before .before .before .before .before .before .before .before .before .before in
-    subst (λ (p : Project). Listing p (a .root) (c .before .before .before .before .before .before .before .before .before .before .before .before .before .before .find-entry .result) (length (a .order .now)) (length (take (count n) (a .hosts .now)))) (sym (own (c .before .before)))
-    (record { accepted = ok k; entry = here (c .before .before .before .before .before .before .before .before .before .before .before .before .before) .1; size = part (c .before .before .before .before .before .before .before .before .before .before) ∙ counted n; room = omega (arith, counted n, c .before .before .before .before .before .before .before .before .before .before .before .if3 .left) })
+    subst (λ (p : Project). (namesIn (modules p) (a .names .now) ≡ true) × Listing p (a .root) (c .before .before .before .before .before .before .before .before .before .before .before .before .before .before .find-entry .result) (length (a .order .now)) (length (take (count n) (a .hosts .now)))) (sym (own (c .before .before))) (
+      lent-fit (a .bounds .now) (a .columns .now) (a .names .now) (written (entry k)) (accepts k),
+      record { accepted = ok k; entry = here (c .before .before .before .before .before .before .before .before .before .before .before .before .before) .1; size = part (c .before .before .before .before .before .before .before .before .before .before) ∙ counted-read n; room = omega (arith, counted-read n, c .before .before .before .before .before .before .before .before .before .before .before .if3 .left) },
+    )
 
 returns-5 : tie.Need-returns-5
 returns-5 c =
@@ -156,15 +171,15 @@ returns-5 c =
     let e = entry k in
     let a = e .args in
     let n = c .before .before .before .before .before .before .before .before .before .before .before .before .before .before .before .before .before in
-    let done = c .before .before .before .before .prepare-and-list in
-    let out = done .last .1 .1 .1 .1 .1 .1 .1 .1 .1 in
+    let done = c .before .before .before .before .arrange-and-list in
+    let out = done .last .1 .1 .1 .1 .1 .1 .1 .1 .1 .1 in
     let order : List ℕ = out .0 in
     let hosts : List ℕ = out .1 .0 in
     subst (λ (i : ℕ). ActualOrder (lents e) (a .root) (a .order .now) (a .hosts .now) (Counted (done .result)) order (hosts ++ drop i (a .hosts .now))) (sym (counted n))
     (run-counted (lents e) (a .root) (a .order .now) (a .hosts .now) (accepts k) (here (c .before .before .before .before .before .before .before .before .before .before .before .before .before .before .before .before .before .before) .0) (omega (arith, counted n, c .before .before .before .before .before .before .before .before .before .before .before .before .before .before .before .before .if3 .left)) (omega (arith, counted n, c .before .before .before .before .before .before .before .before .before .before .before .before .before .before .before .if4 .left))
-    (subst (λ (p : Project). Listed (runOf p (p .wrap) (a .root)) (a .order .now) order hosts (done .result)) (own (c .before .before .before .before .before .before .before)) (done .ensures)))
+    (subst (λ (p : Project). Listed (runOf (named p (a .names .now)) (named p (a .names .now) .wrap) (a .root)) (a .order .now) order hosts (done .result)) (own (c .before .before .before .before .before .before .before)) (done .ensures)))
 
 pub actual-order-with-records-spec : {M : Type 1} → statement M
 actual-order-with-records-spec =
     tie.close
-    (tie.spec (λ c κs. search needs) returns (λ c κs. search needs) (λ c κs. search needs) find-entry-requires returns-2 (λ c κs. search needs) returns-3 returns-4 (λ c. search needs) (λ c. search needs) read-current-requires (λ c κs. search needs) array-share-prefix-read-targets slice-aggregate-prepare-and-list array-share-prefix-read-dependencies slice-aggregate-prepare-and-list-2 slice-relend-prefix-prepare-and-list slice-aggregate-prepare-and-list-3 prepare-and-list-requires (λ c. search needs) (λ c. search needs) returns-5)
+    (tie.spec (λ c κs. search needs) returns (λ c κs. search needs) (λ c κs. search needs) find-entry-requires returns-2 (λ c κs. search needs) returns-3 returns-4 (λ c. search needs) (λ c. search needs) read-current-requires (λ c κs. search needs) array-share-prefix-read-targets slice-aggregate-arrange-and-list array-share-prefix-read-dependencies slice-aggregate-arrange-and-list-2 slice-relend-prefix-arrange-and-list slice-aggregate-arrange-and-list-3 arrange-and-list-requires (λ c. search needs) (λ c. search needs) returns-5)

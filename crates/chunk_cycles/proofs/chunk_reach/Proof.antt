@@ -10,10 +10,10 @@ use Rattle.chunk_cycles.proofs.chunk_reach.Tie as tie
 
 returns : tie.Need-returns
 returns c =
-    let a = c .before .before .before .before .before .before .args in
+    let a = c .before .before .before .before .before .before .before .args in
     let done = c .chunk-reach-with-records in
     subst (λ (t : Lent). ReachPromise t (a .chunk) (done .result))
-    (lent-cut (a .runtime) (a .dynamic) (a .bounds .now) (a .columns .now) (c .before .before .before .column .ensures) (c .before .before .column2 .ensures) (c .before .column3 .ensures))
+    (lent-cut (a .runtime) (a .dynamic) (a .bounds .now) (a .columns .now) (a .names .now) (c .before .before .before .column .ensures) (c .before .before .column2 .ensures) (c .before .column3 .ensures))
     (done .ensures)
 
 pub chunk-reach-spec : {M : Type 1} → statement M

@@ -26,13 +26,13 @@ use Rattle.chunk_cycles.proofs.chunk_reach_with_records.Tie as tie
 -- the entry, what was lent and its project as it is written, which has the same chunks, and the chunk count
 
 abbrev lents : tie.Start → Lent
-lents e = let a = e .args in lentWith (a .runtime) (a .dynamic) (a .bounds .now) (a .columns .now) (a .importers .now) (a .kinds .now) (a .targets .now)
+lents e = let a = e .args in lentWith (a .runtime) (a .dynamic) (a .bounds .now) (a .columns .now) (a .names .now) (a .importers .now) (a .kinds .now) (a .targets .now)
 
 abbrev of : tie.Start → Project
 of e = let a = e .args in withRecords (table (a .runtime) (a .dynamic) (a .bounds .now) (a .columns .now)) (a .importers .now) (a .kinds .now) (a .targets .now)
 
 abbrev entry : tie.After-rows → tie.Start
-entry k = k .before .before .before .before .before .before .before .before
+entry k = k .before .before .before .before .before .before .before .before .before
 
 abbrev count : tie.After-rows → ℕ
 count k = k .rows .result
@@ -49,7 +49,7 @@ accepts : (k : tie.After-rows) → lents (entry k) .number ≡ 0
 accepts k = sym (k .before .before .refusal-number .ensures) ∙ k .before .if1 .left
 
 ok : (k : tie.After-rows) → Accepted (of (entry k))
-ok k = let a = entry k .args in lent-accepted (a .bounds .now) (a .columns .now) (of (entry k)) (accepts k)
+ok k = let a = entry k .args in lent-accepted (a .bounds .now) (a .columns .now) (a .names .now) (of (entry k)) (accepts k)
 
 -- there are no more chunks than the working array has places
 few : (k : tie.After-rows) → count k ≤ chunkLimit
@@ -77,7 +77,7 @@ made-length : (k : tie.After-label-table) → length (made k) ≡ count (k .befo
 made-length k = k .label-table .kept .1 .1 .1 .1 .1 .1 .1 .1 .1 .0 ∙ part (k .before .before .before .before .before)
 
 returns : tie.Need-returns
-returns c = let e = c .before .before .before .before .before .before .before in reach-refused (lents e) (e .args .chunk) (c .before .refusal-number .result) (c .before .refusal-number .ensures) (c .if1 .taken)
+returns c = let e = c .before .before .before .before .before .before .before .before in reach-refused (lents e) (e .args .chunk) (c .before .refusal-number .result) (c .before .refusal-number .ensures) (c .if1 .taken)
 
 returns-2 : tie.Need-returns-2
 returns-2 c = let k = c .before in let e = entry k in reach-unfit (lents e) (e .args .chunk) (accepts k) (omega (arith, counted-read k, c .if2 .taken))

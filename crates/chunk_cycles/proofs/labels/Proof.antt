@@ -12,11 +12,11 @@ use Rattle.chunk_cycles.proofs.labels.Tie as tie
 
 returns : tie.Need-returns
 returns c =
-    let a = c .before .before .before .before .before .before .before .before .before .before .args in
+    let a = c .before .before .before .before .before .before .before .before .before .before .before .args in
     let done = c .before .before .labels-with-records in
-    let made : List ℕ = done .last .1 .1 .1 .1 .1 .1 .1 .0 in
+    let made : List ℕ = done .last .1 .1 .1 .1 .1 .1 .1 .1 .0 in
     subst (λ (t : Lent). LabelsPromise t (a .labels .now) (done .result) made)
-    (lent-cut (a .runtime) (a .dynamic) (a .bounds .now) (a .columns .now) (c .before .before .before .before .before .before .column .ensures) (c .before .before .before .before .before .column2 .ensures) (c .before .before .before .before .column3 .ensures))
+    (lent-cut (a .runtime) (a .dynamic) (a .bounds .now) (a .columns .now) (a .names .now) (c .before .before .before .before .before .before .column .ensures) (c .before .before .before .before .before .column2 .ensures) (c .before .before .before .before .column3 .ensures))
     (done .ensures)
 
 pub labels-spec : {M : Type 1} → statement M

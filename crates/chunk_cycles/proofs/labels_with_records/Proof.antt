@@ -23,13 +23,13 @@ use Rattle.chunk_cycles.proofs.labels_with_records.Tie as tie
 -- the entry, what was lent and its project as it is written, which has the same chunks, and the chunk count
 
 abbrev lents : tie.Start → Lent
-lents e = let a = e .args in lentWith (a .runtime) (a .dynamic) (a .bounds .now) (a .columns .now) (a .importers .now) (a .kinds .now) (a .targets .now)
+lents e = let a = e .args in lentWith (a .runtime) (a .dynamic) (a .bounds .now) (a .columns .now) (a .names .now) (a .importers .now) (a .kinds .now) (a .targets .now)
 
 abbrev of : tie.Start → Project
 of e = let a = e .args in withRecords (table (a .runtime) (a .dynamic) (a .bounds .now) (a .columns .now)) (a .importers .now) (a .kinds .now) (a .targets .now)
 
 abbrev entry : tie.After-rows → tie.Start
-entry k = k .before .before .before .before .before .before .before .before .before
+entry k = k .before .before .before .before .before .before .before .before .before .before
 
 abbrev count : tie.After-rows → ℕ
 count k = k .rows .result
@@ -46,7 +46,7 @@ accepts : (k : tie.After-rows) → lents (entry k) .number ≡ 0
 accepts k = sym (k .before .before .refusal-number .ensures) ∙ k .before .if1 .left
 
 ok : (k : tie.After-rows) → Accepted (of (entry k))
-ok k = let a = entry k .args in lent-accepted (a .bounds .now) (a .columns .now) (of (entry k)) (accepts k)
+ok k = let a = entry k .args in lent-accepted (a .bounds .now) (a .columns .now) (a .names .now) (of (entry k)) (accepts k)
 
 -- the part of the slice that has a place a chunk
 part : (c : tie.Else2) → length (take (count (c .before)) (entry (c .before) .args .labels .now)) ≡ count (c .before)
@@ -59,7 +59,7 @@ own k =
     records-cut (a .runtime) (a .dynamic) (a .bounds .now) (a .columns .now) (a .importers .now) (a .kinds .now) (a .targets .now) (k .before .column .ensures) (k .column2 .ensures)
 
 returns : tie.Need-returns
-returns c = let e = c .before .before .before .before .before .before .before .before in labels-refused (lents e) (e .args .labels .now) (c .before .refusal-number .result) (c .before .refusal-number .ensures) (c .if1 .taken)
+returns c = let e = c .before .before .before .before .before .before .before .before .before in labels-refused (lents e) (e .args .labels .now) (c .before .refusal-number .result) (c .before .refusal-number .ensures) (c .if1 .taken)
 
 returns-2 : tie.Need-returns-2
 returns-2 c = let k = c .before in let e = entry k in labels-short (lents e) (e .args .labels .now) (accepts k) (omega (arith, counted-read k, c .if2 .taken))

@@ -14,10 +14,10 @@ returns : tie.Need-returns
 returns c =
     let done = c .before .before .entries-order-with-records in
     let k = c .before .before .before .before in
-    let a = k .before .before .before .before .before .before .before .args in
-    let order : List ℕ = done .last .1 .1 .1 .1 .1 .1 .1 .1 .0 in
+    let a = k .before .before .before .before .before .before .before .before .args in
+    let order : List ℕ = done .last .1 .1 .1 .1 .1 .1 .1 .1 .1 .0 in
     subst (λ (t : Lent). EntriesOrder t (a .entries .now) (a .order .now) (done .result) order)
-    (lent-cut (a .runtime) (a .dynamic) (a .bounds .now) (a .columns .now) (k .before .before .column .ensures) (k .before .column2 .ensures) (k .column3 .ensures))
+    (lent-cut (a .runtime) (a .dynamic) (a .bounds .now) (a .columns .now) (a .names .now) (k .before .before .column .ensures) (k .before .column2 .ensures) (k .column3 .ensures))
     (done .ensures)
 
 pub entries-order-spec : {M : Type 1} → statement M

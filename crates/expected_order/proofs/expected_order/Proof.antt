@@ -12,11 +12,11 @@ use Rattle.expected_order.proofs.expected_order.Tie as tie
 
 returns : tie.Need-returns
 returns c =
-    let a = c .before .before .before .before .before .before .before .before .before .before .args in
+    let a = c .before .before .before .before .before .before .before .before .before .before .before .args in
     let done = c .before .before .expected-order-with-records in
-    let order : List ℕ = done .last .1 .1 .1 .1 .1 .1 .1 .1 .0 in
+    let order : List ℕ = done .last .1 .1 .1 .1 .1 .1 .1 .1 .1 .0 in
     subst (λ (t : Lent). ExpectedOrder t (a .root) (a .expected .now) (done .result) order)
-    (lent-cut (a .runtime) (a .dynamic) (a .bounds .now) (a .columns .now) (c .before .before .before .before .before .before .column .ensures) (c .before .before .before .before .before .column2 .ensures) (c .before .before .before .before .column3 .ensures))
+    (lent-cut (a .runtime) (a .dynamic) (a .bounds .now) (a .columns .now) (a .names .now) (c .before .before .before .before .before .before .column .ensures) (c .before .before .before .before .before .column2 .ensures) (c .before .before .before .before .column3 .ensures))
     (done .ensures)
 
 pub expected-order-spec : {M : Type 1} → statement M

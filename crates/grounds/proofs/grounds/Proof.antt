@@ -12,11 +12,11 @@ use Rattle.grounds.proofs.grounds.Tie as tie
 
 returns : tie.Need-returns
 returns c =
-    let a = c .before .before .before .before .before .before .before .before .before .before .args in
+    let a = c .before .before .before .before .before .before .before .before .before .before .before .args in
     let done = c .before .before .grounds-with-records in
-    let made : List ℕ = done .last .1 .1 .1 .1 .1 .1 .1 .0 in
+    let made : List ℕ = done .last .1 .1 .1 .1 .1 .1 .1 .1 .0 in
     subst (λ (t : Lent). ModuleGrounds t (a .marks .now) (done .result) made)
-    (lent-cut (a .runtime) (a .dynamic) (a .bounds .now) (a .columns .now) (c .before .before .before .before .before .before .column .ensures) (c .before .before .before .before .before .column2 .ensures) (c .before .before .before .before .column3 .ensures))
+    (lent-cut (a .runtime) (a .dynamic) (a .bounds .now) (a .columns .now) (a .names .now) (c .before .before .before .before .before .before .column .ensures) (c .before .before .before .before .before .column2 .ensures) (c .before .before .before .before .column3 .ensures))
     (done .ensures)
 
 pub grounds-spec : {M : Type 1} → statement M

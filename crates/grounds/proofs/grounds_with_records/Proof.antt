@@ -26,7 +26,7 @@ use Rattle.grounds.proofs.grounds_with_records.Tie as tie
 -- the entry, what was lent, and its project as it is written and as it is read
 
 abbrev lents : tie.Start → Lent
-lents e = let a = e .args in lentWith (a .runtime) (a .dynamic) (a .bounds .now) (a .columns .now) (a .importers .now) (a .kinds .now) (a .targets .now)
+lents e = let a = e .args in lentWith (a .runtime) (a .dynamic) (a .bounds .now) (a .columns .now) (a .names .now) (a .importers .now) (a .kinds .now) (a .targets .now)
 
 abbrev written : tie.Start → Project
 written e = let a = e .args in withRecords (table (a .runtime) (a .dynamic) (a .bounds .now) (a .columns .now)) (a .importers .now) (a .kinds .now) (a .targets .now)
@@ -35,16 +35,16 @@ abbrev of : tie.Start → Project
 of e = current (written e)
 
 abbrev entry : tie.After-rows → tie.Start
-entry k = k .before .before .before .before .before .before .before .before .before
+entry k = k .before .before .before .before .before .before .before .before .before .before
 
 accepts : (k : tie.After-rows) → lents (entry k) .number ≡ 0
 accepts k = sym (k .before .before .refusal-number .ensures) ∙ k .before .if1 .left
 
 tested : (k : tie.After-rows) → Accepted (written (entry k))
-tested k = let a = entry k .args in lent-accepted (a .bounds .now) (a .columns .now) (written (entry k)) (accepts k)
+tested k = let a = entry k .args in lent-accepted (a .bounds .now) (a .columns .now) (a .names .now) (written (entry k)) (accepts k)
 
 ok : (k : tie.After-rows) → Accepted (of (entry k))
-ok k = let a = entry k .args in lent-current (a .bounds .now) (a .columns .now) (written (entry k)) (accepts k)
+ok k = let a = entry k .args in lent-current (a .bounds .now) (a .columns .now) (a .names .now) (written (entry k)) (accepts k)
 
 -- the module count
 
@@ -67,13 +67,13 @@ made-targets k = k .read-current .last .1 .1 .1 .1 .1 .1 .1 .0
 abbrev made-dependencies : tie.After-read-current → List ℕ
 made-dependencies k = k .read-current .last .1 .1 .1 .1 .1 .1 .1 .1 .0
 
-own : (k : tie.After-column) → let a = k .before .before .before .before .before .before .before .before .before .before .before .before .before .before .before .before .before .before .before .args in read (table (a .runtime) (a .dynamic) (a .bounds .now) (a .columns .now)) (a .importers .now) (a .kinds .now) (take (length (a .targets .now)) (made-targets (k .before .before .before .before .before .before))) (take (k .before .before .before .rows2 .result) (made-dependencies (k .before .before .before .before .before .before))) (k .column .result .now) ≡ of (k .before .before .before .before .before .before .before .before .before .before .before .before .before .before .before .before .before .before .before)
+own : (k : tie.After-column) → let a = k .before .before .before .before .before .before .before .before .before .before .before .before .before .before .before .before .before .before .before .before .args in read (table (a .runtime) (a .dynamic) (a .bounds .now) (a .columns .now)) (a .importers .now) (a .kinds .now) (take (length (a .targets .now)) (made-targets (k .before .before .before .before .before .before))) (take (k .before .before .before .rows2 .result) (made-dependencies (k .before .before .before .before .before .before))) (k .column .result .now) ≡ of (k .before .before .before .before .before .before .before .before .before .before .before .before .before .before .before .before .before .before .before .before)
 own k =
-    let a = k .before .before .before .before .before .before .before .before .before .before .before .before .before .before .before .before .before .before .before .args in
+    let a = k .before .before .before .before .before .before .before .before .before .before .before .before .before .before .before .before .before .before .before .before .args in
     current-cut (a .runtime) (a .dynamic) (a .bounds .now) (a .columns .now) (a .importers .now) (a .kinds .now) (a .targets .now) (k .before .before .before .before .before .before .read-current .ensures) (k .before .before .before .rows2 .ensures) (k .column .ensures)
 
 returns : tie.Need-returns
-returns c = let e = c .before .before .before .before .before .before .before .before in project-refused (lents e) (e .args .marks .now) (c .before .refusal-number .result) (c .before .refusal-number .ensures) (c .if1 .taken)
+returns c = let e = c .before .before .before .before .before .before .before .before .before in project-refused (lents e) (e .args .marks .now) (c .before .refusal-number .result) (c .before .refusal-number .ensures) (c .if1 .taken)
 
 returns-2 : tie.Need-returns-2
 returns-2 c = let k = c .before in let e = entry k in room-refused (lents e) (e .args .marks .now) (accepts k) (omega (arith, counted k, c .if2 .taken))
@@ -83,22 +83,22 @@ read-current-requires c κs = (tested (c .before .before .before), (length-repli
 
 array-share-prefix-read-targets : tie.Need-array-share-prefix-read-targets
 array-share-prefix-read-targets c =
-    let a = c .before .before .before .before .before .before .before .before .before .before .before .before .before .before .before .before .args in
+    let a = c .before .before .before .before .before .before .before .before .before .before .before .before .before .before .before .before .before .args in
     targets-room (a .runtime) (a .dynamic) (a .bounds .now) (a .columns .now) (a .importers .now) (a .kinds .now) (a .targets .now) (tested (c .before .before .before .before .before .before .before)) (c .before .before .before .read-current .ensures)
 
 slice-aggregate-mark-grounds : tie.Need-slice-aggregate-mark-grounds
 slice-aggregate-mark-grounds c =
-    let a = c .before .before .before .before .before .before .before .before .before .before .before .before .before .before .before .before .before .args in
+    let a = c .before .before .before .before .before .before .before .before .before .before .before .before .before .before .before .before .before .before .args in
     targets-size (a .runtime) (a .dynamic) (a .bounds .now) (a .columns .now) (a .importers .now) (a .kinds .now) (a .targets .now) (tested (c .before .before .before .before .before .before .before .before)) (c .before .before .before .before .read-current .ensures)
 
 array-share-prefix-read-dependencies : tie.Need-array-share-prefix-read-dependencies
 array-share-prefix-read-dependencies c =
-    let a = c .before .before .before .before .before .before .before .before .before .before .before .before .before .before .before .before .before .args in
+    let a = c .before .before .before .before .before .before .before .before .before .before .before .before .before .before .before .before .before .before .args in
     dependencies-room (a .runtime) (a .dynamic) (a .bounds .now) (a .columns .now) (a .importers .now) (a .kinds .now) (a .targets .now) (tested (c .before .before .before .before .before .before .before .before)) (c .before .before .before .before .read-current .ensures) (c .before .rows2 .ensures)
 
 slice-aggregate-mark-grounds-2 : tie.Need-slice-aggregate-mark-grounds-2
 slice-aggregate-mark-grounds-2 c =
-    let a = c .before .before .before .before .before .before .before .before .before .before .before .before .before .before .before .before .before .before .args in
+    let a = c .before .before .before .before .before .before .before .before .before .before .before .before .before .before .before .before .before .before .before .args in
     dependencies-size (a .runtime) (a .dynamic) (a .bounds .now) (a .columns .now) (a .importers .now) (a .kinds .now) (a .targets .now) (tested (c .before .before .before .before .before .before .before .before .before)) (c .before .before .before .before .before .read-current .ensures) (c .before .before .rows2 .ensures)
 
 slice-relend-prefix-mark-grounds : tie.Need-slice-relend-prefix-mark-grounds

@@ -34,12 +34,12 @@ same-length-2 c = search needs
 
 returns : tie.Need-returns
 returns c =
-    let a = c .before .before .before .before .before .before .before .before .before .before .before .before .before .before .args in
+    let a = c .before .before .before .before .before .before .before .before .before .before .before .before .before .before .before .args in
     let done = c .before .before .before .before .import-circles-with-records in
-    let paths : List ℕ = done .last .1 .1 .1 .1 .1 .1 .1 .0 in
-    let lengths : List ℕ = done .last .1 .1 .1 .1 .1 .1 .1 .1 .0 in
+    let paths : List ℕ = done .last .1 .1 .1 .1 .1 .1 .1 .1 .0 in
+    let lengths : List ℕ = done .last .1 .1 .1 .1 .1 .1 .1 .1 .1 .0 in
     subst (λ (t : Lent). ImportCircles t (a .paths .now) (a .lengths .now) (done .result) paths lengths)
-    (lent-cut (a .runtime) (a .dynamic) (a .bounds .now) (a .columns .now) (c .before .before .before .before .before .before .before .before .before .column .ensures) (c .before .before .before .before .before .before .before .before .column2 .ensures) (c .before .before .before .before .before .before .before .column3 .ensures))
+    (lent-cut (a .runtime) (a .dynamic) (a .bounds .now) (a .columns .now) (a .names .now) (c .before .before .before .before .before .before .before .before .before .column .ensures) (c .before .before .before .before .before .before .before .before .column2 .ensures) (c .before .before .before .before .before .before .before .column3 .ensures))
     (done .ensures)
 
 pub import-circles-spec : {M : Type 1} → statement M

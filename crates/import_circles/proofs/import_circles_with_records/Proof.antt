@@ -27,7 +27,7 @@ use Rattle.table.proofs.rows.Reads as rows-reads
 -- the entry, what was lent, and its project as it is written and as it is read
 
 abbrev lents : tie.Start → Lent
-lents e = let a = e .args in lentWith (a .runtime) (a .dynamic) (a .bounds .now) (a .columns .now) (a .importers .now) (a .kinds .now) (a .targets .now)
+lents e = let a = e .args in lentWith (a .runtime) (a .dynamic) (a .bounds .now) (a .columns .now) (a .names .now) (a .importers .now) (a .kinds .now) (a .targets .now)
 
 abbrev written : tie.Start → Project
 written e = let a = e .args in withRecords (table (a .runtime) (a .dynamic) (a .bounds .now) (a .columns .now)) (a .importers .now) (a .kinds .now) (a .targets .now)
@@ -35,14 +35,14 @@ written e = let a = e .args in withRecords (table (a .runtime) (a .dynamic) (a .
 abbrev of : tie.Start → Project
 of e = current (written e)
 
-accepts : (k : tie.Else1) → lents (k .before .before .before .before .before .before .before .before .before) .number ≡ 0
+accepts : (k : tie.Else1) → lents (k .before .before .before .before .before .before .before .before .before .before) .number ≡ 0
 accepts k = sym (k .before .refusal-number .ensures) ∙ k .if1 .left
 
-tested : (k : tie.Else1) → Accepted (written (k .before .before .before .before .before .before .before .before .before))
-tested k = let a = k .before .before .before .before .before .before .before .before .before .args in lent-accepted (a .bounds .now) (a .columns .now) (written (k .before .before .before .before .before .before .before .before .before)) (accepts k)
+tested : (k : tie.Else1) → Accepted (written (k .before .before .before .before .before .before .before .before .before .before))
+tested k = let a = k .before .before .before .before .before .before .before .before .before .before .args in lent-accepted (a .bounds .now) (a .columns .now) (a .names .now) (written (k .before .before .before .before .before .before .before .before .before .before)) (accepts k)
 
-ok : (k : tie.Else1) → Accepted (of (k .before .before .before .before .before .before .before .before .before))
-ok k = let a = k .before .before .before .before .before .before .before .before .before .args in lent-current (a .bounds .now) (a .columns .now) (written (k .before .before .before .before .before .before .before .before .before)) (accepts k)
+ok : (k : tie.Else1) → Accepted (of (k .before .before .before .before .before .before .before .before .before .before))
+ok k = let a = k .before .before .before .before .before .before .before .before .before .before .args in lent-current (a .bounds .now) (a .columns .now) (a .names .now) (written (k .before .before .before .before .before .before .before .before .before .before)) (accepts k)
 
 -- the columns that were read, and the project that the core reads with them
 
@@ -52,16 +52,16 @@ made-targets k = k .read-current .last .1 .1 .1 .1 .1 .1 .1 .0
 abbrev made-dependencies : tie.After-read-current → List ℕ
 made-dependencies k = k .read-current .last .1 .1 .1 .1 .1 .1 .1 .1 .0
 
-own : (k : tie.After-column) → let a = k .before .before .before .before .before .before .before .before .before .before .before .before .before .before .before .before .before .before .args in read (table (a .runtime) (a .dynamic) (a .bounds .now) (a .columns .now)) (a .importers .now) (a .kinds .now) (take (length (a .targets .now)) (made-targets (k .before .before .before .before .before .before))) (take (k .before .before .before .rows .result) (made-dependencies (k .before .before .before .before .before .before))) (k .column .result .now) ≡ of (k .before .before .before .before .before .before .before .before .before .before .before .before .before .before .before .before .before .before)
+own : (k : tie.After-column) → let a = k .before .before .before .before .before .before .before .before .before .before .before .before .before .before .before .before .before .before .before .args in read (table (a .runtime) (a .dynamic) (a .bounds .now) (a .columns .now)) (a .importers .now) (a .kinds .now) (take (length (a .targets .now)) (made-targets (k .before .before .before .before .before .before))) (take (k .before .before .before .rows .result) (made-dependencies (k .before .before .before .before .before .before))) (k .column .result .now) ≡ of (k .before .before .before .before .before .before .before .before .before .before .before .before .before .before .before .before .before .before .before)
 own k =
-    let a = k .before .before .before .before .before .before .before .before .before .before .before .before .before .before .before .before .before .before .args in
+    let a = k .before .before .before .before .before .before .before .before .before .before .before .before .before .before .before .before .before .before .before .args in
     current-cut (a .runtime) (a .dynamic) (a .bounds .now) (a .columns .now) (a .importers .now) (a .kinds .now) (a .targets .now) (k .before .before .before .before .before .before .read-current .ensures) (k .before .before .before .rows .ensures) (k .column .ensures)
 
 refusal-number-requires : tie.Need-refusal-number-requires
 refusal-number-requires c κs = search needs
 
 returns : tie.Need-returns
-returns c = let e = c .before .before .before .before .before .before .before .before .before in project-refused (lents e) (e .args .paths .now) (e .args .lengths .now) (c .before .refusal-number .result) (c .before .refusal-number .ensures) (c .if1 .taken)
+returns c = let e = c .before .before .before .before .before .before .before .before .before .before in project-refused (lents e) (e .args .paths .now) (e .args .lengths .now) (c .before .refusal-number .result) (c .before .refusal-number .ensures) (c .if1 .taken)
 
 slice-aggregate-read-current : tie.Need-slice-aggregate-read-current
 slice-aggregate-read-current c = search needs
@@ -77,22 +77,22 @@ rows-requires c κs = search needs
 
 array-share-prefix-read-targets : tie.Need-array-share-prefix-read-targets
 array-share-prefix-read-targets c =
-    let a = c .before .before .before .before .before .before .before .before .before .before .before .before .before .before .before .args in
+    let a = c .before .before .before .before .before .before .before .before .before .before .before .before .before .before .before .before .args in
     targets-room (a .runtime) (a .dynamic) (a .bounds .now) (a .columns .now) (a .importers .now) (a .kinds .now) (a .targets .now) (tested (c .before .before .before .before .before .before)) (c .before .before .before .read-current .ensures)
 
 slice-aggregate-list-circles : tie.Need-slice-aggregate-list-circles
 slice-aggregate-list-circles c =
-    let a = c .before .before .before .before .before .before .before .before .before .before .before .before .before .before .before .before .args in
+    let a = c .before .before .before .before .before .before .before .before .before .before .before .before .before .before .before .before .before .args in
     targets-size (a .runtime) (a .dynamic) (a .bounds .now) (a .columns .now) (a .importers .now) (a .kinds .now) (a .targets .now) (tested (c .before .before .before .before .before .before .before)) (c .before .before .before .before .read-current .ensures)
 
 array-share-prefix-read-dependencies : tie.Need-array-share-prefix-read-dependencies
 array-share-prefix-read-dependencies c =
-    let a = c .before .before .before .before .before .before .before .before .before .before .before .before .before .before .before .before .args in
+    let a = c .before .before .before .before .before .before .before .before .before .before .before .before .before .before .before .before .before .args in
     dependencies-room (a .runtime) (a .dynamic) (a .bounds .now) (a .columns .now) (a .importers .now) (a .kinds .now) (a .targets .now) (tested (c .before .before .before .before .before .before .before)) (c .before .before .before .before .read-current .ensures) (c .before .rows .ensures)
 
 slice-aggregate-list-circles-2 : tie.Need-slice-aggregate-list-circles-2
 slice-aggregate-list-circles-2 c =
-    let a = c .before .before .before .before .before .before .before .before .before .before .before .before .before .before .before .before .before .args in
+    let a = c .before .before .before .before .before .before .before .before .before .before .before .before .before .before .before .before .before .before .args in
     dependencies-size (a .runtime) (a .dynamic) (a .bounds .now) (a .columns .now) (a .importers .now) (a .kinds .now) (a .targets .now) (tested (c .before .before .before .before .before .before .before .before)) (c .before .before .before .before .before .read-current .ensures) (c .before .before .rows .ensures)
 
 column-requires : tie.Need-column-requires
@@ -109,7 +109,7 @@ same-length-2 c = search needs
 
 returns-2 : tie.Need-returns-2
 returns-2 c =
-    let e = c .before .before .before .before .before .before .before .before .before .before .before .before .before .before .before .before .before .before .before .before .before .before .before .before .before in
+    let e = c .before .before .before .before .before .before .before .before .before .before .before .before .before .before .before .before .before .before .before .before .before .before .before .before .before .before in
     let done = c .before .before .before .before .list-circles in
     let paths : List ℕ = done .last .1 .1 .1 .1 .1 .1 .1 .1 .1 .0 in
     let lengths : List ℕ = done .last .1 .1 .1 .1 .1 .1 .1 .1 .1 .1 .0 in

@@ -8,12 +8,12 @@ returns : tie.Need-returns
 returns c =
     let tested = c .before .tested in
     let number = c .before .before .refusal-number in
-    let a = c .before .before .before .before .before .before .before .before .args in
+    let a = c .before .before .before .before .before .before .before .before .before .args in
     record {
       answer = tested .result;
       code = c .code .ensures;
       promised =
-          tested-cut (a .runtime) (a .dynamic) (now (a .bounds)) (now (a .columns)) (number .result) (tested .result)
+          tested-cut (a .runtime) (a .dynamic) (now (a .bounds)) (now (a .columns)) (now (a .names)) (number .result) (tested .result)
           (c .before .before .before .before .before .column .ensures) (c .before .before .before .before .column2 .ensures) (c .before .before .before .column3 .ensures)
           (number .ensures) (tested .ensures);
     }

@@ -5,18 +5,18 @@ use mathlib.Core.List.{List}
 use Prim.Native.Nat.{ℕ}
 use borrow.Author.Needs.{needs}
 use Rattle.table.specs.Table.{Lent}
-use Rattle.table.proofs.Laws.{lent-cut}
+use Rattle.arrangement.proofs.OfProject.{lent-named-cut}
 use Rattle.order_analysis.specs.Whole.{WholeAnalysis}
 use Rattle.order_analysis.proofs.analyze_execution_order.Statement.{statement}
 use Rattle.order_analysis.proofs.analyze_execution_order.Tie as tie
 
 returns : tie.Need-returns
 returns c =
-    let a = c .before .before .before .before .before .before .before .before .before .before .args in
+    let a = c .before .before .before .before .before .before .before .before .before .before .before .args in
     let done = c .before .before .analyze-execution-order-with-records in
-    let plan : List ℕ = done .last .1 .1 .1 .1 .1 .1 .1 .0 in
+    let plan : List ℕ = done .last .1 .1 .1 .1 .1 .1 .1 .1 .0 in
     subst (λ (t : Lent). WholeAnalysis t (a .marks .now) (done .result) plan)
-    (lent-cut (a .runtime) (a .dynamic) (a .bounds .now) (a .columns .now) (c .before .before .before .before .before .before .column .ensures) (c .before .before .before .before .before .column2 .ensures) (c .before .before .before .before .column3 .ensures))
+    (lent-named-cut (a .runtime) (a .dynamic) (a .bounds .now) (a .columns .now) (a .names .now) (c .before .before .before .before .before .before .column .ensures) (c .before .before .before .before .before .column2 .ensures) (c .before .before .before .before .column3 .ensures))
     (done .ensures)
 
 pub analyze-execution-order-spec : {M : Type 1} → statement M

@@ -25,7 +25,7 @@ use Rattle.plan_check.proofs.check_plan_with_records.Tie as tie
 -- the entry, what was lent, and its project as it is written and as it is read
 
 abbrev lents : tie.Start → Lent
-lents e = let a = e .args in lentWith (a .runtime) (a .dynamic) (a .bounds .now) (a .columns .now) (a .importers .now) (a .kinds .now) (a .targets .now)
+lents e = let a = e .args in lentWith (a .runtime) (a .dynamic) (a .bounds .now) (a .columns .now) (a .names .now) (a .importers .now) (a .kinds .now) (a .targets .now)
 
 abbrev written : tie.Start → Project
 written e = let a = e .args in withRecords (table (a .runtime) (a .dynamic) (a .bounds .now) (a .columns .now)) (a .importers .now) (a .kinds .now) (a .targets .now)
@@ -34,7 +34,7 @@ abbrev of : tie.Start → Project
 of e = current (written e)
 
 abbrev entry : tie.After-rows → tie.Start
-entry k = k .before .before .before .before .before .before .before .before .before .before
+entry k = k .before .before .before .before .before .before .before .before .before .before .before
 
 counted : (k : tie.After-rows) → k .rows .result ≡ modules (of (entry k))
 unfolding table read current
@@ -44,10 +44,10 @@ accepts : (k : tie.After-rows) → lents (entry k) .number ≡ 0
 accepts k = sym (k .before .before .refusal-number .ensures) ∙ k .before .if1 .left
 
 tested : (k : tie.After-rows) → Accepted (written (entry k))
-tested k = let a = entry k .args in lent-accepted (a .bounds .now) (a .columns .now) (written (entry k)) (accepts k)
+tested k = let a = entry k .args in lent-accepted (a .bounds .now) (a .columns .now) (a .names .now) (written (entry k)) (accepts k)
 
 ok : (k : tie.After-rows) → Accepted (of (entry k))
-ok k = let a = entry k .args in lent-current (a .bounds .now) (a .columns .now) (written (entry k)) (accepts k)
+ok k = let a = entry k .args in lent-current (a .bounds .now) (a .columns .now) (a .names .now) (written (entry k)) (accepts k)
 
 -- the tests of the seeds and of the plan are the project's
 
@@ -71,13 +71,13 @@ made-targets k = k .read-current .last .1 .1 .1 .1 .1 .1 .1 .0
 abbrev made-dependencies : tie.After-read-current → List ℕ
 made-dependencies k = k .read-current .last .1 .1 .1 .1 .1 .1 .1 .1 .0
 
-own : (k : tie.After-column) → let e = k .before .before .before .before .before .before .before .before .before .before .before .before .before .before .before .before .before .before .before .before .before .before .before in let a = e .args in read (table (a .runtime) (a .dynamic) (a .bounds .now) (a .columns .now)) (a .importers .now) (a .kinds .now) (take (length (a .targets .now)) (made-targets (k .before .before .before .before .before .before))) (take (k .before .before .before .rows2 .result) (made-dependencies (k .before .before .before .before .before .before))) (k .column .result .now) ≡ of e
+own : (k : tie.After-column) → let e = k .before .before .before .before .before .before .before .before .before .before .before .before .before .before .before .before .before .before .before .before .before .before .before .before in let a = e .args in read (table (a .runtime) (a .dynamic) (a .bounds .now) (a .columns .now)) (a .importers .now) (a .kinds .now) (take (length (a .targets .now)) (made-targets (k .before .before .before .before .before .before))) (take (k .before .before .before .rows2 .result) (made-dependencies (k .before .before .before .before .before .before))) (k .column .result .now) ≡ of e
 own k =
-    let a = k .before .before .before .before .before .before .before .before .before .before .before .before .before .before .before .before .before .before .before .before .before .before .before .args in
+    let a = k .before .before .before .before .before .before .before .before .before .before .before .before .before .before .before .before .before .before .before .before .before .before .before .before .args in
     current-cut (a .runtime) (a .dynamic) (a .bounds .now) (a .columns .now) (a .importers .now) (a .kinds .now) (a .targets .now) (k .before .before .before .before .before .before .read-current .ensures) (k .before .before .before .rows2 .ensures) (k .column .ensures)
 
 returns : tie.Need-returns
-returns c = let e = c .before .before .before .before .before .before .before .before .before in project-refused (lents e) (e .args .seeds .now) (e .args .plan .now) (c .before .refusal-number .result) (c .before .refusal-number .ensures) (c .if1 .taken)
+returns c = let e = c .before .before .before .before .before .before .before .before .before .before in project-refused (lents e) (e .args .seeds .now) (e .args .plan .now) (c .before .refusal-number .result) (c .before .refusal-number .ensures) (c .if1 .taken)
 
 returns-2 : tie.Need-returns-2
 returns-2 c =
@@ -96,22 +96,22 @@ read-current-requires c κs = (tested (c .before .before .before .before .before
 
 array-share-prefix-read-targets : tie.Need-array-share-prefix-read-targets
 array-share-prefix-read-targets c =
-    let a = c .before .before .before .before .before .before .before .before .before .before .before .before .before .before .before .before .before .before .before .before .args in
+    let a = c .before .before .before .before .before .before .before .before .before .before .before .before .before .before .before .before .before .before .before .before .before .args in
     targets-room (a .runtime) (a .dynamic) (a .bounds .now) (a .columns .now) (a .importers .now) (a .kinds .now) (a .targets .now) (tested (c .before .before .before .before .before .before .before .before .before .before)) (c .before .before .before .read-current .ensures)
 
 slice-aggregate-judge-plan : tie.Need-slice-aggregate-judge-plan
 slice-aggregate-judge-plan c =
-    let a = c .before .before .before .before .before .before .before .before .before .before .before .before .before .before .before .before .before .before .before .before .before .args in
+    let a = c .before .before .before .before .before .before .before .before .before .before .before .before .before .before .before .before .before .before .before .before .before .before .args in
     targets-size (a .runtime) (a .dynamic) (a .bounds .now) (a .columns .now) (a .importers .now) (a .kinds .now) (a .targets .now) (tested (c .before .before .before .before .before .before .before .before .before .before .before)) (c .before .before .before .before .read-current .ensures)
 
 array-share-prefix-read-dependencies : tie.Need-array-share-prefix-read-dependencies
 array-share-prefix-read-dependencies c =
-    let a = c .before .before .before .before .before .before .before .before .before .before .before .before .before .before .before .before .before .before .before .before .before .args in
+    let a = c .before .before .before .before .before .before .before .before .before .before .before .before .before .before .before .before .before .before .before .before .before .before .args in
     dependencies-room (a .runtime) (a .dynamic) (a .bounds .now) (a .columns .now) (a .importers .now) (a .kinds .now) (a .targets .now) (tested (c .before .before .before .before .before .before .before .before .before .before .before)) (c .before .before .before .before .read-current .ensures) (c .before .rows2 .ensures)
 
 slice-aggregate-judge-plan-2 : tie.Need-slice-aggregate-judge-plan-2
 slice-aggregate-judge-plan-2 c =
-    let a = c .before .before .before .before .before .before .before .before .before .before .before .before .before .before .before .before .before .before .before .before .before .before .args in
+    let a = c .before .before .before .before .before .before .before .before .before .before .before .before .before .before .before .before .before .before .before .before .before .before .before .args in
     dependencies-size (a .runtime) (a .dynamic) (a .bounds .now) (a .columns .now) (a .importers .now) (a .kinds .now) (a .targets .now) (tested (c .before .before .before .before .before .before .before .before .before .before .before .before)) (c .before .before .before .before .before .read-current .ensures) (c .before .before .rows2 .ensures)
 
 judge-plan-requires : tie.Need-judge-plan-requires

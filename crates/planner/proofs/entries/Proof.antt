@@ -5,10 +5,10 @@ use Rattle.planner.proofs.entries.Statement.{statement}
 use Rattle.planner.proofs.entries.Tie as tie
 
 abbrev Inv-loop : tie.InvT-loop
-Inv-loop runtime dynamic bounds columns rows row₀ row = row ≤ length rows
+Inv-loop runtime dynamic bounds columns names rows row₀ row = row ≤ length rows
 
 abbrev μ-loop : tie.MeasureT-loop
-μ-loop runtime dynamic bounds columns rows row₀ row = length rows - row
+μ-loop runtime dynamic bounds columns names rows row₀ row = length rows - row
 
 pub entries-spec : {M : Type 1} → statement M
 entries-spec =

@@ -42,18 +42,18 @@ p = two-lists #records·circle-records
 abbrev o : Loan
 o = record {
   lifetimes = 3;
-  count = 7;
+  count = 8;
   types = p .types;
   temps = tyRef erased mut (tyInt w32) ∷ sliceTy (tyRef erased mut (tyInt w32)) ∷ tyRef erased mut (tyInt w32) ∷ sliceTy (tyRef erased mut (tyInt w32)) ∷ [];
-  k = 8;
-  js = 12 ∷ 14 ∷ [];
+  k = 9;
+  js = 13 ∷ 15 ∷ [];
   form = #records·circle-records;
-  lends = λ rest. lending 6 11 12 (tyInt w32) (lending 7 13 14 (tyInt w32) rest);
+  lends = λ rest. lending 7 12 13 (tyInt w32) (lending 8 14 15 (tyInt w32) rest);
 }
 
 -- what the locals hold once the own slices are lent again
 abbrev again : (κs : Lfts 3) → Denots (typesAt (p .own) κs) → List (Option Val) → List (Option Val)
-again κs own ss = lent (own .1 .0) 13 14 (lent (own .0) 11 12 ss)
+again κs own ss = lent (own .1 .0) 14 15 (lent (own .0) 12 13 ss)
 
 module _ {M : Type 1} (𝓤 : URA M) (H : Heap 𝓤) (A : Atoms 𝓤) (W : Given 𝓤 H A) (at-mem : Memory → SProp 𝓤) (run : Routine → Fun 𝓤)
     (𝓣 : Tables 𝓤 H) (known : Triple 𝓤 (𝓣 .C #records·circle-records) (tripleOf 𝓤 H A c.signature (c.spec 𝓤 H A at-mem run))) where
@@ -66,15 +66,15 @@ module _ {M : Type 1} (𝓤 : URA M) (H : Heap 𝓤) (A : Atoms 𝓤) (W : Given
         at-slice = refl;
         address-held = λ bs. refl;
         rows-held = λ bs. refl;
-        others = (tt, (tt, (tt, (tt, (tt, (tt, (tt, tt)))))));
+        others = (tt, (tt, (tt, (tt, (tt, (tt, (tt, (tt, tt))))))));
         passed-on = λ bs γ κ′. refl;
-        lending = λ bs Γ rest post s. lends (a .1 .1 .1 .1 .1 .0) (ls o) bs (ready o (a .1 .1 .1 .1 .0) (flat (Ts p κs) (all-vals p κs a)) (bs 8)) 6 11 12 {Γ = Γ} refl refl refl refl refl refl (are .1 .1 .1 .1 .1 .0 .0 .1 .0) (lends (a .1 .1 .1 .1 .1 .1 .0) (ls o) bs (lent (a .1 .1 .1 .1 .1 .0) 11 12 (ready o (a .1 .1 .1 .1 .0) (flat (Ts p κs) (all-vals p κs a)) (bs 8))) 7 13 14 {Γ = Γ} refl refl refl refl refl refl (are .1 .1 .1 .1 .1 .1 .0 .0 .1 .0) s);
+        lending = λ bs Γ rest post s. lends (a .1 .1 .1 .1 .1 .1 .0) (ls o) bs (ready o (a .1 .1 .1 .1 .1 .0) (flat (Ts p κs) (all-vals p κs a)) (bs 9)) 7 12 13 {Γ = Γ} refl refl refl refl refl refl (are .1 .1 .1 .1 .1 .1 .0 .0 .1 .0) (lends (a .1 .1 .1 .1 .1 .1 .1 .0) (ls o) bs (lent (a .1 .1 .1 .1 .1 .1 .0) 12 13 (ready o (a .1 .1 .1 .1 .1 .0) (flat (Ts p κs) (all-vals p κs a)) (bs 9))) 8 14 15 {Γ = Γ} refl refl refl refl refl refl (are .1 .1 .1 .1 .1 .1 .1 .0 .0 .1 .0) s);
       })
-      (λ κs a κ′ rs r. ensured 𝓤 H A c.ended (c.clauses 𝓤 H A at-mem run) (κ′, κs .1) (a .0, (a .1 .0, (a .1 .1 .0, (a .1 .1 .1 .0, (rs, a .1 .1 .1 .1 .1))))) tt r)
-      (λ κs qs a κ′ rs. via 𝓤 _ (and-nothing 𝓤 _) (known (((κ′, κs .1), qs, tt, (a .0, (a .1 .0, (a .1 .1 .0, (a .1 .1 .1 .0, (rs, a .1 .1 .1 .1 .1))))), (all-vals p κs a .0, (all-vals p κs a .1 .0, (all-vals p κs a .1 .1 .0, (all-vals p κs a .1 .1 .1 .0, (slice-vals rs, own-vals p κs a)))))), tt)))
+      (λ κs a κ′ rs r. ensured 𝓤 H A c.ended (c.clauses 𝓤 H A at-mem run) (κ′, κs .1) (a .0, (a .1 .0, (a .1 .1 .0, (a .1 .1 .1 .0, (a .1 .1 .1 .1 .0, (rs, a .1 .1 .1 .1 .1 .1)))))) tt r)
+      (λ κs qs a κ′ rs. via 𝓤 _ (and-nothing 𝓤 _) (known (((κ′, κs .1), qs, tt, (a .0, (a .1 .0, (a .1 .1 .0, (a .1 .1 .1 .0, (a .1 .1 .1 .1 .0, (rs, a .1 .1 .1 .1 .1 .1)))))), (all-vals p κs a .0, (all-vals p κs a .1 .0, (all-vals p κs a .1 .1 .0, (all-vals p κs a .1 .1 .1 .0, (all-vals p κs a .1 .1 .1 .1 .0, (slice-vals rs, own-vals p κs a))))))), tt)))
       (λ κs a κ′ rs r.
       unsaid 𝓤 H A W {B = Lasts f.ended κs a} (λ ws. sem 𝓤 H A (lasts f.ended κs a ws))
-      (λ ws. c.clauses 𝓤 H A at-mem run (κ′, κs .1) (a .0, (a .1 .0, (a .1 .1 .0, (a .1 .1 .1 .0, (rs, a .1 .1 .1 .1 .1))))) .ensures tt r (atExit c.ended (κ′, κs .1) (a .0, (a .1 .0, (a .1 .1 .0, (a .1 .1 .1 .0, (rs, a .1 .1 .1 .1 .1))))) ws)))
+      (λ ws. c.clauses 𝓤 H A at-mem run (κ′, κs .1) (a .0, (a .1 .0, (a .1 .1 .0, (a .1 .1 .1 .0, (a .1 .1 .1 .1 .0, (rs, a .1 .1 .1 .1 .1 .1)))))) .ensures tt r (atExit c.ended (κ′, κs .1) (a .0, (a .1 .0, (a .1 .1 .0, (a .1 .1 .1 .0, (a .1 .1 .1 .1 .0, (rs, a .1 .1 .1 .1 .1 .1)))))) ws)))
 
 pub circle-of-spec : {M : Type 1} → stated.statement M
 unfolding code.routine tablesOf

@@ -40,11 +40,11 @@ p = number #records·reach-records
 abbrev o : Loan
 o = record {
   lifetimes = 1;
-  count = 6;
+  count = 7;
   types = p .types;
   temps = [];
-  k = 7;
-  js = 6 ∷ [];
+  k = 8;
+  js = 7 ∷ [];
   form = #records·reach-records;
   lends = λ rest. rest;
 }
@@ -64,15 +64,15 @@ module _ {M : Type 1} (𝓤 : URA M) (H : Heap 𝓤) (A : Atoms 𝓤) (W : Given
         at-slice = refl;
         address-held = λ bs. refl;
         rows-held = λ bs. refl;
-        others = (tt, (tt, (tt, (tt, (tt, (tt, tt))))));
+        others = (tt, (tt, (tt, (tt, (tt, (tt, (tt, tt)))))));
         passed-on = λ bs γ κ′. refl;
         lending = λ bs Γ rest post s. s;
       })
-      (λ κs a κ′ rs r. ensured 𝓤 H A c.ended (c.clauses 𝓤 H A at-mem run) (κ′, κs .1) (a .0, (a .1 .0, (a .1 .1 .0, (a .1 .1 .1 .0, (rs, a .1 .1 .1 .1 .1))))) tt r)
-      (λ κs qs a κ′ rs. via 𝓤 _ (and-nothing 𝓤 _) (known (((κ′, κs .1), qs, tt, (a .0, (a .1 .0, (a .1 .1 .0, (a .1 .1 .1 .0, (rs, a .1 .1 .1 .1 .1))))), (all-vals p κs a .0, (all-vals p κs a .1 .0, (all-vals p κs a .1 .1 .0, (all-vals p κs a .1 .1 .1 .0, (slice-vals rs, own-vals p κs a)))))), tt)))
+      (λ κs a κ′ rs r. ensured 𝓤 H A c.ended (c.clauses 𝓤 H A at-mem run) (κ′, κs .1) (a .0, (a .1 .0, (a .1 .1 .0, (a .1 .1 .1 .0, (a .1 .1 .1 .1 .0, (rs, a .1 .1 .1 .1 .1 .1)))))) tt r)
+      (λ κs qs a κ′ rs. via 𝓤 _ (and-nothing 𝓤 _) (known (((κ′, κs .1), qs, tt, (a .0, (a .1 .0, (a .1 .1 .0, (a .1 .1 .1 .0, (a .1 .1 .1 .1 .0, (rs, a .1 .1 .1 .1 .1 .1)))))), (all-vals p κs a .0, (all-vals p κs a .1 .0, (all-vals p κs a .1 .1 .0, (all-vals p κs a .1 .1 .1 .0, (all-vals p κs a .1 .1 .1 .1 .0, (slice-vals rs, own-vals p κs a))))))), tt)))
       (λ κs a κ′ rs r.
       unsaid 𝓤 H A W {B = Lasts f.ended κs a} (λ ws. sem 𝓤 H A (lasts f.ended κs a ws))
-      (λ ws. c.clauses 𝓤 H A at-mem run (κ′, κs .1) (a .0, (a .1 .0, (a .1 .1 .0, (a .1 .1 .1 .0, (rs, a .1 .1 .1 .1 .1))))) .ensures tt r (atExit c.ended (κ′, κs .1) (a .0, (a .1 .0, (a .1 .1 .0, (a .1 .1 .1 .0, (rs, a .1 .1 .1 .1 .1))))) ws)))
+      (λ ws. c.clauses 𝓤 H A at-mem run (κ′, κs .1) (a .0, (a .1 .0, (a .1 .1 .0, (a .1 .1 .1 .0, (a .1 .1 .1 .1 .0, (rs, a .1 .1 .1 .1 .1 .1)))))) .ensures tt r (atExit c.ended (κ′, κs .1) (a .0, (a .1 .0, (a .1 .1 .0, (a .1 .1 .1 .0, (a .1 .1 .1 .1 .0, (rs, a .1 .1 .1 .1 .1 .1)))))) ws)))
 
 pub reach-of-spec : {M : Type 1} → stated.statement M
 unfolding code.routine tablesOf

@@ -4,10 +4,10 @@ use Rattle.replay.proofs.calls_of.Statement.{statement}
 use Rattle.replay.proofs.calls_of.Tie as tie
 
 abbrev Inv-loop : tie.InvT-loop
-Inv-loop text at settings bounds columns calls done₀ k₀ done k = k ≤ calls
+Inv-loop text at settings bounds columns names calls done₀ k₀ done k = k ≤ calls
 
 abbrev μ-loop : tie.MeasureT-loop
-μ-loop text at settings bounds columns calls done₀ k₀ done k = calls - k
+μ-loop text at settings bounds columns names calls done₀ k₀ done k = calls - k
 
 pub calls-of-spec : {M : Type 1} → statement M
 calls-of-spec =

@@ -5,18 +5,18 @@ use mathlib.Core.List.{List}
 use Prim.Native.Nat.{ℕ}
 use borrow.Author.Needs.{needs}
 use Rattle.table.specs.Table.{Lent}
-use Rattle.table.proofs.Laws.{lent-cut}
+use Rattle.arrangement.proofs.OfProject.{lent-named-cut}
 use Rattle.shares.specs.Share.{WrittenShare}
 use Rattle.shares.proofs.write_share.Statement.{statement}
 use Rattle.shares.proofs.write_share.Tie as tie
 
 returns : tie.Need-returns
 returns c =
-    let a = c .before .before .before .before .before .before .before .before .before .before .args in
+    let a = c .before .before .before .before .before .before .before .before .before .before .before .args in
     let done = c .before .before .write-share-with-records in
-    let out : List ℕ = done .last .1 .1 .1 .1 .1 .1 .1 .0 in
+    let out : List ℕ = done .last .1 .1 .1 .1 .1 .1 .1 .1 .0 in
     subst (λ (t : Lent). WrittenShare t (a .out .now) (done .result) out)
-    (lent-cut (a .runtime) (a .dynamic) (a .bounds .now) (a .columns .now) (c .before .before .before .before .before .before .column .ensures) (c .before .before .before .before .before .column2 .ensures) (c .before .before .before .before .column3 .ensures))
+    (lent-named-cut (a .runtime) (a .dynamic) (a .bounds .now) (a .columns .now) (a .names .now) (c .before .before .before .before .before .before .column .ensures) (c .before .before .before .before .before .column2 .ensures) (c .before .before .before .before .column3 .ensures))
     (done .ensures)
 
 pub write-share-spec : {M : Type 1} → statement M

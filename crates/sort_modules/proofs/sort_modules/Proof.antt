@@ -12,12 +12,12 @@ use Rattle.sort_modules.proofs.sort_modules.Tie as tie
 
 returns : tie.Need-returns
 returns c =
-    let a = c .before .before .before .before .before .before .before .before .before .before .before .before .before .before .args in
+    let a = c .before .before .before .before .before .before .before .before .before .before .before .before .before .before .before .args in
     let done = c .before .before .before .before .sort-modules-with-records in
-    let numbers : List ℕ = done .last .1 .1 .1 .1 .1 .1 .1 .0 in
-    let sorted : List ℕ = done .last .1 .1 .1 .1 .1 .1 .1 .1 .0 in
+    let numbers : List ℕ = done .last .1 .1 .1 .1 .1 .1 .1 .1 .0 in
+    let sorted : List ℕ = done .last .1 .1 .1 .1 .1 .1 .1 .1 .1 .0 in
     subst (λ (t : Lent). SortModules t (a .numbers .now) (a .sorted .now) (done .result) numbers sorted)
-    (lent-cut (a .runtime) (a .dynamic) (a .bounds .now) (a .columns .now) (c .before .before .before .before .before .before .before .before .before .column .ensures) (c .before .before .before .before .before .before .before .before .column2 .ensures) (c .before .before .before .before .before .before .before .column3 .ensures))
+    (lent-cut (a .runtime) (a .dynamic) (a .bounds .now) (a .columns .now) (a .names .now) (c .before .before .before .before .before .before .before .before .before .column .ensures) (c .before .before .before .before .before .before .before .before .column2 .ensures) (c .before .before .before .before .before .before .before .column3 .ensures))
     (done .ensures)
 
 pub sort-modules-spec : {M : Type 1} → statement M

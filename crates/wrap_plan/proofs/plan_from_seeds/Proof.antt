@@ -12,11 +12,11 @@ use Rattle.wrap_plan.proofs.plan_from_seeds.Tie as tie
 
 returns : tie.Need-returns
 returns c =
-    let a = c .before .before .before .before .before .before .before .before .before .before .before .args in
+    let a = c .before .before .before .before .before .before .before .before .before .before .before .before .args in
     let done = c .before .before .plan-from-seeds-with-records in
-    let plan : List ℕ = done .last .1 .1 .1 .1 .1 .1 .1 .1 .0 in
+    let plan : List ℕ = done .last .1 .1 .1 .1 .1 .1 .1 .1 .1 .0 in
     subst (λ (t : Lent). PlanFromSeeds t (a .seeds .now) (a .marks .now) (done .result) plan)
-    (lent-cut (a .runtime) (a .dynamic) (a .bounds .now) (a .columns .now) (c .before .before .before .before .before .before .column .ensures) (c .before .before .before .before .before .column2 .ensures) (c .before .before .before .before .column3 .ensures))
+    (lent-cut (a .runtime) (a .dynamic) (a .bounds .now) (a .columns .now) (a .names .now) (c .before .before .before .before .before .before .column .ensures) (c .before .before .before .before .before .column2 .ensures) (c .before .before .before .before .column3 .ensures))
     (done .ensures)
 
 pub plan-from-seeds-spec : {M : Type 1} → statement M

@@ -13,13 +13,13 @@ use Rattle.records.proofs.label.label_columns.Statement.{statement}
 use Rattle.records.proofs.label.label_columns.Tie as tie
 
 -- the rows lie within each of the arrays
-fits : (c : tie.Else1) → Within (c .before .before .before .before .args .made)
-fits c = within (c .before .before .before .before .args .made) _ (c .before .before .before .before .good .1 .1 .1 .1 .0) (c .if1 .left)
+fits : (c : tie.Else1) → Within (c .before .before .before .before .before .args .made)
+fits c = within (c .before .before .before .before .before .args .made) _ (c .before .before .before .before .before .good .1 .1 .1 .1 .1 .0) (c .if1 .left)
 
 returns : tie.Need-returns
 returns c = λ records is.
-    let a = c .before .before .before .before .args in
-    labels-refused (lentWith (a .runtime) (a .dynamic) (a .bounds .now) (a .columns .now) (importerColumn records) (kindColumn records) (targetColumn records)) (a .labels .now) 1 (too-many (a .made) records is (c .if1 .taken) (a .runtime) (a .dynamic) (a .bounds .now) (a .columns .now)) (λ z. omega arith)
+    let a = c .before .before .before .before .before .args in
+    labels-refused (lentWith (a .runtime) (a .dynamic) (a .bounds .now) (a .columns .now) (a .names .now) (importerColumn records) (kindColumn records) (targetColumn records)) (a .labels .now) 1 (too-many (a .made) records is (c .if1 .taken) (a .runtime) (a .dynamic) (a .bounds .now) (a .columns .now) (a .names .now)) (λ z. omega arith)
 
 array-share-prefix-importers : tie.Need-array-share-prefix-importers
 array-share-prefix-importers c = let w = fits (c .before .before .before) in omega (arith, w .0, w .1, w .2)
@@ -41,9 +41,9 @@ slice-aggregate-labels-with-records-3 c = sym (length-take-le _ _ (let w = fits 
 
 returns-2 : tie.Need-returns-2
 returns-2 c = λ records is.
-    let a = c .before .before .before .before .before .before .before .before .before .before .before .before .before .before .args in
+    let a = c .before .before .before .before .before .before .before .before .before .before .before .before .before .before .before .args in
     let done = c .before .before .labels-with-records in
-    as-columns (λ importers kinds targets. LabelsPromise (lentWith (a .runtime) (a .dynamic) (a .bounds .now) (a .columns .now) importers kinds targets) (a .labels .now) (done .result) (done .last .1 .1 .1 .1 .1 .1 .1 .0)) (a .made) records is (c .before .before .before .before .before .before .before .before .before .before .if1 .left) (done .ensures)
+    as-columns (λ importers kinds targets. LabelsPromise (lentWith (a .runtime) (a .dynamic) (a .bounds .now) (a .columns .now) (a .names .now) importers kinds targets) (a .labels .now) (done .result) (done .last .1 .1 .1 .1 .1 .1 .1 .1 .0)) (a .made) records is (c .before .before .before .before .before .before .before .before .before .before .if1 .left) (done .ensures)
 
 pub label-columns-spec : {M : Type 1} → statement M
 label-columns-spec =

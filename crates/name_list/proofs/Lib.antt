@@ -1,0 +1,2 @@
+-- The laws behind finding the names.
+pub mod Sections

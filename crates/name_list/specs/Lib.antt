@@ -1,0 +1,2 @@
+-- Where the names of a text lie.
+pub mod Lying

@@ -1,0 +1,2 @@
+-- What the operation `sort_chunk_modules` promises.
+pub mod Promise
