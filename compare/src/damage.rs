@@ -16,7 +16,7 @@ pub fn damaged(r: &mut Random, p: &Project) -> Project {
 }
 
 fn one(r: &mut Random, p: &mut Project) {
-  match r.below(17) {
+  match r.below(19) {
     0 => p.runtime = r.pick(&[p.modules() as u32, p.modules() as u32 + 1, MARK]),
     1 => p.dynamic = r.pick(&[2, 3, MARK]),
     2 => {
@@ -46,7 +46,30 @@ fn one(r: &mut Random, p: &mut Project) {
       let row = r.row(p.modules().max(1));
       set(r, p, NEWER, &[row, p.modules() as u32]);
     }
+    14 | 15 => names(r, p),
     _ => any_value(r, p),
+  }
+}
+
+/// Breaks the form of the names, or nearly so: a byte, a line or a length that may not be, or may just be.
+fn names(r: &mut Random, p: &mut Project) {
+  if !p.is_named() {
+    p.names = b"a\n".repeat((p.modules() + r.below(3)).max(1));
+  }
+  let at = r.below(p.names.len().max(1)).min(p.names.len().saturating_sub(1));
+  match r.below(7) {
+    0 => p.names[at] = r.pick(b" !~\x7f\n\0\xff\t"),
+    1 => drop(p.names.remove(at)),
+    2 => p.names.push(r.pick(b"\na ")),
+    3 => drop(p.names.pop()),
+    4 => {
+      let line_end = p.names[at..].iter().position(|&byte| byte == b'\n').map_or(p.names.len(), |end| at + end);
+      let line = p.names[..line_end].rsplit(|&byte| byte == b'\n').next().map_or(0, <[u8]>::len);
+      let more = r.pick(&[63, 64, 65usize]).saturating_sub(line);
+      p.names.splice(line_end..line_end, vec![b'~'; more]);
+    }
+    5 => p.names = b"!\n".repeat(16_384 + r.below(2)),
+    _ => p.names.extend(b"~\n"),
   }
 }
 

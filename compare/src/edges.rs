@@ -3,8 +3,9 @@
 use project::{LISTS, MARK, Project, column::*};
 
 use crate::{
+  judge::one_call_each,
   model::Call,
-  refusal::{Values, limit, values},
+  refusal::{self, Values, limit, values},
   replay::{Asked, Case},
 };
 
@@ -39,7 +40,7 @@ fn case(name: String, p: &Project, calls: Vec<Asked>) -> Case {
 
 /// All of them.
 pub fn all() -> Vec<Case> {
-  [tests(), orders(), circles(), together(), chunks(), actual_orders(), risks(), replaced()].into_iter().flatten().collect()
+  [tests(), orders(), circles(), together(), chunks(), actual_orders(), risks(), replaced(), named()].into_iter().flatten().collect()
 }
 
 // The tests 1 to 4 and 10.
@@ -538,5 +539,120 @@ fn replaced() -> Vec<Case> {
     ];
     cases.push(case(format!("replaced: module {row} by {newer}"), &p, calls));
   }
+  cases
+}
+
+// Names, and the arrangement of members.
+
+/// These names, an LF after each.
+fn lines(names: &[&str]) -> Vec<u8> {
+  names.iter().flat_map(|name| name.bytes().chain([b'\n'])).collect()
+}
+
+/// A call of each operation that reads members, and of the arrangement, with a place for each.
+fn member_calls(p: &Project, root: u32) -> Vec<Asked> {
+  let n = p.modules();
+  vec![
+    (Call::Arrangement, vec![p[MEMBER].len()]),
+    (Call::Actual(root), vec![n; 2]),
+    (Call::OrderRisk(root), vec![n]),
+    (Call::Whole, vec![n]),
+  ]
+}
+
+/// One chunk with all modules, the entry 1 and these names; the runtime's name comes first of all.
+fn one_chunk(names: &[&str], sensitive: &[u32], members: &[u32]) -> Project {
+  let mut p = Project::default();
+  for &sensitive in sensitive {
+    p.push(NORMAL, [1, 1, sensitive, 0, 1, 0, 0, MARK]);
+  }
+  p.push(ORDER, [0]);
+  members.iter().for_each(|&member| p.push(MEMBER_CHUNK, [0, member]));
+  p.push(ENTRY, [1, 0]);
+  p.names = lines(names);
+  p
+}
+
+/// `~` against `!`, names that differ in their last byte, the longest; rolldown's own; a member twice; unreached and external modules; numbers after replacement; each way to break the
+/// form, against 1 and 3; no names; a slice too short; as many names as there are modules at most.
+fn named() -> Vec<Case> {
+  let mut cases = Vec::new();
+  let mut add = |name: &str, p: &Project, calls: Vec<Asked>| cases.push(case(format!("names: {name}"), p, calls));
+  let tilde = one_chunk(&["runtime", "entry", "!", "~", "a~", "a!", "a}"], &[0; 7], &[6, 5, 4, 3, 2, 1, 0]);
+  add("`~` at the start comes before `!`, and inside after `}`", &tilde, member_calls(&tilde, 1));
+  let long = "x".repeat(63);
+  let longest: Vec<String> = ["b", "a", "~", "!", "c"].iter().map(|last| format!("{long}{last}")).collect();
+  let longest: Vec<&str> = longest.iter().map(String::as_str).collect();
+  let p = one_chunk(&longest, &[0; 5], &[0, 1, 2, 3, 4]);
+  add("64 bytes, equal up to the last", &p, member_calls(&p, 1));
+  let mut own = one_chunk(
+    &["a", "rolldown:a", "~rolldown/a", "rolldown/a", "~rolldown:", "rolldown", "~rolldown", "rolldown:"],
+    &[0, 1, 0, 1, 0, 0, 0, 0],
+    &[0, 1, 2, 3, 4, 5, 6, 7],
+  );
+  for target in [7, 4, 2] {
+    own.push(RECORD_MODULE, [1, 0, target]);
+  }
+  add("rolldown's own, and names that are nearly so", &own, member_calls(&own, 1));
+  let mut twice = one_chunk(&["r", "e", "c", "b", "a"], &[0, 1, 0, 0, 1], &[4, 2, 3, 2, 1, 4, 0, 3]);
+  twice.push(RECORD_MODULE, [1, 0, 4]);
+  add("members twice", &twice, member_calls(&twice, 1));
+  let mut unreached = one_chunk(&["r", "e", "d", "c", "b"], &[0, 1, 1, 0, 0], &[2, 4, 3, 1, 0]);
+  unreached[NORMAL][3] = 0;
+  for (kind, target) in [(0, 3), (2, MARK), (3, 4)] {
+    unreached.push(RECORD_MODULE, [1, kind, target]);
+  }
+  add("one unreached, one external", &unreached, member_calls(&unreached, 1));
+  let mut replaced = one_chunk(&["r", "e", "d", "c", "b"], &[0, 1, 1, 1, 1], &[4, 3, 2, 1, 0]);
+  replaced[NEWER][2] = 4;
+  for target in [2, 3, 4] {
+    replaced.push(RECORD_MODULE, [1, 0, target]);
+  }
+  add("numbers after replacement", &replaced, member_calls(&replaced, 1));
+  let mut two = listing();
+  two.names = lines(&["~r", "entry", "b", "a"]);
+  add("document 01's listing with names", &two, member_calls(&two, 1));
+  two[SENSITIVE] = vec![0; 4];
+  add("the same without sensitive modules", &two, member_calls(&two, 1));
+  for short in [3, 4, 5] {
+    add(&format!("{short} places"), &two, vec![(Call::Arrangement, vec![short])]);
+  }
+  let broken: [(&str, &str); 11] = [
+    ("no name at all", ""),
+    ("an empty line alone", "\n"),
+    ("a line too few", "a\nb\nc\n"),
+    ("a line too many", "a\nb\nc\nd\ne\n"),
+    ("an empty line for a name", "a\n\nc\nd\n"),
+    ("an empty line behind", "a\nb\nc\nd\n\n"),
+    ("no LF at the end", "a\nb\nc\nd"),
+    ("a space", "a\nb b\nc\nd\n"),
+    ("a byte 127", "a\nb\x7f\nc\nd\n"),
+    ("65 bytes", "a\nxxxxxxxxxxxxxxxxxxxxxxxxxxxxxxxxxxxxxxxxxxxxxxxxxxxxxxxxxxxxxxxxx\nc\nd\n"),
+    ("a tab", "a\nb\nc\nd\t\n"),
+  ];
+  for (name, names) in broken {
+    let p = Project { names: names.into(), ..listing() };
+    add(name, &p, one_call_each(4).into_iter().map(|call| (call.clone(), vec![4; refusal::places(&p, &call).len()])).collect());
+  }
+  let refusals = || vec![(Call::Refusal, vec![]), (Call::Arrangement, vec![0])];
+  let mut fallen = Project { names: lines(&["a"]), ..listing() };
+  fallen[MEMBER_CHUNK].swap(0, 3);
+  add("broken, and members fall", &fallen, refusals());
+  let fallen = Project { names: lines(&["a", "b", "c", "d"]), ..fallen };
+  add("members fall", &fallen, refusals());
+  let mut uneven = Project { names: lines(&["a"]), ..listing() };
+  uneven[MEMBER].pop();
+  add("broken, and a column is too short", &uneven, refusals());
+  // Each name of three bytes, in falling order; members as they rise.
+  let mut many = Project::default();
+  many.push(ORDER, [0]);
+  for row in 0..4_096u32 {
+    many.push(NORMAL, [1, 1, 0, 0, 1, 0, 0, MARK]);
+    many.push(MEMBER_CHUNK, [0, row]);
+    let place = 4_095 - row;
+    many.names.extend([b'a' + (place / 256) as u8, b'0' + (place / 16 % 16) as u8, b'A' + (place % 16) as u8, b'\n']);
+  }
+  many.push(ENTRY, [0, 0]);
+  add("4096 names", &many, vec![(Call::Arrangement, vec![4_096])]);
   cases
 }

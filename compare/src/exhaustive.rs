@@ -225,3 +225,35 @@ pub fn replaced_modules(try_it: &mut dyn FnMut(Project)) {
     }
   }
 }
+
+/// Three modules beside the runtime, each a leaf, sensitive, with a record, with a record that isn't an import or external, and each with one of some names; all four stand in
+/// one chunk, one of them twice, and the first is reached.
+pub fn named_modules(try_it: &mut dyn FnMut(Project)) {
+  const NAMES: [&str; 6] = ["a", "~a", "!", "b~", "~rolldown/", "rolldown:a"];
+  let name = |at: usize| NAMES[at % NAMES.len()];
+  for kinds in 0..125 {
+    for names in 0..216 {
+      let mut p = plain(4);
+      p[SENSITIVE].fill(0);
+      for module in 1..4 {
+        match kinds / 5usize.pow(module - 1) % 5 {
+          1 => p[SENSITIVE][module as usize] = 1,
+          2 => p.push(RECORD_MODULE, [module, 0, 3]),
+          3 => p.push(RECORD_MODULE, [module, 3, MARK]),
+          4 => p[NORMAL][module as usize] = 0,
+          _ => {}
+        }
+      }
+      for line in ["a~", name(names), name(names / 6), name(names / 36)] {
+        p.names.extend(line.bytes().chain([b'\n']));
+      }
+      p.push(ORDER, [0]);
+      for member in [3, 0, 2, 3, 1] {
+        p.push(MEMBER_CHUNK, [0, member]);
+      }
+      p.push(ENTRY, [1, 0]);
+      p.push(ENTRY, [2, 0]);
+      try_it(p);
+    }
+  }
+}

@@ -1,7 +1,7 @@
 //! Random projects that pass tests 1 to 4. Each draws its own densities, so that every list, rule and rare shape occurs:
 //! cycles of modules and chunks, self edges, wraps, externals, modules not included, uses, symbols and their chains, the
 //! same member in several chunks or twice in one, a `chunk` column that disagrees with the member rows, entries without
-//! chunk or not included, seeds that aren't eligible, repeated rows.
+//! chunk or not included, seeds that aren't eligible, repeated rows; names that begin alike, rolldown's own and nearly so, with `~` at the start and inside.
 use project::{MARK, Project, column::*};
 
 use crate::random::Random;
@@ -180,6 +180,7 @@ pub fn project(r: &mut Random, sizes: Sizes, profile: Profile, ties: bool) -> Pr
   }
   maker.seeds(laid);
   maker.newer();
+  maker.names();
   maker.p
 }
 
@@ -219,6 +220,36 @@ impl Maker<'_> {
       self.p[NORMAL][runtime] = 1;
       self.p[INCLUDED][runtime] = 1;
     }
+  }
+
+  /// In two of five projects the modules have names, mostly different ones.
+  fn names(&mut self) {
+    if !self.r.coin(0.4) {
+      return;
+    }
+    let beginning = self.r.pick(&["", "", "", "a", "a-beginning-that-all-names-have-in-common-and-that-is-long/"]);
+    let own = self.r.pick(&[0.1, 0.4]);
+    let repeats = self.r.coin(0.15);
+    let mut seen = std::collections::HashSet::new();
+    for _ in 0..self.n {
+      let mut name = self.name(beginning, own);
+      while !repeats && seen.contains(&name) {
+        name = self.name(beginning, own);
+      }
+      self.p.names.extend(&name);
+      self.p.names.push(b'\n');
+      seen.insert(name);
+    }
+  }
+
+  fn name(&mut self, beginning: &str, own: f64) -> Vec<u8> {
+    const BEGINNINGS: [&str; 8] = ["rolldown:", "~rolldown/", "~rolldown/", "rolldown/", "~rolldown:", "rolldown", "~rolldow", "~~rolldown/"];
+    let mut name = if self.r.coin(own) { self.r.pick(&BEGINNINGS).into() } else { beginning.to_string() };
+    let most = if self.n > 64 { 4 } else { 3 };
+    for _ in 0..self.r.from_to(1, most) {
+      name.push(self.r.pick(&['~', '~', '!', '}', 'a', 'b', 'A', '0', '/', ':']));
+    }
+    name.into_bytes()
   }
 
   /// In half of the projects some modules are superseded by later ones, near or far.

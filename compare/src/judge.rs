@@ -4,7 +4,7 @@ use project::{MARK, Project, column::*};
 
 use crate::{
   lent::Lent,
-  model::{Call, Given, Model, Set, members, set_of},
+  model::{Call, Given, Model, Set, first_broken, members, set_of},
   random::Random,
   refusal,
 };
@@ -19,6 +19,9 @@ pub struct Tally {
   /// Accepted, and refused by 1 to 4 and 10.
   pub refused: [usize; 11],
   pub tied: usize,
+  /// Accepted projects with names, and those of them with a chunk in which two modules tie.
+  pub named: usize,
+  pub open: usize,
   /// Results of the original that were compared.
   pub results: usize,
   /// Calls of the library that were compared: accepted, and refused by each number.
@@ -36,6 +39,7 @@ impl std::fmt::Display for Tally {
     let [accepted, one, two, three, four, .., ten] = self.refused;
     let [i, ii, iii, iv] = self.by_rule;
     writeln!(f, "{} projects: {accepted} accepted, {} of them with ties;", self.projects, self.tied)?;
+    writeln!(f, "  {} accepted ones with names, {} of them with a chunk in which two modules tie;", self.named, self.open)?;
     writeln!(f, "  refused by 1: {one}, by 2: {two}, by 3: {three}, by 4: {four}, by 10: {ten}")?;
     writeln!(f, "  accepted ones with a cyclic chunk {}, a host {}, a risk {};", self.with_cycles, self.with_hosts, self.with_risk)?;
     writeln!(f, "  risks and seeds added to by (i) {i}, (ii) {ii}, (iii) {iii}, (iv) {iv}, in later rounds {}", self.later_rounds)?;
@@ -107,6 +111,8 @@ impl Judge {
     let tied = p.tied();
     self.tally.tied += usize::from(tied);
     let original = Original::of(p);
+    self.tally.named += usize::from(p.is_named());
+    self.tally.open += usize::from(original.open_chunks().contains(&true));
     let (difference, results) = against_original(p, model, &original, tied);
     self.tally.results += results;
     self.note(p, model);
@@ -168,7 +174,7 @@ impl Judge {
 
   /// Each operation with bounds that don't fit.
   fn unfit_differs(&mut self, p: &Project, subject: Subject, lent: &Lent) -> Difference {
-    for call in one_call_each() {
+    for call in one_call_each(p.modules()) {
       let room = roomy(&refusal::places(p, &call), 3);
       self.tally.calls[1] += 1;
       if let Some(words) = call_differs(subject, lent, &call, &room, Err(1)) {
@@ -205,8 +211,8 @@ pub fn risks(root: u32) -> [Call; 3] {
   [Call::OrderRisk(root), Call::CycleRisk(root), Call::Risk(root)]
 }
 
-/// A call of each operation.
-pub fn one_call_each() -> [Call; 14] {
+/// A call of each operation, of a project with so many modules.
+pub fn one_call_each(modules: usize) -> [Call; 16] {
   [
     Call::Sort,
     Call::Expected(1),
@@ -222,7 +228,53 @@ pub fn one_call_each() -> [Call; 14] {
     Call::Entries(vec![1]),
     Call::Grounds,
     Call::Circles,
+    Call::Check(vec![1], vec![0; modules]),
+    Call::Arrangement,
   ]
+}
+
+/// A set as the marks of a plan.
+pub fn marks(set: &Set) -> Vec<u32> {
+  set.iter().map(|&is| u32::from(is)).collect()
+}
+
+/// Plans to be checked: for three sets of seeds the plan from them, that with a module less and with one more or less, the seeds alone and another
+/// set; all eligible modules; no module and every module with every seed; and what has the wrong form.
+fn checks(p: &Project, model: &Model) -> Vec<Call> {
+  let n = p.modules();
+  let sets = sets(n);
+  let some = sets.len() - 3;
+  let mut calls = Vec::new();
+  for (at, seeds) in sets[some..].iter().enumerate() {
+    let plan = model.plan_from(seeds);
+    let mut plans = vec![plan.clone(), set_of(n, seeds), set_of(n, &sets[at])];
+    let other = (at * 7 % n) as u32;
+    plans.extend(members(&plan).into_iter().take(2).chain([other]).map(|m| {
+      let mut set = plan.clone();
+      set[m as usize] = !set[m as usize];
+      set
+    }));
+    calls.extend(plans.iter().map(|set| Call::Check(seeds.clone(), marks(set))));
+  }
+  calls.push(Call::Check(vec![0], marks(&set_of(n, &model.eligible()))));
+  let all: Vec<u32> = (0..n as u32).collect();
+  calls.extend([0, 1].map(|mark| Call::Check(all.clone(), vec![mark; n])));
+  for plan in [vec![], vec![0; n - 1], vec![0; n + 1], vec![2; n], vec![MARK; n]] {
+    calls.push(Call::Check(vec![0], plan));
+  }
+  calls.push(Call::Check(vec![n as u32], vec![2]));
+  calls
+}
+
+/// What is said of a plan by what the original calls eligible and by what each of its rules asks for with that plan.
+pub fn check_by_the_original(original: &Original, seeds: &[u32], plan: &[u32]) -> usize {
+  let planned: Vec<u32> = (0..).zip(plan).filter(|&(_, &mark)| mark == 1).map(|(m, _)| m).collect();
+  let eligible = original.eligible();
+  let wrong = planned.iter().copied().filter(|m| !eligible.contains(m)).collect();
+  let lacking = seeds.iter().copied().filter(|m| eligible.contains(m) && !planned.contains(m)).collect();
+  let mut by_condition = vec![wrong, lacking];
+  by_condition.extend(original.asked(&planned));
+  first_broken(by_condition)
 }
 
 fn against_original(
@@ -266,14 +318,23 @@ fn against_original(
   let theirs = original.reaches().into_iter().map(u32::from).collect();
   check(&|| "reach".into(), reaches, theirs);
 
+  if p.is_named() {
+    for (chunk, (theirs, open)) in original.members().into_iter().zip(original.open_chunks()).enumerate() {
+      if !open {
+        check(&|| format!("members of chunk {chunk}"), model.arranged()[chunk].clone(), theirs);
+      }
+    }
+  }
+
   let entries = original.entries();
+  let open = entries.iter().any(|entry| entry.open);
   let analysed: Vec<u32> = entries.iter().map(|entry| entry.root).collect();
   check(&|| "analysed entries".into(), model.analysed(), analysed);
   for entry in entries {
     let root = entry.root;
     check(&|| format!("expected {root}"), model.expected(root), entry.expected);
     check(&|| format!("cycle {root}"), members(&model.cycle_risk(root)), entry.cycle);
-    if !tied {
+    if !tied && !entry.open {
       let (order, hosts) = model.actual(root);
       check(&|| format!("actual {root}"), order, entry.actual);
       check(&|| format!("hosts {root}"), hosts, entry.hosts);
@@ -281,7 +342,7 @@ fn against_original(
       check(&|| format!("both risks of {root}"), members(&model.risk(root)), entry.risk);
     }
   }
-  if !tied {
+  if !tied && !open {
     check(&|| "plan".into(), members(&model.plan()), original.plan());
   }
   for set in sets(p.modules()) {
@@ -296,13 +357,20 @@ fn against_original(
       check(&|| format!("rule {} with {set:?} planned", rule + 1), ours, theirs);
     }
   }
+  for call in checks(p, model) {
+    let Call::Check(seeds, plan) = &call else { continue };
+    if refusal::formed(p, &call) && seeds.iter().all(|&seed| (seed as usize) < p.modules()) {
+      let (ours, theirs) = (model.check(seeds, plan), check_by_the_original(original, seeds, plan));
+      check(&|| format!("{call:?}"), vec![ours as u32], vec![theirs as u32]);
+    }
+  }
   (first, results)
 }
 
 /// The calls that are tried: fitting arguments and some that don't fit.
 fn calls(p: &Project, model: Option<&Model>) -> Vec<Call> {
   let (n, c) = (p.modules() as u32, p.chunks() as u32);
-  let mut calls = vec![Call::Sort, Call::Circles, Call::Labels, Call::Whole, Call::Refusal, Call::Grounds];
+  let mut calls = vec![Call::Sort, Call::Circles, Call::Labels, Call::Whole, Call::Refusal, Call::Grounds, Call::Arrangement];
   if model.is_none() {
     for root in [0, n, MARK] {
       calls.extend([Call::Expected(root), Call::Actual(root)]);
@@ -311,6 +379,7 @@ fn calls(p: &Project, model: Option<&Model>) -> Vec<Call> {
     calls.extend([Call::Reach(0), Call::Reach(c)]);
     calls.extend([Call::PlanFrom(vec![]), Call::PlanFrom(vec![0]), Call::PlanFrom(vec![n])]);
     calls.extend([Call::Entries(vec![]), Call::Entries(vec![0]), Call::Entries(vec![n])]);
+    calls.extend([Call::Check(vec![], vec![0; n as usize]), Call::Check(vec![n], vec![2])]);
     return calls;
   }
   for root in roots(p.modules()).into_iter().chain([n, MARK]) {
@@ -330,6 +399,7 @@ fn calls(p: &Project, model: Option<&Model>) -> Vec<Call> {
     calls.push(Call::Reach(chunk));
   }
   calls.extend(sets(p.modules()).into_iter().map(Call::PlanFrom));
+  calls.extend(model.into_iter().flat_map(|model| checks(p, model)));
   for past in [n, MARK] {
     calls.push(Call::PlanFrom(vec![0, past]));
   }
@@ -338,6 +408,7 @@ fn calls(p: &Project, model: Option<&Model>) -> Vec<Call> {
     calls.push(Call::PlanFrom(vec![0; 16_385]));
     calls.push(Call::PlanFrom(vec![n; 16_385]));
     calls.push(Call::Entries(vec![0; 16_385]));
+    calls.extend([16_384, 16_385].map(|many| Call::Check(vec![0; many], vec![0; n as usize])));
   }
   calls
 }

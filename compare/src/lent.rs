@@ -1,4 +1,4 @@
-//! A project as it is lent: where each column starts, with where the last ends, and all columns one after the other.
+//! A project as it is lent: where each column starts, with where the last ends, all columns one after the other, and the lines of the names.
 use project::{COLUMNS, MARK, Project};
 
 #[derive(Clone, Debug, PartialEq, Eq)]
@@ -7,11 +7,18 @@ pub struct Lent {
   pub dynamic: u32,
   pub bounds: Vec<u32>,
   pub columns: Vec<u32>,
+  pub names: Vec<u8>,
 }
 
 impl Lent {
   pub fn of(p: &Project) -> Self {
-    Self { runtime: p.runtime, dynamic: p.dynamic, bounds: p.bounds(), columns: p.columns.concat() }
+    Self {
+      runtime: p.runtime,
+      dynamic: p.dynamic,
+      bounds: p.bounds(),
+      columns: p.columns.concat(),
+      names: p.names.clone(),
+    }
   }
 
   /// Whether the bounds are one more than the columns, the first 0, none below the one before, and the last the length of the columns.
@@ -30,6 +37,7 @@ impl Lent {
       columns: std::array::from_fn(|k| {
         self.columns[self.bounds[k] as usize..self.bounds[k + 1] as usize].to_vec()
       }),
+      names: self.names.clone(),
     })
   }
 

@@ -1,7 +1,10 @@
 //! The library: calls of its functions on a project that is lent.
-use jolmuqter::{Refused, Table};
+use jolmuqter::{Judgement, Refused, Table};
 
-use crate::{lent::Lent, model::Call};
+use crate::{
+  lent::Lent,
+  model::{Call, broken},
+};
 
 /// Both kinds of risk, joined.
 fn joined(table: &Table, root: u32, risk: &mut [u32]) -> Result<usize, Refused> {
@@ -14,8 +17,8 @@ fn joined(table: &Table, root: u32, risk: &mut [u32]) -> Result<usize, Refused> 
 
 /// The library's answer to a call, as a count or the number of a refusal.
 pub fn call(lent: &Lent, call: &Call, outputs: &mut [Vec<u32>]) -> Result<usize, u32> {
-  let Lent { runtime, dynamic, bounds, columns } = lent;
-  let table = Table { runtime: *runtime, dynamic: *dynamic, bounds, columns, names: &[] };
+  let Lent { runtime, dynamic, bounds, columns, names } = lent;
+  let table = Table { runtime: *runtime, dynamic: *dynamic, bounds, columns, names };
   let answer = match (call, outputs) {
     (Call::Sort, [numbers, sorted]) => table.sort_modules(numbers, sorted),
     (Call::Expected(root), [order]) => table.expected_order(*root, order),
@@ -31,6 +34,11 @@ pub fn call(lent: &Lent, call: &Call, outputs: &mut [Vec<u32>]) -> Result<usize,
     (Call::Entries(entries), [order]) => table.entries_order(entries, order),
     (Call::Grounds, [grounds]) => table.grounds(grounds),
     (Call::Circles, [paths, lengths]) => table.import_circles(paths, lengths),
+    (Call::Arrangement, [members]) => table.sort_chunk_modules(members),
+    (Call::Check(seeds, plan), []) => table.check_plan(seeds, plan).map(|judgement| match judgement {
+      Judgement::Accepted => 0,
+      Judgement::Broken(condition, module) => broken(condition, module),
+    }),
     _ => unreachable!("outputs that {call:?} doesn't have"),
   };
   answer.map_err(|Refused(number)| number)

@@ -1,4 +1,4 @@
-//! Each list with one row fewer than its limit, just as many, and one more; no module; and every list but the entries full.
+//! Each list with one row fewer than its limit, just as many, and one more; names at their limits; no module; and every list but the entries full.
 use project::{LISTS, MARK, Project, column::*};
 
 use crate::{
@@ -57,6 +57,28 @@ pub fn limits(try_it: &mut dyn FnMut(Project)) {
       }
       try_it(p);
     }
+  }
+  // The names: one line fewer than there are modules, as many, and one more; as many lines as a list may have rows, and one more; the longest name, and one longer.
+  for lines in [3, 4, 5, 16_384, 16_385] {
+    try_it(Project { names: b"a\n".repeat(lines), ..few() });
+  }
+  for length in [1, 64, 65] {
+    let names = [vec![b'~'; length], b"\n!\n~!\na~\n".to_vec()].concat();
+    try_it(Project { names, ..few() });
+  }
+  try_it(Project { names: b"a\n".to_vec(), ..Project::default() });
+  // As many modules as there may be and one more, with as many names, the longest, that differ in their last bytes.
+  for modules in [4_096, 4_097] {
+    let mut p = few();
+    while p.modules() < modules {
+      further(&mut p, NORMAL, 0);
+    }
+    p[MEMBER_CHUNK] = vec![0; modules];
+    p[MEMBER] = (0..modules as u32).map(|row| (row * 1_021) % modules as u32).collect();
+    for row in 0..modules {
+      p.names.extend(format!("{:a>60}{:04}\n", "", (row * 7) % 5_000).bytes());
+    }
+    try_it(p);
   }
   try_it(Project::default());
   let mut none = few();

@@ -1,10 +1,10 @@
-//! `compare [--seed S] [--count N] [--wrong | --replay | --program PATH]`. See ../README.md.
+//! `compare [--seed S] [--count N] [--model | --wrong | --replay | --program PATH]`. See ../README.md.
 use std::process::exit;
 
 use compare::{
   damage, exhaustive, generate,
   generate::{PROFILES, Sizes},
-  judge::Judge,
+  judge::{Judge, Subject},
   library, limits, program,
   random::Random,
   refusal, replay,
@@ -17,6 +17,8 @@ use project::{Project, text::render};
 struct Flags {
   seed: u64,
   count: usize,
+  /// Compare the original with the model alone, and no library.
+  model: bool,
   /// Only find out how soon each wrong reading is told from the right one.
   wrong: bool,
   /// Only write the replay list.
@@ -26,7 +28,7 @@ struct Flags {
 }
 
 fn flags() -> Flags {
-  let mut flags = Flags { seed: 1, count: 200_000, wrong: false, replay: false, program: None };
+  let mut flags = Flags { seed: 1, count: 200_000, model: false, wrong: false, replay: false, program: None };
   let mut args = std::env::args().skip(1);
   while let Some(arg) = args.next() {
     let mut word = || args.next().unwrap_or_else(usage);
@@ -34,6 +36,7 @@ fn flags() -> Flags {
     match arg.as_str() {
       "--seed" => flags.seed = number(),
       "--count" => flags.count = number() as usize,
+      "--model" => flags.model = true,
       "--wrong" => flags.wrong = true,
       "--replay" => flags.replay = true,
       "--program" => flags.program = Some(word()),
@@ -44,7 +47,7 @@ fn flags() -> Flags {
 }
 
 fn usage<T>() -> T {
-  eprintln!("compare [--seed S] [--count N] [--wrong | --replay | --program PATH]");
+  eprintln!("compare [--seed S] [--count N] [--model | --wrong | --replay | --program PATH]");
   exit(2)
 }
 
@@ -57,7 +60,7 @@ fn judged(judge: &mut Judge, p: &Project, from: &str) {
   let words = fresh().differs(&small).unwrap_or(difference);
   println!("DIFFERENCE ({from})\n{words}\n");
   if (0..project::COLUMNS).map(|column| small[column].len()).sum::<usize>() < 2000 {
-    print!("{}", render(&small));
+    print!("{}", String::from_utf8_lossy(&render(&small)));
   }
   println!("{:?}", small);
   exit(1)
@@ -85,14 +88,16 @@ fn numbered(seed: u64, number: usize) -> Project {
 }
 
 fn run_all(flags: &Flags) {
-  let mut judge = Judge { subject: Some(library::call), ..Judge::default() };
-  let families: [(&str, fn(&mut dyn FnMut(Project))); 7] = [
+  let subject: Option<Subject> = if flags.model { None } else { Some(library::call) };
+  let mut judge = Judge { subject, ..Judge::default() };
+  let families: [(&str, fn(&mut dyn FnMut(Project))); 8] = [
     ("graphs of three modules", exhaustive::module_graphs),
     ("graphs of chunks", exhaustive::chunk_graphs),
     ("three chunks with ties", exhaustive::tied_chunks),
     ("rows of two modules", exhaustive::module_rows),
     ("references of three symbols", exhaustive::references),
     ("four modules that supersede each other", exhaustive::replaced_modules),
+    ("three modules with names", exhaustive::named_modules),
     ("sizes around the limits", limits::limits),
   ];
   for (name, family) in families {

@@ -1,4 +1,4 @@
-//! Document 01's operations, with ties as C-13 has them, the grounds of C-15, the risk in two kinds as C-17 has it and modules read through `newer` as C-18 has it, and C-12's, written from their
+//! Document 01's operations, with ties as C-13 has them, the grounds of C-15, the check of C-16, the risk in two kinds as C-17 has it, modules read through `newer` as C-18 has it and members arranged as C-24 has it, and C-12's, written from their
 //! words and not from the Rust. Plain and slow on purpose. A project that it is made of passes tests 1 to 4 and 10.
 use std::borrow::Cow;
 
@@ -27,6 +27,21 @@ pub enum Call {
   Grounds,
   /// The import circles.
   Circles,
+  /// A plan made elsewhere: the seeds, and its marks.
+  Check(Vec<u32>, Vec<u32>),
+  /// The members of each chunk, arranged.
+  Arrangement,
+}
+
+/// A broken condition, from 1 on, and its module, as the library's code has them.
+pub fn broken(condition: u32, module: u32) -> usize {
+  (condition as usize) << 16 | module as usize
+}
+
+/// The first condition that modules break, with the lowest of them, as one number; 0 where none does.
+pub fn first_broken(by_condition: Vec<Vec<u32>>) -> usize {
+  let named = |(modules, condition): (Vec<u32>, u32)| modules.into_iter().min().map(|m| broken(condition, m));
+  by_condition.into_iter().zip(1..).find_map(named).unwrap_or(0)
 }
 
 /// What an accepted call gives: its count, and each output from place 0.
@@ -209,6 +224,7 @@ impl<'a> Model<'a> {
 
   /// The model with one thing done wrong: what a comparison must find.
   pub fn turned(p: &'a Project, wrong: Option<Wrong>) -> Self {
+    let written = p;
     let p = read(p, wrong);
     let mut records = vec![Vec::new(); p.modules()];
     for row in 0..p[RECORD_MODULE].len() {
@@ -234,6 +250,7 @@ impl<'a> Model<'a> {
     model.grounds = model.all_grounds();
     model.sensitive = model.grounds.iter().map(|&ground| ground > 0).collect();
     model.eligible = (0..modules as u32).map(|m| model.is_eligible(m)).collect();
+    model.members = model.members_read(written);
     model.onward = (0..chunks as u32).map(|chunk| model.onward_of(chunk)).collect();
     model.components = (0..chunks as u32).map(|chunk| model.component_of(chunk)).collect();
     model.entry_orders = model.analysed().into_iter().map(|entry| model.expected(entry)).collect();
@@ -434,6 +451,65 @@ impl<'a> Model<'a> {
       self.execute(root, root, &mut load);
     }
     (load.order, load.hosts)
+  }
+
+  // ------------------------------------------------------------ the arrangement of members
+
+  /// The members of each chunk as they are read: "in this arrangement exactly if the project has names".
+  fn members_read(&self, written: &Project) -> Vec<Vec<u32>> {
+    if !self.p.is_named() || self.is(Wrong::MembersAsWritten) {
+      return self.members.clone();
+    }
+    let names: Vec<Vec<u8>> = self.p.module_names().iter().map(|name| self.name_read(name)).collect();
+    let mut unread = Project { names: Vec::new(), ..written.clone() };
+    unread[NEWER].fill(MARK);
+    let numbers = if self.is(Wrong::NumbersAsWritten) { Model::of(&unread).numbers_and_sorted().0 } else { self.numbers_and_sorted().0 };
+    let arranged = |members: &Vec<u32>| {
+      let mut members = members.clone();
+      members.sort_by_key(|&m| (self.member_key(&names[m as usize], numbers[m as usize], m), m));
+      if self.is(Wrong::MembersOnce) {
+        members.dedup();
+      }
+      members
+    };
+    self.members.iter().map(arranged).collect()
+  }
+
+  /// A name, as the wrong readings of `~` have it.
+  fn name_read(&self, name: &[u8]) -> Vec<u8> {
+    let mut name = name.to_vec();
+    if self.is(Wrong::TildeAsItself) && name[0] == 0 {
+      name[0] = b'~';
+    }
+    if self.is(Wrong::TildeInside) {
+      name.iter_mut().filter(|byte| **byte == b'~').for_each(|byte| *byte = 0);
+    }
+    name
+  }
+
+  /// "First come names beginning `rolldown:` or byte 0 and `rolldown/`, by module number from the sort. Then come normal modules without records and without
+  /// the sensitive flag, by name bytes. The others follow by module number." The group, and a number or a name.
+  fn member_key(&self, name: &[u8], number: u32, m: u32) -> (u32, u32, Vec<u8>) {
+    let own = name.starts_with(b"rolldown:")
+      || name.starts_with(b"\0rolldown/")
+      || (self.is(Wrong::OwnWithoutColon) && name.starts_with(b"rolldown"))
+      || (self.is(Wrong::OwnWithoutZero) && name.starts_with(b"rolldown/"));
+    let counted = |record: &Record| record.kind == 0 || !self.is(Wrong::LeavesWithoutImports);
+    let sensitive = if self.is(Wrong::LeavesByDerived) { self.sensitive[m as usize] } else { self.p[SENSITIVE][m as usize] == 1 };
+    let leaf = (self.normal(m) || self.is(Wrong::ExternalLeaves)) && !self.records[m as usize].iter().any(counted) && !sensitive;
+    let number = if self.is(Wrong::UnreachedFirst) { number.wrapping_add(1) } else { number };
+    let by_name = |is: bool| if is { (0, name.to_vec()) } else { (number, Vec::new()) };
+    let (group, (number, name)) = match (own, leaf) {
+      (true, _) => (if self.is(Wrong::OwnLast) { 4 } else { 0 }, by_name(self.is(Wrong::OwnByName))),
+      (_, true) => (if self.is(Wrong::LeavesLast) { 3 } else { 1 }, by_name(!self.is(Wrong::LeavesByNumber))),
+      _ => (2, by_name(self.is(Wrong::OthersByName))),
+    };
+    (group, number, name)
+  }
+
+  /// The members of each chunk as they are read.
+  pub fn arranged(&self) -> &[Vec<u32>] {
+    &self.members
   }
 
   // ------------------------------------------------------------ cyclic chunks
@@ -714,15 +790,19 @@ impl<'a> Model<'a> {
   /// (i) "from the first planned module of an analysed entry's expected sensitive order on, every eligible one"
   fn rule_suffix(&self, planned: &Set, asked: &mut Set) {
     for expected in &self.entry_orders {
-      let starts = |m: u32| {
-        let sensitive = self.sensitive[m as usize] || self.is(Wrong::SuffixFromInsensitive);
-        sensitive && planned[m as usize]
-      };
-      let Some(first) = expected.iter().position(|&m| starts(m)) else { continue };
-      for &m in &expected[first..] {
-        let sensitive = self.sensitive[m as usize] || self.is(Wrong::SuffixOverInsensitive);
-        asked[m as usize] |= sensitive && self.eligible[m as usize];
-      }
+      self.suffix_of(expected, planned, asked);
+    }
+  }
+
+  fn suffix_of(&self, expected: &[u32], planned: &Set, asked: &mut Set) {
+    let starts = |m: u32| {
+      let sensitive = self.sensitive[m as usize] || self.is(Wrong::SuffixFromInsensitive);
+      sensitive && planned[m as usize]
+    };
+    let Some(first) = expected.iter().position(|&m| starts(m)) else { return };
+    for &m in &expected[first..] {
+      let sensitive = self.sensitive[m as usize] || self.is(Wrong::SuffixOverInsensitive);
+      asked[m as usize] |= sensitive && self.eligible[m as usize];
     }
   }
 
@@ -834,6 +914,42 @@ impl<'a> Model<'a> {
     self.plan_from(&seeds)
   }
 
+  // ------------------------------------------------------------ plans made elsewhere
+
+  /// What is said of a plan, "in the order eligible, seeds, (i), (ii), (iii), (iv)", each rule judged on the plan as it is given.
+  pub fn check(&self, seeds: &[u32], plan: &[u32]) -> usize {
+    let planned: Set = plan.iter().map(|&mark| mark == 1).collect();
+    let lacking = |modules: Vec<u32>| -> Vec<u32> { modules.into_iter().filter(|&m| !planned[m as usize]).collect() };
+    let wrong = members(&planned).into_iter().filter(|&m| !self.eligible[m as usize] && !self.is(Wrong::AnyPlanned));
+    let seeded = seeds.iter().copied().filter(|&m| self.eligible[m as usize] || self.is(Wrong::AnySeedAsked));
+    let mut by_condition = vec![wrong.collect(), lacking(seeded.collect())];
+    let mut asked = self.asked(&planned);
+    if self.is(Wrong::SuffixGrows) {
+      asked[0] = self.grown_suffixes(&planned);
+    }
+    by_condition.extend(asked.map(|asked| lacking(members(&asked))));
+    if self.is(Wrong::SeedsCheckedFirst) {
+      by_condition.swap(0, 1);
+    }
+    if self.is(Wrong::SuffixCheckedLater) {
+      by_condition.swap(2, 3);
+    }
+    if self.is(Wrong::HighestNamed) {
+      by_condition.iter_mut().for_each(|modules| *modules = modules.iter().copied().max().into_iter().collect());
+    }
+    first_broken(by_condition)
+  }
+
+  /// What (i) asks for where each entry's order is judged on the plan with what the orders before it asked for.
+  fn grown_suffixes(&self, planned: &Set) -> Set {
+    let mut grown = planned.clone();
+    for expected in &self.entry_orders {
+      let before = grown.clone();
+      self.suffix_of(expected, &before, &mut grown);
+    }
+    grown
+  }
+
   // ------------------------------------------------------------ calls
 
   /// What an accepted call gives.
@@ -875,6 +991,8 @@ impl<'a> Model<'a> {
       Call::Whole => marks(self.plan()),
       Call::Refusal => Given { count: 0, outputs: Vec::new() },
       Call::Entries(entries) => list(self.entries(entries)),
+      Call::Check(seeds, plan) => Given { count: self.check(seeds, plan), outputs: Vec::new() },
+      Call::Arrangement => list(self.members.concat()),
     }
   }
 }

@@ -70,7 +70,7 @@ pub fn text_of(r: &mut Random, p: &Project) -> Option<Vec<u8>> {
   if !LISTS.iter().all(equal) {
     return None;
   }
-  let mut text = render(p).into_bytes();
+  let mut text = render(p);
   if r.coin(0.33) {
     for _ in 0..r.pick(&[1, 1, 2]) {
       change(r, &mut text);
@@ -80,7 +80,7 @@ pub fn text_of(r: &mut Random, p: &Project) -> Option<Vec<u8>> {
 }
 
 fn change(r: &mut Random, text: &mut Vec<u8>) {
-  const BYTES: &[u8] = b"0123456789-- \n\n\r\taz\0\xff+.";
+  const BYTES: &[u8] = b"0123456789-- \n\n\r\taz\0\xff+.~!\x7f";
   if text.is_empty() {
     return;
   }

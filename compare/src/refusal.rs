@@ -1,5 +1,5 @@
-//! Document 01's refusals 1 to 6, C-11's 8 and C-18's 10, read from their words alone.
-use project::{COLUMNS, LISTS, MARK, Project, column::*};
+//! Document 01's refusals 1 to 6, C-11's 8, C-16's 9, C-18's 10 and what C-24 says of names, read from their words alone.
+use project::{COLUMNS, LISTS, MARK, Project, column::*, text::names_fit};
 
 use crate::{
   lent::Lent,
@@ -58,6 +58,11 @@ pub fn limit(first: usize) -> usize {
   }
 }
 
+/// The lines of names that end.
+fn name_lines(p: &Project) -> usize {
+  p.names.iter().filter(|&&byte| byte == b'\n').count()
+}
+
 /// 1: "a list is over its limit, its columns differ in length, or no module is there"
 fn sizes(p: &Project) -> bool {
   let list_fits = |list: &project::List| {
@@ -65,10 +70,10 @@ fn sizes(p: &Project) -> bool {
     rows <= limit(list.first)
       && (list.first..list.first + list.width).all(|column| p[column].len() == rows)
   };
-  p.modules() > 0 && LISTS.iter().all(list_fits)
+  p.modules() > 0 && LISTS.iter().all(list_fits) && name_lines(p) <= 16_384
 }
 
-/// 2: "a value outside its column"
+/// 2: "a value outside its column", and "names that break the form", where there is a name at all
 fn inside(p: &Project) -> bool {
   let fits = |column: usize, value: u32| match values(column) {
     Values::Below(end) => value < end,
@@ -79,6 +84,7 @@ fn inside(p: &Project) -> bool {
   };
   (p.runtime as usize) < p.modules()
     && p.dynamic < 2
+    && (!p.is_named() || names_fit(p.modules(), &p.names))
     && (0..COLUMNS).all(|column| p[column].iter().all(|&value| fits(column, value)))
 }
 
@@ -153,14 +159,22 @@ pub fn analysed(p: &Project, root: u32) -> bool {
 fn fitting(p: &Project, call: &Call) -> bool {
   let module = |row: u32| (row as usize) < p.modules();
   match call {
-    Call::Sort | Call::Circles | Call::Labels | Call::Whole | Call::Refusal | Call::Grounds => true,
+    Call::Sort | Call::Circles | Call::Labels | Call::Whole | Call::Refusal | Call::Grounds | Call::Arrangement => true,
     Call::Expected(root) => module(*root),
     Call::Actual(root) | Call::Risk(root) | Call::OrderRisk(root) | Call::CycleRisk(root) => {
       module(*root) && analysed(p, *root)
     }
     Call::Reach(chunk) => (*chunk as usize) < p.chunks(),
     Call::Entries(entries) => entries.iter().all(|&entry| module(entry)),
-    Call::PlanFrom(seeds) => seeds.len() <= 16_384 && seeds.iter().all(|&seed| module(seed)),
+    Call::PlanFrom(seeds) | Call::Check(seeds, _) => seeds.len() <= 16_384 && seeds.iter().all(|&seed| module(seed)),
+  }
+}
+
+/// 9, of an accepted project with fitting seeds: "a plan that isn't one mark a module or holds a mark other than 0 and 1"
+pub fn formed(p: &Project, call: &Call) -> bool {
+  match call {
+    Call::Check(_, plan) => plan.len() == p.modules() && plan.iter().all(|&mark| mark < 2),
+    _ => true,
   }
 }
 
@@ -172,8 +186,9 @@ pub fn places(p: &Project, call: &Call) -> Vec<usize> {
       vec![paths.iter().map(Vec::len).sum(), paths.len()]
     }
     Call::Sort | Call::Actual(_) | Call::Circles => vec![p.modules(); 2],
-    Call::Reach(_) | Call::Refusal => Vec::new(),
+    Call::Reach(_) | Call::Refusal | Call::Check(..) => Vec::new(),
     Call::Labels => vec![p.chunks()],
+    Call::Arrangement => vec![p[MEMBER].len()],
     _ => vec![p.modules()],
   }
 }
@@ -181,7 +196,10 @@ pub fn places(p: &Project, call: &Call) -> Vec<usize> {
 /// The number of a call whose outputs have these lengths, 0 if it is accepted.
 pub fn of_call(p: &Project, call: &Call, rooms: &[usize]) -> u32 {
   match of_project(p) {
+    // With the other tests of 2: "the first number that applies".
+    0 | 3 | 4 | 10 if *call == Call::Arrangement && !p.is_named() => 2,
     0 if !fitting(p, call) => 5,
+    0 if !formed(p, call) => 9,
     0 if !rooms.is_empty() && places(p, call).iter().zip(rooms).any(|(&places, &room)| room < places) => {
       if *call == Call::Circles { 8 } else { 6 }
     }

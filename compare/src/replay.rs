@@ -3,7 +3,8 @@
 //! First how many cases. A case is a line with `#` and its name; then how many bounds and these; how many values the columns have and these; how many
 //! bytes the names have and these, as numbers; `runtime dynamic`, what every output holds before a call, and how many calls. A call is its operation (its
 //! place in the list of `Call`'s kinds), its argument, 0 and the count or 1 and the refusal's number, and how many places each of two outputs has; how many
-//! seeds or entries and these; and for each output how many places are written and these.
+//! seeds or entries and these (for the check of a plan the seeds, as many as the argument says, and then the plan's marks); and for each output how many places
+//! are written and these.
 //! `-` is the missing mark. In a list, `5*0` stands for five zeros, `3*8+2` for 8 10 12, `3*8~2` for 8 6 4, `6*8+1/2` for 8 8 9 9 10 10; and `5.` for the
 //! five values that stand there in the case before.
 use oracle::Original;
@@ -11,7 +12,7 @@ use project::{COLUMNS, LISTS, MARK, Project, column::*};
 
 use crate::{
   edges,
-  judge::{self, Judge, entry_lists, one_call_each, risks},
+  judge::{self, Judge, check_by_the_original, entry_lists, marks, one_call_each, risks},
   lent::Lent,
   model::{Call, Given, Model, members, set_of},
   refusal::{self, Values, limit, values},
@@ -25,15 +26,40 @@ fn tie_told(p: &Project, wrong: Wrong) -> bool {
   model.analysed().into_iter().any(|root| turned.actual(root) != model.actual(root))
 }
 
+/// Some plans to be checked: each module alone with itself as seed; the whole plan, and that without its lowest module; no module and every module with every seed.
+fn checks(p: &Project) -> Vec<Call> {
+  let n = p.modules();
+  let all: Vec<u32> = (0..n as u32).collect();
+  let mut calls: Vec<Call> = all.iter().map(|&m| Call::Check(vec![m], marks(&set_of(n, &[m])))).collect();
+  calls.extend([0, 1].map(|mark| Call::Check(all.clone(), vec![mark; n])));
+  let plan = Model::of(p).plan();
+  let less = members(&plan).into_iter().skip(1).collect::<Vec<u32>>();
+  calls.extend([plan, set_of(n, &less)].map(|set| Call::Check(p[SEED].clone(), marks(&set))));
+  calls
+}
+
+/// Whether a wrong reading of the check says another thing of one of these plans than the original does.
+fn check_told(p: &Project, wrong: Wrong) -> bool {
+  let (turned, original) = (Model::turned(p, Some(wrong)), Original::of(p));
+  checks(p).iter().any(|call| matches!(call, Call::Check(seeds, plan) if turned.check(seeds, plan) != check_by_the_original(&original, seeds, plan)))
+}
+
 /// Whether a wrong reading differs from the original on a project; one of ties, from the model. The later row is told where the chunk rows rise.
 pub fn told(p: &Project, wrong: Wrong) -> bool {
   if Wrong::TIES.contains(&wrong) {
     return tie_told(p, wrong) && (wrong == Wrong::TiesByChunkRow || !tie_told(p, Wrong::TiesByChunkRow));
   }
+  if Wrong::CHECKS.contains(&wrong) {
+    return check_told(p, wrong);
+  }
   if p.tied() {
     return false;
   }
-  let (turned, original) = (Model::turned(p, Some(wrong)), Original::of(p));
+  let original = Original::of(p);
+  if original.open_chunks().contains(&true) {
+    return false;
+  }
+  let turned = Model::turned(p, Some(wrong));
   let (numbers, sorted) = turned.numbers_and_sorted();
   let reaches: Vec<bool> = (0..p.chunks() as u32).map(|chunk| turned.reaches(chunk)).collect();
   let entry_told = |entry: &oracle::Entry| {
@@ -45,6 +71,7 @@ pub fn told(p: &Project, wrong: Wrong) -> bool {
       || members(&turned.cycle_risk(entry.root)) != entry.cycle
   };
   numbers != original.numbers()
+    || (p.is_named() && turned.arranged() != original.members())
     || !same_circles(p, &turned)
     || sorted != original.sorted()
     || turned.labels() != original.labels()
@@ -90,7 +117,7 @@ fn roomy(p: &Project, call: Call) -> Asked {
 /// Every operation on every argument, and one call that is refused by 5 for each that can be.
 fn every_call(p: &Project) -> Vec<Asked> {
   let n = p.modules() as u32;
-  let mut calls = vec![Call::Sort, Call::Circles, Call::Labels, Call::Whole, Call::Grounds, Call::PlanFrom(vec![])];
+  let mut calls = vec![Call::Sort, Call::Circles, Call::Labels, Call::Whole, Call::Grounds, Call::Arrangement, Call::PlanFrom(vec![])];
   for module in 0..n {
     calls.extend([Call::Expected(module), Call::PlanFrom(vec![module])]);
   }
@@ -100,6 +127,7 @@ fn every_call(p: &Project) -> Vec<Asked> {
   }
   calls.extend((0..p.chunks() as u32).map(Call::Reach));
   calls.extend(entry_lists(p).map(Call::Entries));
+  calls.extend(checks(p));
   calls.into_iter().map(|call| roomy(p, call)).collect()
 }
 
@@ -199,7 +227,7 @@ fn whole() -> Project {
 
 /// A call of each operation.
 fn each_call(p: &Project) -> Vec<Asked> {
-  one_call_each().into_iter().map(|call| roomy(p, call)).collect()
+  one_call_each(p.modules()).into_iter().map(|call| roomy(p, call)).collect()
 }
 
 /// A project with one thing wrong, refused by every operation.
@@ -296,6 +324,14 @@ fn arguments() -> Case {
     Call::Entries(vec![0, n]),
     Call::Entries(vec![MARK, 1]),
     Call::Entries(vec![1; 16_385]),
+    Call::Check(vec![0, n], vec![0; n as usize]),
+    Call::Check(vec![n], vec![2]),
+    Call::Check(vec![1], vec![0; n as usize - 1]),
+    Call::Check(vec![1], vec![0; n as usize + 1]),
+    Call::Check(vec![1], vec![2; n as usize]),
+    Call::Check(vec![1], vec![1, 0, 0, MARK]),
+    Call::Check(vec![1], vec![]),
+    Call::Check(vec![1; 16_380], vec![0; n as usize]),
   ] {
     calls.push(roomy(&project, call));
   }
@@ -400,13 +436,19 @@ fn put_call(out: &mut String, asked: &Asked, number: u32, given: Option<Given>) 
     Call::Entries(_) => (11, 0),
     Call::Grounds => (12, 0),
     Call::Circles => (13, 0),
+    Call::Check(seeds, _) => (14, seeds.len() as u32),
+    Call::Arrangement => (15, 0),
   };
   let refused = u32::from(number != 0);
   put(out, [operation, argument, refused, given.as_ref().map_or(number, |given| given.count as u32)]);
   put(out, (0..2).map(|at| rooms.get(at).copied().unwrap_or(0) as u32));
-  let seeds: &[u32] = if let Call::PlanFrom(list) | Call::Entries(list) = call { list } else { &[] };
-  put(out, [seeds.len() as u32]);
-  put_list(out, seeds, &[]);
+  let lent = match call {
+    Call::PlanFrom(list) | Call::Entries(list) => list.clone(),
+    Call::Check(seeds, plan) => [&seeds[..], plan].concat(),
+    _ => Vec::new(),
+  };
+  put(out, [lent.len() as u32]);
+  put_list(out, &lent, &[]);
   for at in 0..2 {
     let written = given.as_ref().and_then(|given| given.outputs.get(at)).map_or(&[][..], |list| list);
     put(out, [written.len() as u32]);
@@ -448,14 +490,21 @@ fn of_the_original(p: &Project, original: &Original, call: &Call) -> Option<Give
     Call::CycleRisk(root) => marks(entry(*root).cycle),
     Call::Entries(entries) => list(original.entries_together(entries)),
     Call::Grounds => Given { count: original.sensitive().len(), outputs: vec![original.grounds()] },
+    Call::Check(seeds, plan) => Given { count: check_by_the_original(original, seeds, plan), outputs: Vec::new() },
+    Call::Arrangement => list(original.members().concat()),
     // As a set: `same_circles`.
     Call::Circles => return None,
   })
 }
 
-/// Whether the original says what a call gives: with ties it leaves open what the load order decides.
-fn said(p: &Project, call: &Call) -> bool {
-  !p.tied() || !matches!(call, Call::Actual(_) | Call::Risk(_) | Call::OrderRisk(_) | Call::Whole)
+/// Whether the original says what a call gives: with ties it leaves open what the load order decides, and the arrangement of a chunk in which two modules tie.
+fn said(p: &Project, original: &Original, call: &Call) -> bool {
+  let open = original.open_chunks().contains(&true);
+  match call {
+    Call::Actual(_) | Call::Risk(_) | Call::OrderRisk(_) | Call::Whole => !p.tied() && !open,
+    Call::Arrangement => !open,
+    _ => true,
+  }
 }
 
 /// The first accepted call of a case whose answer the original doesn't give.
@@ -463,7 +512,7 @@ fn not_the_originals<'c>(case: &'c Case, p: &Project, model: &Model) -> Option<&
   let original = Original::of(p);
   let differs = |(call, rooms): &&Asked| {
     refusal::of_call(p, call, rooms) == 0
-      && said(p, call)
+      && said(p, &original, call)
       && of_the_original(p, &original, call).is_some_and(|given| given != model.give(call))
   };
   case.calls.iter().find(differs).map(|(call, _)| call)
@@ -496,7 +545,7 @@ pub fn data(random: &dyn Fn(usize) -> Project) -> (String, usize, usize) {
   cases.extend(edges::all());
   let mut out = format!("{}\n", cases.len());
   let mut answers = 0;
-  let (mut bounds, mut columns) = (Vec::new(), Vec::new());
+  let (mut bounds, mut columns, mut names) = (Vec::new(), Vec::new(), Vec::new());
   for case in &cases {
     let Case { name, lent, filler, calls, wrong } = case;
     let p = lent.project();
@@ -509,13 +558,12 @@ pub fn data(random: &dyn Fn(usize) -> Project) -> (String, usize, usize) {
       assert!(wrong.is_none_or(|wrong| changed(case, p, wrong) > 0), "{name}");
     }
     out.push_str(&format!("# {name}\n"));
-    for (list, before) in [(&lent.bounds, &mut bounds), (&lent.columns, &mut columns)] {
+    let bytes = lent.names.iter().copied().map(u32::from).collect();
+    for (list, before) in [(&lent.bounds, &mut bounds), (&lent.columns, &mut columns), (&bytes, &mut names)] {
       put(&mut out, [list.len() as u32]);
       put_list(&mut out, list, before);
       keep(before, list);
     }
-    // No names.
-    put(&mut out, [0]);
     put(&mut out, [lent.runtime, lent.dynamic, *filler, calls.len() as u32]);
     end_line(&mut out);
     for asked in calls {

@@ -8,6 +8,7 @@ pub fn shrunk(p: &Project, shows: &dyn Fn(&Project) -> bool) -> Project {
   let mut p = p.clone();
   loop {
     let before = p.clone();
+    fewer_names(&mut p, shows);
     fewer_rows(&mut p, shows);
     lower_values(&mut p, shows);
     if p == before {
@@ -22,6 +23,21 @@ fn keep_if(p: &mut Project, smaller: Project, shows: &dyn Fn(&Project) -> bool) 
     *p = smaller;
   }
   good
+}
+
+/// No names, or shorter ones.
+fn fewer_names(p: &mut Project, shows: &dyn Fn(&Project) -> bool) {
+  keep_if(p, Project { names: Vec::new(), ..p.clone() }, shows);
+  if p.names.len() > 2_000 {
+    return;
+  }
+  let mut at = p.names.len();
+  while at > 0 {
+    at -= 1;
+    let mut smaller = p.clone();
+    smaller.names.remove(at);
+    keep_if(p, smaller, shows);
+  }
 }
 
 fn fewer_rows(p: &mut Project, shows: &dyn Fn(&Project) -> bool) {
@@ -76,6 +92,9 @@ fn without(p: &Project, first: usize, rows: std::ops::Range<usize>) -> Option<Pr
   };
   let mut smaller = Project::default();
   smaller.dynamic = p.dynamic;
+  let lines = p.names.split_inclusive(|&byte| byte == b'\n');
+  let mut module_gone = gone[list_at(NORMAL)].iter().copied();
+  smaller.names = lines.filter(|_| !module_gone.next().unwrap_or(false)).flatten().copied().collect();
   smaller.runtime = renumbered(NORMAL, p.runtime);
   if smaller.runtime == MARK {
     return None;

@@ -113,6 +113,13 @@ wrong! {
   CanonicalChainIgnored "a link of the canonical doesn't touch",
   CanonicalFollowedTwice "a canonical is followed again",
   LinksFollowedTwice "a link is followed again",
+  // the check of a plan
+  HighestNamed "the highest module that breaks a condition is named",
+  SeedsCheckedFirst "the seeds are checked before the eligible modules",
+  SuffixCheckedLater "(ii) is checked before (i)",
+  SuffixGrows "(i) is checked on a plan that grows from entry to entry",
+  AnySeedAsked "a seed that isn't eligible is asked for",
+  AnyPlanned "a module that isn't eligible may be in a plan",
   // replaced modules
   TargetsAsWritten "record targets are read as written",
   DependenciesAsWritten "dependencies are read as written",
@@ -123,11 +130,38 @@ wrong! {
   OwnersReplaced "symbol owners are read through",
   SeedsReplaced "seed rows are read through",
   RuntimeReplaced "the runtime is read through",
+  // the arrangement of members
+  MembersAsWritten "members are read as written where there are names",
+  TildeAsItself "`~` at the start of a name is itself",
+  TildeInside "`~` inside a name stands for byte 0 too",
+  OwnLast "rolldown's own modules come last",
+  OwnByName "rolldown's own modules by name",
+  OwnWithoutColon "a name that begins `rolldown` is one of rolldown's own",
+  OwnWithoutZero "a name that begins `rolldown/` is one of rolldown's own",
+  LeavesLast "the leaves come last",
+  LeavesByNumber "the leaves by module number",
+  LeavesByDerived "a leaf isn't sensitive, by its flag or by a use",
+  LeavesWithoutImports "a leaf has no record of kind 0",
+  ExternalLeaves "an external may be a leaf",
+  OthersByName "the others by name",
+  NumbersAsWritten "module numbers of the records as written",
+  UnreachedFirst "an unreached module comes first",
+  MembersOnce "a member that stands twice is kept once",
 }
 
 impl Wrong {
   /// Leaving out each of the four rules.
   pub const RULES: [Wrong; 4] = [Wrong::NoSuffix, Wrong::NoCycle, Wrong::NoImport, Wrong::NoRead];
+
+  /// The readings of the check of a plan alone.
+  pub const CHECKS: [Wrong; 6] = [
+    Wrong::HighestNamed,
+    Wrong::SeedsCheckedFirst,
+    Wrong::SuffixCheckedLater,
+    Wrong::SuffixGrows,
+    Wrong::AnySeedAsked,
+    Wrong::AnyPlanned,
+  ];
 
   /// The readings of ties. The original leaves these open: the model tells them.
   pub const TIES: [Wrong; 2] = [Wrong::TiesByChunkRow, Wrong::TiesByLaterImport];

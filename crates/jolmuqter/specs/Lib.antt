@@ -2,3 +2,4 @@
 pub mod Calls
 pub mod Exported
 pub mod ToldApart
+pub mod CheckToldApart

@@ -1,7 +1,7 @@
 // Plans made elsewhere: whether one is accepted, or what it breaks first.
 ghost use mathlib.Core.Path.{_≡_};
 ghost use Rattle.table.specs.Table.{lent, lentWith};
-ghost use Rattle.plan_check.specs.Promise.{judgement};
+ghost use Rattle.plan_check.specs.Promise.{judgement, countedJudgement};
 use core::judge_plan;
 use current_columns::core::read_current;
 use plan_conditions::Judgement;
@@ -17,6 +17,7 @@ use table::RECORD_TARGET;
 use table::ROW_LIMIT;
 use table::column;
 use table::rows;
+use tables::Answer;
 
 pub mod core;
 
@@ -110,4 +111,17 @@ pub fn check_plan<'a>(
         seeds,
         plan,
     )
+}
+
+// What is said of a plan as an answer with a count.
+pub fn counted_judgement(judgement: Judgement) -> Answer
+    ensures { λ r. ⌜ r ≡ countedJudgement judgement ⌝ }
+{
+    match judgement {
+        Judgement::Accepted => Answer::Counted(0),
+        Judgement::Broken(condition, module) => {
+            Answer::Counted(condition as usize * 65536 + module as usize)
+        }
+        Judgement::Refused(n) => Answer::Refused(n),
+    }
 }

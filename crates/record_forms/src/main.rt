@@ -4,6 +4,7 @@ use libc::STDOUT_FILENO;
 use record_columns::Record;
 use records::actual_records;
 use records::analyze_records;
+use records::check_records;
 use records::circle_records;
 use records::cycle_risk_records;
 use records::entries_records;
@@ -211,6 +212,20 @@ fn plan_of<'a>(
     )
 }
 
+// What is said of a plan, of rows that are lent.
+fn check_of<'a>(
+    runtime: u32,
+    dynamic: u32,
+    bounds: &'a [u32],
+    columns: &'a [u32],
+    names: &'a [u8],
+    rows: [Record; 2],
+    seeds: &[u32],
+    plan: &[u32],
+) -> Answer {
+    check_records(runtime, dynamic, bounds, columns, names, &rows, seeds, plan)
+}
+
 // Whole analysis, of rows that are lent.
 fn analyze_of<'a>(
     runtime: u32,
@@ -375,6 +390,18 @@ fn plans<'a>(bounds: &'a [u32], columns: &'a [u32], names: &'a [u8], rows: [Reco
         plan_of(0, 0, bounds, columns, names, rows, &seeds, &mut plan),
     );
     print_numbers(plan);
+    print_answer(
+        b"check",
+        check_of(0, 0, bounds, columns, names, rows, &seeds, &plan),
+    );
+    io::write_all(STDOUT_FILENO, b"\n");
+    // what rule (i) asks for lacks
+    let less = [0u32, 0, 1, 0];
+    print_answer(
+        b"check",
+        check_of(0, 0, bounds, columns, names, rows, &seeds, &less),
+    );
+    io::write_all(STDOUT_FILENO, b"\n");
     let mut whole = [7u32; 4];
     print_answer(
         b"analysis",

@@ -136,6 +136,26 @@ read-list core = record {
   args = λ κs a u. refl;
 }
 
+-- two lists that are read
+abbrev pub two-reads : Name → Operation
+two-reads core = record {
+  m = 2;
+  own = SliceRefOf (1 ∷ []) tt (plain (λ κs. u32)) (λ κs. tt) ∷ SliceRefOf (2 ∷ []) tt (plain (λ κs. u32)) (λ κs. tt) ∷ [];
+  spells = λ κs. (slice-vals, (slice-vals, tt));
+  tells = λ κs. (shr-slice-tells (named 1) (κs .1 .0) u32, (shr-slice-tells (named 2) (κs .1 .1 .0) u32, tt));
+  types = sliceTy (tyRef (named 1) imm (tyInt w32)) ∷ sliceTy (tyRef (named 2) imm (tyInt w32)) ∷ [];
+  typed = λ κs. refl;
+  temps = Cols′.mir ∷ [];
+  count = 8;
+  k = 9;
+  js = 7 ∷ 8 ∷ [];
+  core = core;
+  lends = λ rest. rest;
+  lent = λ κs a ss. ss;
+  at-k = refl;
+  args = λ κs a u. refl;
+}
+
 module _ {M : Type 1} (𝓤 : URA M) (H : Heap 𝓤) (A : Atoms 𝓤) (W : Given 𝓤 H A) (core : Name) where
   -- their types are lawful
 
@@ -156,6 +176,9 @@ module _ {M : Type 1} (𝓤 : URA M) (H : Heap 𝓤) (A : Atoms 𝓤) (W : Given
 
   pub read-list-lawful : Lawful 𝓤 H A W (read-list core)
   read-list-lawful κs = (shr-slice-lawful 𝓤 H A W (named 1) (κs .1 .0) u32, (mut-slice-lawful 𝓤 H A W (named 2) (κs .1 .1 .0) u32, tt))
+
+  pub two-reads-lawful : Lawful 𝓤 H A W (two-reads core)
+  two-reads-lawful κs = (shr-slice-lawful 𝓤 H A W (named 1) (κs .1 .0) u32, (shr-slice-lawful 𝓤 H A W (named 2) (κs .1 .1 .0) u32, tt))
 
   -- their slices are lent again
 
@@ -182,3 +205,6 @@ module _ {M : Type 1} (𝓤 : URA M) (H : Heap 𝓤) (A : Atoms 𝓤) (W : Given
 
   pub read-list-lent : Lending 𝓤 H A W (read-list core)
   read-list-lent κs a are C Λ bs u Γ rest q s = let o = read-list core in lends (mine o κs a .1 .0) (ls o) bs (filled o κs a u) 8 10 11 {Γ = Γ} refl refl refl refl refl refl (are .1 .0 .0 .1 .0) s
+
+  pub two-reads-lent : Lending 𝓤 H A W (two-reads core)
+  two-reads-lent κs a are C Λ bs u Γ rest q s = s

@@ -1,4 +1,5 @@
 // The operations with the import records lent as a slice of records, in the place of the table's own, which aren't read.
+ghost use mathlib.Core.Path.{_≡_};
 ghost use Rattle.table.specs.Table.{lentWith};
 ghost use Rattle.arrangement.specs.OfProject.{lentNamedWith};
 ghost use Rattle.sort_modules.specs.Promise.{SortModules};
@@ -9,6 +10,7 @@ ghost use Rattle.actual_order.specs.Promise.{ActualOrder};
 ghost use Rattle.chunk_cycles.specs.Promise.{LabelsPromise, ReachPromise};
 ghost use Rattle.at_risk.specs.Entry.{EntryOrderRisk, EntryCycleRisk};
 ghost use Rattle.wrap_plan.specs.Planned.{PlanFromSeeds};
+ghost use Rattle.plan_check.specs.Promise.{judgement, countedJudgement};
 ghost use Rattle.order_analysis.specs.Whole.{WholeAnalysis};
 ghost use Rattle.grounds.specs.Promise.{ModuleGrounds};
 ghost use Rattle.shares.specs.Share.{WrittenShare};
@@ -16,6 +18,7 @@ ghost use Rattle.record_columns.specs.Rows.{importerColumn, kindColumn, targetC
 
 mod actual;
 mod analyze;
+mod check;
 mod circle;
 mod cycle;
 mod early;
@@ -30,6 +33,7 @@ mod sort;
 
 use actual::actual_columns;
 use analyze::analyze_columns;
+use check::check_columns;
 use circle::circle_columns;
 use cycle::cycle_risk_columns;
 use early::order_risk_columns;
@@ -258,6 +262,23 @@ pub fn plan_records<'a>(
 {
     let made = columns_of(records);
     plan_columns(runtime, dynamic, bounds, columns, names, made, seeds, marks)
+}
+
+// What is said of a plan made elsewhere, as an answer with a count.
+pub fn check_records<'a>(
+    runtime: u32,
+    dynamic: u32,
+    bounds: &'a [u32],
+    columns: &'a [u32],
+    names: &'a [u8],
+    records: &'a [Record],
+    seeds: &[u32],
+    plan: &[u32],
+) -> Answer
+    ensures { λ r. ⌜ r ≡ countedJudgement (judgement (lentWith runtime dynamic (now (bounds .entry)) (now (columns .entry)) (now (names .entry)) (importerColumn (now (records .entry))) (kindColumn (now (records .entry))) (targetColumn (now (records .entry)))) (now (seeds .entry)) (now (plan .entry))) ⌝ }
+{
+    let made = columns_of(records);
+    check_columns(runtime, dynamic, bounds, columns, names, made, seeds, plan)
 }
 
 // Whole analysis.

@@ -299,6 +299,16 @@ fn first_of(list: &[u32], n: u32) -> &[u32] {
     &list[0..end]
 }
 
+// The values of a list behind the first n.
+fn behind(list: &[u32], n: u32) -> &[u32] {
+    let end = list.len();
+    let at = n as usize;
+    if end < at {
+        return list;
+    }
+    &list[at..end]
+}
+
 // The same of bytes.
 fn first_bytes(list: &[u8], n: u32) -> &[u8] {
     let end = n as usize;
@@ -522,6 +532,15 @@ fn ask<'a>(
             operation,
             argument,
         ),
+        14 => plan_check::counted_judgement(plan_check::check_plan(
+            runtime,
+            dynamic,
+            bounds,
+            columns,
+            names,
+            first_of(seeds, argument),
+            behind(seeds, argument),
+        )),
         _ => ask_one(
             runtime,
             dynamic,

@@ -2,7 +2,7 @@
 use oxc_index::{Idx, IndexVec, index_vec};
 use project::{MARK, Project, column::*};
 use rolldown_common::{
-  Chunk, ChunkIdx, ChunkKind, EcmaViewMeta, EntryPoint, ExportsKind, ExternalModule, ImportKind,
+  Chunk, ChunkIdx, ChunkKind, ChunkModulesOrderBy, EcmaViewMeta, EntryPoint, ExportsKind, ExternalModule, ImportKind,
   ImportRecord, ImportRecordIdx, MemberExprRef, MemberExprRefResolution, Module, ModuleId, ModuleIdx,
   ModuleTable, NormalModule, RuntimeHelper, RuntimeModuleBrief, StmtInfo, StmtInfoBits, StmtInfos,
   SymbolId, SymbolOrMemberExprRef, SymbolRef, SymbolRefDb, WrapKind,
@@ -30,12 +30,18 @@ pub fn options(p: &Project) -> SharedOptions {
   SharedOptions {
     code_splitting: CodeSplitting { disabled: p.dynamic == 1 },
     checks: EventKindSwitcher::empty(),
-    experimental: Experimental { chunk_modules_order: None },
+    // The other option than `ExecOrder`: read by `sort_chunk_modules` alone, which is called exactly if there are names.
+    experimental: Experimental { chunk_modules_order: Some(ChunkModulesOrderBy::ModuleId) },
   }
 }
 
-fn module(p: &Project, at: usize) -> Module {
-  let (idx, id) = (ModuleIdx::from_usize(at), ModuleId(at.to_string()));
+/// The module's name, or its number where there are no names.
+fn module_id(names: &[Vec<u8>], at: usize) -> ModuleId {
+  ModuleId(names.get(at).map_or_else(|| at.to_string(), |name| String::from_utf8(name.clone()).unwrap()))
+}
+
+fn module(p: &Project, names: &[Vec<u8>], at: usize) -> Module {
+  let (idx, id) = (ModuleIdx::from_usize(at), module_id(names, at));
   if p[NORMAL][at] == 0 {
     let import_records = index_vec![];
     return Module::External(Box::new(ExternalModule { idx, id, exec_order: MARK, import_records }));
@@ -63,8 +69,9 @@ fn module(p: &Project, at: usize) -> Module {
 pub fn link_stage<'a>(p: &Project, options: &'a SharedOptions) -> LinkStage<'a> {
   const KINDS: [ImportKind; 4] =
     [ImportKind::Import, ImportKind::Require, ImportKind::DynamicImport, ImportKind::Other];
+  let names = p.module_names();
   let mut modules: IndexVec<ModuleIdx, Module> =
-    (0..p.modules()).map(|at| module(p, at)).collect();
+    (0..p.modules()).map(|at| module(p, &names, at)).collect();
   for row in 0..p[RECORD_MODULE].len() {
     let kind = KINDS[p[RECORD_KIND][row] as usize];
     let target = p[RECORD_TARGET][row];

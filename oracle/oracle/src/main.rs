@@ -80,6 +80,9 @@ fn answer(text: &[u8], flags: &Flags) -> String {
     eprintln!("note: a chunk has imports of equal order; the Rust's order is open there");
   }
   let original = Original::of(&project);
+  if original.open_chunks().contains(&true) {
+    eprintln!("note: two modules of a chunk tie in its arrangement; the Rust's order is open there");
+  }
   let entries = original.entries();
   let plan = original.plan();
   // The printed risks and the original's loop must tell the same: same seeds, same plan.
@@ -103,6 +106,11 @@ fn answer(text: &[u8], flags: &Flags) -> String {
   line(&mut out, "plan", &plan);
   if flags.all {
     line(&mut out, "numbers", &original.numbers());
+    if project.is_named() {
+      for (chunk, members) in original.members().into_iter().enumerate() {
+        line(&mut out, &format!("members {chunk}"), &members);
+      }
+    }
     for entry in &entries {
       line(&mut out, &format!("hosts {}", entry.root), &entry.hosts);
     }

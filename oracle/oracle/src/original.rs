@@ -1,7 +1,7 @@
 //! What the original says of a project, as plain numbers.
 use oxc_index::{Idx, IndexVec};
 use project::{MARK, Project};
-use rolldown_common::{ChunkIdx, ModuleIdx};
+use rolldown_common::{ChunkIdx, EcmaViewMeta, ModuleIdx};
 use rolldown_error::EventKindSwitcher;
 use rustc_hash::FxHashSet;
 
@@ -26,6 +26,8 @@ pub struct Entry {
   pub early: Vec<u32>,
   pub cycle: Vec<u32>,
   pub risk: Vec<u32>,
+  /// Its chunk reaches one whose arrangement is open, or is one: actual order, hosts, order risk and risk are open too.
+  pub open: bool,
 }
 
 /// The carriers of a project, after the sort.
@@ -35,6 +37,7 @@ pub struct Original {
   chunk_graph: ChunkGraph,
   import_edges: IndexVec<ChunkIdx, FxHashSet<ChunkIdx>>,
   seeds: Vec<ModuleIdx>,
+  named: bool,
 }
 
 fn listed(list: &[ModuleIdx]) -> Vec<u32> {
@@ -67,11 +70,11 @@ fn after_replacement(p: &Project) -> Project {
   replaced
 }
 
-/// The original's own circles, sorted: it keeps them in a hash set, and names the modules of each path.
+/// The original's own circles, sorted: it keeps them in a hash set, and names the modules of each path (by their numbers here: two modules may have one name).
 pub fn circles(p: &Project) -> Vec<Vec<u32>> {
   let mut options = carriers::options(p);
   options.checks = EventKindSwitcher::CircularDependency;
-  let p = &after_replacement(p);
+  let p = &Project { names: Vec::new(), ..after_replacement(p) };
   let mut stage = carriers::link_stage(p, &options);
   stage.sort();
   let module = |name: &String| name.parse().unwrap();
@@ -88,13 +91,55 @@ impl Original {
     let mut stage = carriers::link_stage(p, &options);
     stage.sort();
     let output = carriers::link_output(p, stage);
+    let mut chunk_graph = carriers::chunk_graph(p);
+    if p.is_named() {
+      chunk_graph.sort_chunk_modules(&output, &options);
+    }
     Self {
       options,
       output,
-      chunk_graph: carriers::chunk_graph(p),
+      chunk_graph,
       import_edges: carriers::import_edges(p),
       seeds: carriers::module_rows(&p[project::column::SEED]),
+      named: p.is_named(),
     }
+  }
+
+  /// What `sort_chunk_modules` compares: the group, and the number or, of a leaf, the name.
+  fn sorted_by(&self, idx: ModuleIdx) -> (u32, u32, &str) {
+    let module = &self.output.module_table[idx];
+    let name = module.id().as_str();
+    if name.starts_with("rolldown:") || name.starts_with("\0rolldown/") {
+      return (0, module.exec_order(), "");
+    }
+    let leaf = |normal: &rolldown_common::NormalModule| {
+      normal.import_records.is_empty() && !normal.meta.contains(EcmaViewMeta::ExecutionOrderSensitive)
+    };
+    if module.as_normal().is_some_and(leaf) { (1, 0, name) } else { (2, module.exec_order(), "") }
+  }
+
+  /// For each chunk whether two different modules of it tie in its arrangement: their order is left open.
+  pub fn open_chunks(&self) -> Vec<bool> {
+    let open = |members: Vec<u32>| {
+      let mut rows: Vec<_> =
+        members.into_iter().map(|m| (self.sorted_by(ModuleIdx::from_raw(m)), m)).collect();
+      rows.sort_unstable();
+      rows.dedup();
+      rows.windows(2).any(|two| two[0].0 == two[1].0)
+    };
+    self.members().into_iter().map(|members| self.named && open(members)).collect()
+  }
+
+  /// Whether a chunk reaches one of some, itself counted.
+  fn reaches_some(&self, chunk: ChunkIdx, some: &[bool]) -> bool {
+    let mut met = vec![false; some.len()];
+    let mut todo = vec![chunk];
+    while let Some(chunk) = todo.pop() {
+      if !std::mem::replace(&mut met[chunk.raw() as usize], true) {
+        todo.extend(&self.import_edges[chunk]);
+      }
+    }
+    met.iter().zip(some).any(|(met, is)| *met && *is)
   }
 
   fn stage(&self) -> GenerateStage<'_> {
@@ -133,6 +178,7 @@ impl Original {
   }
 
   pub fn entries(&self) -> Vec<Entry> {
+    let open = self.open_chunks();
     self
       .stage()
       .entry_results(&self.chunk_graph)
@@ -148,6 +194,7 @@ impl Original {
         early: rising(entry.early),
         cycle: rising(entry.cycle),
         risk: rising(entry.risk),
+        open: self.reaches_some(self.chunk_graph.entry_module_to_entry_chunk[&entry.root], &open),
       })
       .collect()
   }
@@ -184,6 +231,11 @@ impl Original {
     self.stage().labels().into_iter().map(|label| label.map_or(MARK, |chunk| chunk.raw())).collect()
   }
 
+  /// The members of each chunk, as they stand: arranged where there are names.
+  pub fn members(&self) -> Vec<Vec<u32>> {
+    self.chunk_graph.chunk_table.iter().map(|chunk| listed(&chunk.modules)).collect()
+  }
+
   /// A place a chunk.
   pub fn reaches(&self) -> Vec<bool> {
     self.stage().reaches()
@@ -202,6 +254,15 @@ impl Original {
   /// The root is an analysed entry, here and below.
   pub fn bare_actual(&self, root: u32) -> impl Sized + use<> {
     self.stage().actual_of(&self.chunk_graph, ModuleIdx::from_raw(root))
+  }
+
+  /// The carriers of the chunks as they are made, for timing.
+  pub fn bare_arrangement(&self, p: &Project) -> impl FnMut() -> usize {
+    let mut chunk_graph = carriers::chunk_graph(p);
+    move || {
+      chunk_graph.sort_chunk_modules(&self.output, &self.options);
+      chunk_graph.chunk_table.len()
+    }
   }
 
   pub fn bare_cycles(&self) -> usize {

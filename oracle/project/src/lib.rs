@@ -1,4 +1,4 @@
-//! Document 01's project as columns, and its text form.
+//! Document 01's project as columns, with C-24's names, and its text form.
 
 pub mod text;
 
@@ -59,6 +59,9 @@ const fn list(names: &'static str, first: usize, width: usize) -> List {
 /// The line of names of the two settings.
 pub const SETTINGS: &str = "runtime dynamic";
 
+/// The line of the list of names, which may follow the row lists.
+pub const NAMES: &str = "name";
+
 /// The fourteen row lists, in order.
 pub const LISTS: [List; 14] = [
   list("normal included sensitive reads exports wrap chunk newer", column::NORMAL, 8),
@@ -82,11 +85,13 @@ pub struct Project {
   pub runtime: u32,
   pub dynamic: u32,
   pub columns: [Vec<u32>; COLUMNS],
+  /// The lines of the list `name`, an LF after each; empty where there is no name at all.
+  pub names: Vec<u8>,
 }
 
 impl Default for Project {
   fn default() -> Self {
-    Self { runtime: 0, dynamic: 0, columns: [const { Vec::new() }; COLUMNS] }
+    Self { runtime: 0, dynamic: 0, columns: [const { Vec::new() }; COLUMNS], names: Vec::new() }
   }
 }
 
@@ -117,6 +122,19 @@ impl Project {
       Some(*end)
     });
     std::iter::once(0).chain(ends).collect()
+  }
+  /// Whether the project has names.
+  pub fn is_named(&self) -> bool {
+    !self.names.is_empty()
+  }
+  /// The name of each line, where the names are of the form: "`~` at the start stands for byte 0".
+  pub fn module_names(&self) -> Vec<Vec<u8>> {
+    let lines = self.names.strip_suffix(b"\n").into_iter().flat_map(|lines| lines.split(|&byte| byte == b'\n'));
+    let name = |line: &[u8]| match line {
+      [b'~', rest @ ..] => [&[0], rest].concat(),
+      _ => line.to_vec(),
+    };
+    lines.map(name).collect()
   }
   /// Adds a row to a list.
   pub fn push<const N: usize>(&mut self, first: usize, row: [u32; N]) {

@@ -1,11 +1,20 @@
 //! "Each list: its line of names, its rows, an empty line. One space between fields, LF line ends, no leading zeros."
-use crate::{LISTS, MARK, Project, SETTINGS};
+use crate::{LISTS, MARK, NAMES, Project, SETTINGS};
 
 /// The longest text that is read.
 pub const LONGEST: usize = 65_536;
 
-/// The listing of a project whose columns have equal lengths in each list.
-pub fn render(project: &Project) -> String {
+/// The listing of a project whose columns have equal lengths in each list, with the list of names where it has names.
+pub fn render(project: &Project) -> Vec<u8> {
+  let mut out = lists(project).into_bytes();
+  if project.is_named() {
+    out.extend([NAMES.as_bytes(), b"\n", &project.names, b"\n"].concat());
+  }
+  out
+}
+
+/// The settings and the row lists.
+fn lists(project: &Project) -> String {
   let mut out = String::new();
   out.push_str(SETTINGS);
   out.push('\n');
@@ -67,7 +76,30 @@ pub fn read_head(text: &[u8]) -> Option<(Project, &[u8])> {
       project[list.first + at % list.width].push(value);
     }
   }
+  if let Some(lines) = line_of(rest, NAMES) {
+    let end = names_end(lines)?;
+    if !names_fit(project.modules(), &lines[..end]) {
+      return None;
+    }
+    project.names = lines[..end].to_vec();
+    rest = &lines[end + 1..];
+  }
   Some((project, rest))
+}
+
+/// Where the empty line after some lines begins.
+fn names_end(lines: &[u8]) -> Option<usize> {
+  let begins = |at: &usize| (*at == 0 || lines[*at - 1] == b'\n') && lines[*at] == b'\n';
+  (0..lines.len()).find(begins)
+}
+
+/// Whether there is "one line of 1 to 64 printable bytes a module", an LF after each.
+pub fn names_fit(modules: usize, names: &[u8]) -> bool {
+  let name = |line: &[u8]| match line {
+    [name @ .., b'\n'] => (1..=64).contains(&name.len()) && name.iter().all(|byte| (33..=126).contains(byte)),
+    _ => false,
+  };
+  names.split_inclusive(|&byte| byte == b'\n').count() == modules && names.split_inclusive(|&byte| byte == b'\n').all(name)
 }
 
 /// The project of a text, or none: refusal 7.
