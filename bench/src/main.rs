@@ -1,4 +1,4 @@
-//! `bench [--whole] [--growth] [--single] [--forty] [--tests] [WORD..]`: times the original's functions and the library's on every shape whose name has a WORD. See ../README.md.
+//! `bench [--whole] [--growth] [--single] [--forty] [--names] [--tests] [WORD..]`: times the original's functions and the library's on every shape whose name has a WORD. See ../README.md.
 mod clock;
 mod shapes;
 mod works;
@@ -54,6 +54,17 @@ fn forty(shapes: &[Shape]) {
   println!();
 }
 
+fn names(shapes: &[Shape]) {
+  clock::head("shape | operation");
+  for shape in shapes {
+    let project = shape.project();
+    let ready = Ready::of(&project);
+    println!("| {} | arrangement | {} |", shape.name, ready.arrangement());
+    println!("| {} | whole analysis | {} |", shape.name, ready.whole());
+  }
+  println!();
+}
+
 fn tests(shapes: &[Shape]) {
   println!("| shape | rows | ours, us | ours, median |\n|---|---|---|---|");
   for shape in shapes {
@@ -89,6 +100,10 @@ fn run(words: Vec<String>) {
   if flag("--forty") {
     println!("Forty entries: one call, and forty\n");
     forty(&shapes);
+  }
+  if flag("--names") {
+    println!("The arrangement of members, and the whole analysis with names, at a quarter, half and full size\n");
+    names(&shapes::named().into_iter().filter(named).collect::<Vec<_>>());
   }
   if flag("--tests") {
     println!("The tests 1 to 4 alone\n");

@@ -144,6 +144,37 @@ fn full_cyclic(part: usize, entries: usize) -> Project {
   full_tables(part, entries, true)
 }
 
+/// A name for each module: 64 bytes, of which the first 60 are equal, in scattered order.
+fn give_names(p: &mut Project) {
+  let n = p.modules();
+  for row in 0..n {
+    p.names.extend(format!("{:x>60}{:04}\n", "", row * 1_021 % n).bytes());
+  }
+}
+
+/// One chunk of modules without a record and without the sensitive flag, each four times among the members.
+fn leaves(part: usize, entries: usize) -> Project {
+  let n = 4_096 / part;
+  let mut p = Project::default();
+  p.push(ORDER, [0]);
+  for _ in 0..n {
+    p.push(NORMAL, [1, 1, 0, 0, 1, 0, 0, MARK]);
+  }
+  for row in 0..4 * n as u32 {
+    p.push(MEMBER_CHUNK, [0, row % n as u32]);
+  }
+  first_entries(&mut p, entries);
+  give_names(&mut p);
+  p
+}
+
+/// The fan, with names.
+fn named_fan(part: usize, entries: usize) -> Project {
+  let mut p = fan(part, entries);
+  give_names(&mut p);
+  p
+}
+
 type Maker = fn(usize, usize) -> Project;
 
 fn shape(name: &str, size: &str, make: Maker, part: usize, entries: usize) -> Shape {
@@ -165,6 +196,15 @@ pub fn all() -> Vec<Shape> {
     entries.iter().map(move |&entries| shape(name, "", make, 1, entries))
   };
   lines.into_iter().flat_map(each).collect()
+}
+
+/// The shapes with names.
+pub fn named() -> Vec<Shape> {
+  let lines: [(&str, Maker); 2] = [("leaves with names", leaves), ("fan with names", named_fan)];
+  let sized = |(name, make): (&'static str, Maker)| {
+    [(4, ", 1/4"), (2, ", 1/2"), (1, "")].map(|(part, size)| shape(name, size, make, part, 1))
+  };
+  lines.into_iter().flat_map(sized).collect()
 }
 
 /// Each shape at a quarter, half and full size.

@@ -18,7 +18,8 @@ pub struct Ready<'p> {
 const CIRCLE_PLACES: usize = 1 << 20;
 
 fn outputs(p: &Project) -> [Vec<u32>; 2] {
-  [vec![0; p.modules()], vec![0; p.modules()]]
+  let places = p.modules().max(p[MEMBER].len());
+  [vec![0; places], vec![0; places]]
 }
 
 /// The members of a set of marks.
@@ -57,6 +58,15 @@ impl<'p> Ready<'p> {
   /// The tests 1 to 4 alone, which the original doesn't have.
   pub fn tests(&self) -> Time {
     alone(|| self.ours(&Call::Refusal))
+  }
+
+  /// The arrangement of the members, of a project in which no two of a chunk tie. The two sides are compared first.
+  pub fn arrangement(&self) -> Pair {
+    let mut members = outputs(self.p);
+    let count = compare::library::call(&self.lent, &Call::Arrangement, &mut members[..1]).expect("accepted");
+    assert!(!self.original.open_chunks().contains(&true));
+    assert_eq!(self.original.members().concat(), members[0][..count]);
+    in_turns(|| timed(self.original.bare_arrangement(self.p)), || self.ours(&Call::Arrangement))
   }
 
   /// Forty entries walked together, and forty single calls: the modules after the first. The two lists of the first are compared.

@@ -59,6 +59,8 @@ fn to_itself(lists: &mut Lists) {
 
 const MODULES: usize = 0;
 const RECORDS: usize = 1;
+const CHUNKS: usize = 9;
+const MEMBERS: usize = 10;
 const IMPORTS: usize = 11;
 const ENTRIES: usize = 12;
 
@@ -159,6 +161,70 @@ fn reads_members_as_they_are_arranged() {
   let (mut order, mut hosts) = ([9; 4], [9; 4]);
   assert_eq!(with(unchanged, |table| Table { names: NAMES, ..table }.actual_order(1, &mut order, &mut hosts)), Ok(4));
   assert_eq!((order, hosts), ([3, 0, 2, 1], [MISSING; 4]));
+}
+
+/// As many modules as there are names, all in one chunk, their rows falling, without records and without the sensitive flag; the first is the runtime.
+fn leaves(names: &[u8]) -> (Vec<u32>, Vec<u32>) {
+  let modules = names.split(|&byte| byte == b'\n').count() - 1;
+  let mut lists: Lists = vec![Vec::new(); 14];
+  lists[MODULES] = vec![vec![1, 1, 0, 0, 1, 0, 0, MISSING]; modules];
+  lists[CHUNKS] = vec![vec![0]];
+  lists[MEMBERS] = (0..modules as u32).rev().map(|module| vec![0, module]).collect();
+  table(&lists)
+}
+
+/// The arrangement of such modules.
+fn arranged(names: &[u8]) -> Vec<u32> {
+  let (bounds, columns) = leaves(names);
+  let table = Table { runtime: 0, dynamic: 0, bounds: &bounds, columns: &columns, names };
+  let mut members = vec![9; names.iter().filter(|&&byte| byte == b'\n').count() + 1];
+  assert_eq!(table.sort_chunk_modules(&mut members), Ok(members.len() - 1));
+  assert_eq!(members.pop(), Some(9));
+  members
+}
+
+#[test]
+fn sorts_leaves_by_their_bytes() {
+  // `~` at the start is byte 0, before `!`; inside it is itself, behind `}`
+  assert_eq!(arranged(b"!\n~\na\n"), [1, 0, 2]);
+  assert_eq!(arranged(b"a~\na!\na}\na\n~a\n~\n"), [5, 4, 3, 1, 2, 0]);
+  // rolldown's own come first, by number; here all but the runtime are unreached, and tie
+  assert_eq!(arranged(b"a\n~rolldown/b\nrolldown/b\nrolldown:a\n~rolldown:\nrolldown\n"), [1, 3, 4, 0, 5, 2]);
+}
+
+#[test]
+fn takes_names_of_64_bytes() {
+  let long = |last: u8| [&[b'x'; 63][..], &[last, b'\n']].concat();
+  assert_eq!(arranged(&[long(b'c'), long(b'~'), long(b'a'), long(b'!')].concat()), [3, 2, 0, 1]);
+  let over = [&b"a\nb\nc\n"[..], &[b'x'; 65], b"\n"].concat();
+  assert_eq!(with(unchanged, |table| Table { names: &over, ..table }.refusal()), Err(Refused(2)));
+  assert_eq!(with(unchanged, |table| Table { names: &[&over[..70], b"\n"].concat(), ..table }.refusal()), Ok(0));
+}
+
+#[test]
+fn takes_4096_names() {
+  // equal in their first 60 bytes; the last four are the rows, falling
+  let names: Vec<u8> = (0..4096).flat_map(|row| format!("{:x>60}{:04}\n", "", 4095 - row).into_bytes()).collect();
+  assert_eq!(names.len(), 4096 * 65);
+  assert_eq!(arranged(&names), (0..4096).rev().collect::<Vec<u32>>());
+  // one more is a list over its limit
+  let (bounds, columns) = leaves(&[&names[..], b"x\n"].concat());
+  let names = [&names[..], b"x\n"].concat();
+  assert_eq!(Table { runtime: 0, dynamic: 0, bounds: &bounds, columns: &columns, names: &names }.refusal(), Err(Refused(1)));
+}
+
+#[test]
+fn reads_a_project_without_names() {
+  let mut order = [9; 4];
+  with(unchanged, |table| {
+    assert_eq!(table.refusal(), Ok(0));
+    assert_eq!(table.actual_order(1, &mut order, &mut [9; 4]), Ok(4));
+    assert_eq!(table.sort_chunk_modules(&mut [9; 4]), Err(Refused(2)));
+    // the tests of the table come first
+    assert_eq!(Table { dynamic: 2, ..table }.sort_chunk_modules(&mut []), Err(Refused(2)));
+    assert_eq!(Table { bounds: &[], ..table }.sort_chunk_modules(&mut []), Err(Refused(1)));
+  });
+  assert_eq!(order, [0, 3, 2, 1]);
 }
 
 #[test]
