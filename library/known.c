@@ -197,19 +197,22 @@ static void answers(void) {
   EXPECT(jolmuqter_grounds(TABLE(t), a, 4), 3);
   HOLD(a, 0, 1, 1, 1);
 
-  EXPECT(jolmuqter_plan_from_seeds(TABLE(t), LIST(9), 0, a, 4), 0);
-  HOLD(a, 0, 0, 0, 0);
-  EXPECT(jolmuqter_plan_from_seeds(TABLE(t), LIST(0), 1, a, 4), 0);
-  HOLD(a, 0, 0, 0, 0);
-  EXPECT(jolmuqter_plan_from_seeds(TABLE(t), LIST(1), 1, a, 4), 1);
-  HOLD(a, 0, 1, 0, 0);
-  EXPECT(jolmuqter_plan_from_seeds(TABLE(t), LIST(2), 1, a, 4), 3);
-  HOLD(a, 0, 1, 1, 1);
-  EXPECT(jolmuqter_plan_from_seeds(TABLE(back), LIST(1), 1, a, 4), 3);
-  HOLD(a, 0, 1, 1, 1);
-  EXPECT(jolmuqter_plan_from_seeds(TABLE(t), LIST(1, 4), 2, a, 4), REFUSED(5));
-  EXPECT(jolmuqter_plan_from_seeds(TABLE(t), LIST(1), 1, a, 3), REFUSED(6));
-  HOLD(a, 0, 1, 1, 1);
+  uint64_t (*planners[])(JOLMUQTER_TABLE, const uint32_t *, size_t, uint32_t *, size_t) = {jolmuqter_plan_from_seeds, jolmuqter_plan_by_worklist};
+  for (size_t i = 0; i < LENGTH(planners); i++) {
+    EXPECT(planners[i](TABLE(t), LIST(9), 0, a, 4), 0);
+    HOLD(a, 0, 0, 0, 0);
+    EXPECT(planners[i](TABLE(t), LIST(0), 1, a, 4), 0);
+    HOLD(a, 0, 0, 0, 0);
+    EXPECT(planners[i](TABLE(t), LIST(1), 1, a, 4), 1);
+    HOLD(a, 0, 1, 0, 0);
+    EXPECT(planners[i](TABLE(t), LIST(2), 1, a, 4), 3);
+    HOLD(a, 0, 1, 1, 1);
+    EXPECT(planners[i](TABLE(back), LIST(1), 1, a, 4), 3);
+    HOLD(a, 0, 1, 1, 1);
+    EXPECT(planners[i](TABLE(t), LIST(1, 4), 2, a, 4), REFUSED(5));
+    EXPECT(planners[i](TABLE(t), LIST(1), 1, a, 3), REFUSED(6));
+    HOLD(a, 0, 1, 1, 1);
+  }
 
   EXPECT(jolmuqter_check_plan(TABLE(t), LIST(2), 1, LIST(0, 1, 1, 1), 4), 0);
   EXPECT(jolmuqter_check_plan(TABLE(t), LIST(1), 1, LIST(0, 1, 0, 1), 4), 0);
@@ -302,6 +305,7 @@ static void cycle_risk(void) { EXPECT(jolmuqter_cycle_risk(TABLE(deep), 0, first
 static void grounds(void) { EXPECT(jolmuqter_grounds(TABLE(deep), first, MODULES), MODULES - 1); }
 static void check_plan(void) { EXPECT(jolmuqter_check_plan(TABLE(deep), LIST(MODULES - 1), 1, first, MODULES) < JOLMUQTER_REFUSED, 1); }
 static void plan_from_seeds(void) { EXPECT(jolmuqter_plan_from_seeds(TABLE(deep), LIST(MODULES - 1), 1, first, MODULES) < JOLMUQTER_REFUSED, 1); }
+static void plan_by_worklist(void) { EXPECT(jolmuqter_plan_by_worklist(TABLE(deep), LIST(MODULES - 1), 1, first, MODULES) < JOLMUQTER_REFUSED, 1); }
 static void share(void) { EXPECT(jolmuqter_share(TABLE(deep), first, MODULES), 4); }
 static void plan(void) { EXPECT(jolmuqter_plan(TABLE(deep), first, MODULES) < JOLMUQTER_REFUSED, 1); }
 
@@ -323,14 +327,14 @@ static size_t stack_of(void (*call)(void)) {
 
 int main(void) {
   answers();
-  void (*calls[])(void) = {sort_modules, import_circles, expected_order, entries_order, actual_order, sort_chunk_modules, labels, chunk_reach, order_risk, cycle_risk, grounds, plan_from_seeds, check_plan, plan, share};
-  const char *names[] = {"sort_modules", "import_circles", "expected_order", "entries_order", "actual_order", "sort_chunk_modules", "labels", "chunk_reach", "order_risk", "cycle_risk", "grounds", "plan_from_seeds", "check_plan", "plan", "share"};
+  void (*calls[])(void) = {sort_modules, import_circles, expected_order, entries_order, actual_order, sort_chunk_modules, labels, chunk_reach, order_risk, cycle_risk, grounds, plan_from_seeds, plan_by_worklist, check_plan, plan, share};
+  const char *names[] = {"sort_modules", "import_circles", "expected_order", "entries_order", "actual_order", "sort_chunk_modules", "labels", "chunk_reach", "order_risk", "cycle_risk", "grounds", "plan_from_seeds", "plan_by_worklist", "check_plan", "plan", "share"};
   for (uint32_t way = 0; way < 4; way++) {
     deep = named(chains(way & 2), way & 1 ? all_names() : "");
     for (size_t i = 0; i < LENGTH(calls); i++) {
       size_t bytes = stack_of(calls[i]);
       printf("stack of %s, wrap %u, %s names: %zu KB\n", names[i], way & 2, way & 1 ? "with" : "without", bytes >> 10);
-      EXPECT(bytes < 2 << 20, 1);
+      EXPECT(bytes < (calls[i] == plan_by_worklist ? 4 : 2) << 20, 1);
     }
   }
   printf("from C: %d checks, %d failed\n", checks, failures);

@@ -134,6 +134,32 @@ fn cascade(part: usize, entries: usize) -> Project {
   p
 }
 
+/// Sensitive siblings, each of which reads a symbol of the next; the last is a seed. Each joins after the next, and a worklist walks the entries for each.
+fn backwards(part: usize, entries: usize) -> Project {
+  let n = 4_096 / part;
+  let mut p = Project::default();
+  p.push(ORDER, [0]);
+  p.push(SEED, [n as u32 - 1]);
+  for module in 0..n as u32 {
+    p.push(NORMAL, [1, 1, 1, 1, 1, 0, 0, MARK]);
+    p.push(MEMBER_CHUNK, [0, module]);
+    p.push(OWNER, [module, module]);
+  }
+  for sibling in entries as u32 + 1..n as u32 {
+    p.push(RECORD_MODULE, [1, 0, sibling]);
+  }
+  for entry in 2..=entries as u32 {
+    p.push(RECORD_MODULE, [entry, 0, 1]);
+  }
+  for sibling in entries as u32 + 1..n as u32 - 1 {
+    let statement = p[STATEMENT_MODULE].len() as u32;
+    p.push(STATEMENT_MODULE, [sibling, 1]);
+    p.push(REFERENCE_STATEMENT, [statement, 0, sibling + 1]);
+  }
+  first_entries(&mut p, entries);
+  p
+}
+
 /// As `full`, as large as a text of 61 KB allows.
 fn text_sized(_: usize, entries: usize) -> Project {
   let fits = |part: &usize| render(&full(*part, entries)).len() <= LONGEST * 61 / 64;
@@ -184,12 +210,13 @@ fn shape(name: &str, size: &str, make: Maker, part: usize, entries: usize) -> Sh
 
 /// Every shape at full size.
 pub fn all() -> Vec<Shape> {
-  let lines: [(&str, Maker, &[usize]); 6] = [
+  let lines: [(&str, Maker, &[usize]); 7] = [
     ("full tables", full, &[1, 16, 256, 4_096]),
     ("full tables, cyclic chunks", full_cyclic, &[16]),
     ("fan", fan, &[1, 64]),
     ("chain", chain, &[1, 16]),
     ("cascade", cascade, &[1, 16]),
+    ("backwards", backwards, &[1, 16]),
     ("text of 61 KB", text_sized, &[16]),
   ];
   let each = |(name, make, entries): (&'static str, Maker, &'static [usize])| {
@@ -209,8 +236,13 @@ pub fn named() -> Vec<Shape> {
 
 /// Each shape at a quarter, half and full size.
 pub fn growing() -> Vec<Shape> {
-  let lines: [(&str, usize, Maker); 4] =
-    [("full tables", 16, full), ("fan", 16, fan), ("chain", 1, chain), ("cascade", 1, cascade)];
+  let lines: [(&str, usize, Maker); 5] = [
+    ("full tables", 16, full),
+    ("fan", 16, fan),
+    ("chain", 1, chain),
+    ("cascade", 1, cascade),
+    ("backwards", 1, backwards),
+  ];
   let sized = |(name, entries, make): (&'static str, usize, Maker)| {
     [(4, ", 1/4"), (2, ", 1/2"), (1, "")]
       .map(|(part, size)| shape(name, size, make, part, entries))

@@ -120,6 +120,13 @@ impl<'p> Ready<'p> {
           || self.ours(&Call::PlanFrom(self.p[SEED].clone())),
         ),
       ),
+      (
+        "the same by a worklist",
+        in_turns(
+          || timed(|| original.bare_plan_from(&seeds)),
+          || self.ours(&Call::Taken(self.p[SEED].clone())),
+        ),
+      ),
     ]
   }
 }

@@ -212,7 +212,7 @@ pub fn risks(root: u32) -> [Call; 3] {
 }
 
 /// A call of each operation, of a project with so many modules.
-pub fn one_call_each(modules: usize) -> [Call; 16] {
+pub fn one_call_each(modules: usize) -> [Call; 17] {
   [
     Call::Sort,
     Call::Expected(1),
@@ -221,6 +221,7 @@ pub fn one_call_each(modules: usize) -> [Call; 16] {
     Call::Reach(0),
     Call::Risk(1),
     Call::PlanFrom(vec![1]),
+    Call::Taken(vec![1]),
     Call::Whole,
     Call::Refusal,
     Call::OrderRisk(1),
@@ -380,6 +381,7 @@ fn calls(p: &Project, model: Option<&Model>) -> Vec<Call> {
     calls.extend([Call::PlanFrom(vec![]), Call::PlanFrom(vec![0]), Call::PlanFrom(vec![n])]);
     calls.extend([Call::Entries(vec![]), Call::Entries(vec![0]), Call::Entries(vec![n])]);
     calls.extend([Call::Check(vec![], vec![0; n as usize]), Call::Check(vec![n], vec![2])]);
+    calls.extend([Call::Taken(vec![]), Call::Taken(vec![0]), Call::Taken(vec![n])]);
     return calls;
   }
   for root in roots(p.modules()).into_iter().chain([n, MARK]) {
@@ -410,6 +412,8 @@ fn calls(p: &Project, model: Option<&Model>) -> Vec<Call> {
     calls.push(Call::Entries(vec![0; 16_385]));
     calls.extend([16_384, 16_385].map(|many| Call::Check(vec![0; many], vec![0; n as usize])));
   }
+  let taken: Vec<Call> = calls.iter().filter_map(Call::taken).collect();
+  calls.extend(taken);
   calls
 }
 

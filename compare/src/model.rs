@@ -17,6 +17,8 @@ pub enum Call {
   /// Both kinds of risk, joined by the caller.
   Risk(u32),
   PlanFrom(Vec<u32>),
+  /// The same by a worklist.
+  Taken(Vec<u32>),
   Whole,
   /// The tests 1 to 4 alone.
   Refusal,
@@ -42,6 +44,13 @@ pub fn broken(condition: u32, module: u32) -> usize {
 pub fn first_broken(by_condition: Vec<Vec<u32>>) -> usize {
   let named = |(modules, condition): (Vec<u32>, u32)| modules.into_iter().min().map(|m| broken(condition, m));
   by_condition.into_iter().zip(1..).find_map(named).unwrap_or(0)
+}
+
+impl Call {
+  /// The call that plans from the same seeds by a worklist, where it is one that plans from seeds.
+  pub fn taken(&self) -> Option<Self> {
+    if let Self::PlanFrom(seeds) = self { Some(Self::Taken(seeds.clone())) } else { None }
+  }
 }
 
 /// What an accepted call gives: its count, and each output from place 0.
@@ -987,7 +996,7 @@ impl<'a> Model<'a> {
       Call::Grounds => {
         Given { count: members(&self.sensitive).len(), outputs: vec![self.grounds.clone()] }
       }
-      Call::PlanFrom(seeds) => marks(self.plan_from(seeds)),
+      Call::PlanFrom(seeds) | Call::Taken(seeds) => marks(self.plan_from(seeds)),
       Call::Whole => marks(self.plan()),
       Call::Refusal => Given { count: 0, outputs: Vec::new() },
       Call::Entries(entries) => list(self.entries(entries)),

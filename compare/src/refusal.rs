@@ -166,7 +166,9 @@ fn fitting(p: &Project, call: &Call) -> bool {
     }
     Call::Reach(chunk) => (*chunk as usize) < p.chunks(),
     Call::Entries(entries) => entries.iter().all(|&entry| module(entry)),
-    Call::PlanFrom(seeds) | Call::Check(seeds, _) => seeds.len() <= 16_384 && seeds.iter().all(|&seed| module(seed)),
+    Call::PlanFrom(seeds) | Call::Taken(seeds) | Call::Check(seeds, _) => {
+      seeds.len() <= 16_384 && seeds.iter().all(|&seed| module(seed))
+    }
   }
 }
 

@@ -2,7 +2,7 @@
 //!
 //! First how many cases. A case is a line with `#` and its name; then how many bounds and these; how many values the columns have and these; how many
 //! bytes the names have and these, as numbers; `runtime dynamic`, what every output holds before a call, and how many calls. A call is its operation (its
-//! place in the list of `Call`'s kinds), its argument, 0 and the count or 1 and the refusal's number, and how many places each of two outputs has; how many
+//! number in `put_call`), its argument, 0 and the count or 1 and the refusal's number, and how many places each of two outputs has; how many
 //! seeds or entries and these (for the check of a plan the seeds, as many as the argument says, and then the plan's marks); and for each output how many places
 //! are written and these.
 //! `-` is the missing mark. In a list, `5*0` stands for five zeros, `3*8+2` for 8 10 12, `3*8~2` for 8 6 4, `6*8+1/2` for 8 8 9 9 10 10; and `5.` for the
@@ -119,7 +119,7 @@ fn every_call(p: &Project) -> Vec<Asked> {
   let n = p.modules() as u32;
   let mut calls = vec![Call::Sort, Call::Circles, Call::Labels, Call::Whole, Call::Grounds, Call::Arrangement, Call::PlanFrom(vec![])];
   for module in 0..n {
-    calls.extend([Call::Expected(module), Call::PlanFrom(vec![module])]);
+    calls.extend([Call::Expected(module), Call::PlanFrom(vec![module]), Call::Taken(vec![module])]);
   }
   for &root in &p[ENTRY] {
     calls.push(Call::Actual(root));
@@ -429,6 +429,7 @@ fn put_call(out: &mut String, asked: &Asked, number: u32, given: Option<Given>) 
     Call::Reach(chunk) => (4, *chunk),
     Call::Risk(root) => (5, *root),
     Call::PlanFrom(_) => (6, 0),
+    Call::Taken(_) => (16, 0),
     Call::Whole => (7, 0),
     Call::Refusal => (8, 0),
     Call::OrderRisk(root) => (9, *root),
@@ -443,7 +444,7 @@ fn put_call(out: &mut String, asked: &Asked, number: u32, given: Option<Given>) 
   put(out, [operation, argument, refused, given.as_ref().map_or(number, |given| given.count as u32)]);
   put(out, (0..2).map(|at| rooms.get(at).copied().unwrap_or(0) as u32));
   let lent = match call {
-    Call::PlanFrom(list) | Call::Entries(list) => list.clone(),
+    Call::PlanFrom(list) | Call::Taken(list) | Call::Entries(list) => list.clone(),
     Call::Check(seeds, plan) => [&seeds[..], plan].concat(),
     _ => Vec::new(),
   };
@@ -483,7 +484,7 @@ fn of_the_original(p: &Project, original: &Original, call: &Call) -> Option<Give
       Given { count: usize::from(original.reaches()[*chunk as usize]), outputs: Vec::new() }
     }
     Call::Risk(root) => marks(entry(*root).risk),
-    Call::PlanFrom(seeds) => marks(original.plan_from(seeds)),
+    Call::PlanFrom(seeds) | Call::Taken(seeds) => marks(original.plan_from(seeds)),
     Call::Whole => marks(original.plan()),
     Call::Refusal => return None,
     Call::OrderRisk(root) => marks(entry(*root).early),

@@ -184,6 +184,22 @@ pub extern "C" fn jolmuqter_plan_from_seeds<'a>(
     code(wrap_plan::plan_from_seeds(runtime, dynamic, bounds, columns, names, seeds, plan))
 }
 
+// The same by a worklist.
+#[no_mangle]
+pub extern "C" fn jolmuqter_plan_by_worklist<'a>(
+    runtime: u32,
+    dynamic: u32,
+    bounds: &'a [u32],
+    columns: &'a [u32],
+    names: &'a [u8],
+    seeds: &[u32],
+    plan: &mut [u32],
+) -> u64
+    ensures { λ r. ⌜ Exported (Plan (now (seeds .entry))) (lent runtime dynamic (now (bounds .entry)) (now (columns .entry)) (now (names .entry))) (now (plan .entry)) [] r (now (plan .exit)) [] ⌝ }
+{
+    code(plan_by_worklist::plan_by_worklist(runtime, dynamic, bounds, columns, names, seeds, plan))
+}
+
 // What is said of a plan, as a number.
 fn judgement_code(judgement: Judgement) -> u64
     ensures { λ r. ⌜ r ≡ codedJudgement judgement ⌝ }

@@ -309,6 +309,27 @@ fn plans_from_seeds() {
   assert_eq!(with(unchanged, |table| table.plan_from_seeds(&[1], &mut [9; 3])), Err(Refused(6)));
 }
 
+/// On a thread with the stack that the header says: the standard library's have 2 MiB.
+#[test]
+fn plans_by_a_worklist() {
+  let calls = || {
+    let mut plan = [9; 4];
+    let mut ask = |change: fn(&mut Lists), seeds: &[u32]| {
+      with(change, |table| table.plan_by_worklist(seeds, &mut plan)).map(|count| (count, plan))
+    };
+    assert_eq!(ask(unchanged, &[]), Ok((0, [0; 4])));
+    assert_eq!(ask(unchanged, &[0]), Ok((0, [0; 4])));
+    assert_eq!(ask(unchanged, &[1]), Ok((1, [0, 1, 0, 0])));
+    assert_eq!(ask(unchanged, &[2]), Ok((3, [0, 1, 1, 1])));
+    assert_eq!(ask(back, &[1]), Ok((3, [0, 1, 1, 1])));
+    assert_eq!(ask(unchanged, &[1; 16384]), Ok((1, [0, 1, 0, 0])));
+    assert_eq!(ask(unchanged, &[1; 16385]), Err(Refused(5)));
+    assert_eq!(ask(unchanged, &[4]), Err(Refused(5)));
+    assert_eq!(with(unchanged, |table| table.plan_by_worklist(&[1], &mut [9; 3])), Err(Refused(6)));
+  };
+  std::thread::Builder::new().stack_size(5 << 20).spawn(calls).unwrap().join().unwrap();
+}
+
 #[test]
 fn checks_plans() {
   use Judgement::{Accepted, Broken};

@@ -1,0 +1,2 @@
+-- Planning by a worklist.
+pub mod inner

@@ -1,0 +1,2 @@
+-- Rule (i) in batches.
+pub mod inner

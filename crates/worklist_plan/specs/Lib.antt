@@ -1,0 +1,2 @@
+-- The plan from seeds by a worklist.
+pub mod inner

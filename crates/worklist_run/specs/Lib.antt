@@ -1,0 +1,2 @@
+-- A run of a worklist.
+pub mod inner
