@@ -9,14 +9,17 @@ export const cleared = () => rm(top, { recursive: true });
 
 let folders = 0;
 
-// The order in which the files of `sources` (name to text) ran when `root` was imported; a file says so by `ran(number)`.
+// The order in which the files of `sources` (name to text) ran when `root` was imported; a file says so by `ran(number)`, or with its host by
+// `ran(number, host)`. `begins(number)` says whether it is the first time.
 // A failure to link or to run ends the list with its code. `later`: what runs soon afterwards counts too.
 export async function orderOf(sources, root, later = false) {
   const folder = join(top, String(folders++));
   await mkdir(folder);
   for (const [name, text] of Object.entries(sources)) await writeFile(join(folder, name), text);
   const order = [];
-  globalThis.ran = (number) => order.push(number);
+  const begun = new Set();
+  globalThis.ran = (number, host) => order.push(host === undefined ? number : `${number} ${host}`);
+  globalThis.begins = (number) => !begun.has(number) && begun.add(number) && true;
   globalThis.ranOnce = (number) => order.includes(number) || order.push(number);
   try {
     await import(pathToFileURL(join(folder, root)).href);
@@ -28,7 +31,7 @@ export async function orderOf(sources, root, later = false) {
   return order;
 }
 
-const importsOf = (names) => names.map((name) => `import "./${name}";\n`).join("");
+export const importsOf = (names) => names.map((name) => `import "./${name}";\n`).join("");
 
 // A file for each module: its records as imports, in record order, then its body.
 export function moduleFiles(project) {

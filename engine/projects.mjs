@@ -27,11 +27,11 @@ const NAMES = [
   "order", "chunk member", "chunk imports", "entry chunk", "seed",
 ];
 
-// A project has modules (rows), records, order, members, imports and entries; the other lists are empty.
+// A project has modules (rows), records, order, members, imports and entries, and may have dependencies; the other lists are empty.
 export function listing(project) {
-  const { modules, records, order, members, imports, entries } = project;
+  const { modules, records, dependencies = [], order, members, imports, entries } = project;
   const lists = [
-    [[0, 0]], modules.map((row) => [...row, "-"]), records, [], [], [], [], [], [], [], order.map((value) => [value]), members, imports, entries, [],
+    [[0, 0]], modules.map((row) => [...row, "-"]), records, dependencies, [], [], [], [], [], [], order.map((value) => [value]), members, imports, entries, [],
   ];
   return NAMES.map((name, at) => [name, ...lists[at].map((row) => row.join(" ")), "", ""].join("\n")).join("");
 }
@@ -107,4 +107,50 @@ export function randomChunks(random, ties) {
   if (entries.length === 0) entries.push([0, modules[0][6]]);
   modules[entries[0][0]][1] = 1;
   return { modules, records: [], order, members: rising(members), imports: rising(imports), entries };
+}
+
+const MISSING = "-";
+
+// Chunks and records whose modules may be wrapped, external, not included or without a target: rings of modules and of chunks among them. Where `plain`, a
+// project of the load theorem: all modules but the runtime are eligible, without a record of kind 1, and depend on what they import.
+export function randomLoads(random, plain) {
+  const { order, imports, members, modules, entries } = randomChunks(random, true);
+  const count = modules.length;
+  const records = [];
+  const back = [20, 60, 100][random.below(3)];
+  for (let i = random.below(3 * count + 1); i > 0; i--) {
+    const from = random.below(count);
+    const on = from + 1 + random.below(3);
+    const to = random.coin(back) || on >= count ? random.below(count) : on;
+    records.push([from, plain ? [0, 0, 0, 2][random.below(4)] : random.below(4), random.coin(5) ? MISSING : to]);
+  }
+  modules.forEach((row, module) => {
+    row[2] = random.coin(70) ? 1 : 0;
+    if (plain) row[1] = 1;
+    else {
+      row[0] = random.coin(92) ? 1 : 0;
+      row[4] = random.below(3);
+      row[5] = random.coin(30) ? 1 + random.below(2) : 0;
+      if (row[0] === 0) for (let at = records.length - 1; at >= 0; at--) if (records[at][0] === module) records.splice(at, 1);
+    }
+  });
+  if (plain) return plainOf(records, order, imports, members, modules, entries);
+  const dependencies = records.filter(() => random.coin(60)).map(([from, , to]) => [from, to]).filter((row) => row[1] !== MISSING);
+  return { modules, records: rising(records), dependencies, order, members, imports, entries };
+}
+
+// The runtime is in no record, and what no entry reaches isn't included.
+function plainOf(all, order, imports, members, modules, rows) {
+  const records = all.filter(([from, , to]) => from !== 0 && to !== 0);
+  const entries = rows.filter(([entry]) => entry !== 0);
+  const reached = new Set();
+  const reach = (module) => {
+    if (reached.has(module)) return;
+    reached.add(module);
+    records.filter(([from, kind, to]) => from === module && kind === 0 && to !== MISSING).forEach((row) => reach(row[2]));
+  };
+  entries.forEach(([entry]) => reach(entry));
+  modules.forEach((row, module) => (row[1] = module === 0 || reached.has(module) ? 1 : 0));
+  const dependencies = records.filter(([, kind, to]) => kind === 0 && to !== MISSING).map(([from, , to]) => [from, to]);
+  return { modules, records: rising(records), dependencies, order, members, imports, entries };
 }

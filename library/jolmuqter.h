@@ -30,8 +30,8 @@
  *   entries        module, chunk or the mark
  *   seeds          module                                                          0 to 16,384 rows, as any list with no other limit
  *
- * Record targets and dependencies are read through `newer` until a module without one is reached. In actual order, order risk, whole analysis and share the
- * members of a project with names are read as jolmuqter_sort_chunk_modules arranges them. All else is read as written.
+ * Record targets and dependencies are read through `newer` until a module without one is reached. In actual order, tried loads, order risk, whole analysis and share
+ * the members of a project with names are read as jolmuqter_sort_chunk_modules arranges them. All else is read as written.
  *
  * Rows count from 0. The mark, JOLMUQTER_MISSING, stands for a value that is missing.
  *
@@ -60,6 +60,9 @@
 #define JOLMUQTER_BOUNDS 35
 #define JOLMUQTER_CONDITION(answer) ((uint32_t)((answer) >> 16))
 #define JOLMUQTER_MODULE(answer) ((uint32_t)((answer) & 65535))
+#define JOLMUQTER_DONE UINT64_C(2147483648)
+#define JOLMUQTER_STEP_MODULE(answer) ((uint32_t)((answer) >> 16))
+#define JOLMUQTER_STEP_HOST(answer) ((uint32_t)((answer) & 65535))
 #define JOLMUQTER_NO_NAMES (const uint8_t *)"", 0
 #define JOLMUQTER_TABLE                                                                                                \
   uint32_t runtime, uint32_t dynamic, const uint32_t *bounds, size_t bounds_len, const uint32_t *columns, size_t columns_len,   \
@@ -129,6 +132,14 @@ uint64_t jolmuqter_check_plan(JOLMUQTER_TABLE, const uint32_t *seeds, size_t see
 
 /* plan: 0 or 1 for each module, of the whole analysis: from all analysed entries' risks and the seed rows. Count: that of ones. */
 uint64_t jolmuqter_plan(JOLMUQTER_TABLE, uint32_t *plan, size_t plan_len);
+
+/* A step of the load of an analysed entry with a plan carried out: the actual order with the wrap of every planned module read as 2. plan: 0 or 1 for each
+ * module; it may hold any modules. number: from 0. The answer isn't a count: JOLMUQTER_STEP_MODULE(answer), the module at that place, and
+ * JOLMUQTER_STEP_HOST(answer), its host, itself where it is its own; JOLMUQTER_DONE where none is left; else 2^32 plus the number of a refusal, as above. */
+uint64_t jolmuqter_load_step(JOLMUQTER_TABLE, uint32_t root, uint32_t number, const uint32_t *plan, size_t plan_len);
+
+/* All steps of such a load: place n of steps is step n's module, and place n of hosts its host. Count: that of steps. */
+uint64_t jolmuqter_load_run(JOLMUQTER_TABLE, uint32_t root, const uint32_t *plan, size_t plan_len, uint32_t *steps, size_t steps_len, uint32_t *hosts, size_t hosts_len);
 
 /* share: four numbers: how many modules are eligible, how many of them the whole analysis plans, and the quotient and the remainder of 1,000 times the
  * second by the first, both 0 where the first is 0. 6 where it has less than 4 places. Count: 4. */

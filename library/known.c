@@ -233,6 +233,24 @@ static void answers(void) {
   EXPECT(jolmuqter_plan(TABLE(t), a, 4), 2);
   HOLD(a, 0, 1, 0, 1);
 
+  for (uint32_t n = 0; n < 6; n++) {
+    static const uint64_t steps[6] = {0, 2 * 65536 + 2, 3 * 65536 + 1, 65536 + 1, JOLMUQTER_DONE, JOLMUQTER_DONE};
+    EXPECT(jolmuqter_load_step(TABLE(t), 1, n, LIST(0, 1, 0, 1), 4), steps[n]);
+  }
+  EXPECT(JOLMUQTER_STEP_MODULE(UINT64_C(196609)), 3), EXPECT(JOLMUQTER_STEP_HOST(UINT64_C(196609)), 1);
+  EXPECT(jolmuqter_load_step(TABLE(t), 0, 0, LIST(2), 1), REFUSED(5));
+  EXPECT(jolmuqter_load_step(TABLE(t), 1, 0, LIST(0, 1, 0, 2), 4), REFUSED(9));
+  EXPECT(jolmuqter_load_step(TABLE(twice), 0, 0, LIST(2), 1), REFUSED(4));
+  EXPECT(jolmuqter_load_run(TABLE(t), 1, LIST(0, 1, 0), 3, a, 3, b, 3), REFUSED(9));
+  EXPECT(jolmuqter_load_run(TABLE(t), 1, LIST(0, 1, 0, 1), 4, a, 4, b, 3), REFUSED(6));
+  HOLD(a, 0, 1, 0, 1);
+  EXPECT(jolmuqter_load_run(TABLE(t), 1, LIST(0, 1, 0, 1), 4, a, 4, b, 4), 4);
+  HOLD(a, 0, 2, 3, 1), HOLD(b, 0, 2, 1, 1);
+  EXPECT(jolmuqter_load_run(TABLE(t), 1, LIST(0, 0, 0, 0), 4, a, 4, b, 4), 4);
+  HOLD(a, 0, 3, 2, 1), HOLD(b, 0, 3, 2, 1);
+  EXPECT(jolmuqter_plan(TABLE(t), a, 4), 2);
+  HOLD(a, 0, 1, 0, 1);
+
   EXPECT(jolmuqter_share(TABLE(t), a, 3), REFUSED(6));
   HOLD(a, 0, 1, 0, 1);
   EXPECT(jolmuqter_share(TABLE(t), a, 4), 4);

@@ -15,6 +15,29 @@ use Rattle.actual_order.specs.inner.InTurn.{chunkOrder, hostsInTurn}
 use Rattle.actual_order.proofs.Actuals.{Noted, run-noted, turn-host}
 use Rattle.actual_order.proofs.Chunks.{from-distinct, from-member, from-length, from-hosts-length, run-in-turn}
 
+-- of a run with any wraps
+module _ (p : Project) (wraps : List ℕ) (root : ℕ) where
+  abbrev from : ℕ → List ℕ
+  from = loadOrder (p .order) (p .importChunk) (p .imports)
+
+  -- "no module stands twice"
+  pub run-of-distinct : Distinct (runOf p wraps root .listed)
+  unfolding runOf
+  run-of-distinct = from-distinct (p .normal) (p .included) wraps (p .recordModule) (p .recordKind) (p .recordTarget) (p .memberChunk) (p .member) from (chunks p) root (entryChunkOf p root)
+
+  -- "each is normal and included"
+  pub run-of-member : (m : ℕ) → List·Memᴰ m (runOf p wraps root .listed) → (m < modules p) × (isNormal (p .normal) m ≡ true) × (flagged (p .included) m ≡ true)
+  unfolding runOf
+  run-of-member = from-member (p .normal) (p .included) wraps (p .recordModule) (p .recordKind) (p .recordTarget) (p .memberChunk) (p .member) from (chunks p) root (entryChunkOf p root)
+
+  pub run-of-length : length (runOf p wraps root .listed) ≤ modules p
+  unfolding runOf
+  run-of-length = from-length (p .normal) (p .included) wraps (p .recordModule) (p .recordKind) (p .recordTarget) (p .memberChunk) (p .member) from (chunks p) root (entryChunkOf p root)
+
+  pub run-of-hosts-length : length (runOf p wraps root .hosts) ≡ modules p
+  unfolding runOf
+  run-of-hosts-length = from-hosts-length (p .normal) (p .included) wraps (p .recordModule) (p .recordKind) (p .recordTarget) (p .memberChunk) (p .member) from (chunks p) root (entryChunkOf p root)
+
 module _ (p : Project) (root : ℕ) where
   abbrev loads : ℕ → List ℕ
   loads = loadOrder (p .order) (p .importChunk) (p .imports)
@@ -22,23 +45,21 @@ module _ (p : Project) (root : ℕ) where
   abbrev turns : List ℕ
   turns = hostsInTurn (p .wrap) (p .memberChunk) (p .member) loads (chunks p) root (entryChunkOf p root)
 
-  -- "no module stands twice"
   pub actual-distinct : Distinct (actualOf p root)
-  unfolding actualOf runOf
-  actual-distinct = from-distinct (p .normal) (p .included) (p .wrap) (p .recordModule) (p .recordKind) (p .recordTarget) (p .memberChunk) (p .member) loads (chunks p) root (entryChunkOf p root)
+  unfolding actualOf
+  actual-distinct = run-of-distinct p (p .wrap) root
 
-  -- "each is normal and included"
   pub actual-member : (m : ℕ) → List·Memᴰ m (actualOf p root) → (m < modules p) × (isNormal (p .normal) m ≡ true) × (flagged (p .included) m ≡ true)
-  unfolding actualOf runOf
-  actual-member = from-member (p .normal) (p .included) (p .wrap) (p .recordModule) (p .recordKind) (p .recordTarget) (p .memberChunk) (p .member) loads (chunks p) root (entryChunkOf p root)
+  unfolding actualOf
+  actual-member = run-of-member p (p .wrap) root
 
   pub actual-length : length (actualOf p root) ≤ modules p
-  unfolding actualOf runOf
-  actual-length = from-length (p .normal) (p .included) (p .wrap) (p .recordModule) (p .recordKind) (p .recordTarget) (p .memberChunk) (p .member) loads (chunks p) root (entryChunkOf p root)
+  unfolding actualOf
+  actual-length = run-of-length p (p .wrap) root
 
   pub hosts-length : length (hostsOf p root) ≡ modules p
-  unfolding hostsOf runOf
-  hosts-length = from-hosts-length (p .normal) (p .included) (p .wrap) (p .recordModule) (p .recordKind) (p .recordTarget) (p .memberChunk) (p .member) loads (chunks p) root (entryChunkOf p root)
+  unfolding hostsOf
+  hosts-length = run-of-hosts-length p (p .wrap) root
 
   -- a module with a noted host has wrap not 0; both are listed, and the host was executed by a chunk that is visited, or is the root
   pub record HasHost (m host : ℕ) : Type 0 where

@@ -1,4 +1,4 @@
--- What the slice that has the columns of a project gives the visits, and the run that they make.
+-- What the slice that has the columns of a project with some wraps gives the visits, and the run that they make.
 -- Assumes nothing.
 use mathlib.Core.Path.{_≡_, refl, sym, ap, subst, _∙_}
 use mathlib.Core.Logic.{inl}
@@ -14,7 +14,7 @@ use Rattle.tables.specs.Readings.{modules, chunks, valuesOf, entryChunkOf}
 use Rattle.tables.specs.Accepted.{Below, BelowOrMissing, Accepted}
 use Rattle.load_order.specs.LoadOrder.{loadOrder}
 use Rattle.visit_columns.specs.inner.Prepared.{waysIn, startsIn, memberStartsIn, loadStartsIn, triggersIn, loadsIn}
-use Rattle.visit_columns.specs.inner.OverTable.{Prepared}
+use Rattle.visit_columns.specs.inner.OverTable.{PreparedAs}
 use Rattle.visit_steps.specs.inner.Steps.{Spans, leads, Filling, filling}
 use Rattle.module_visits.specs.inner.Visits.{executing, hosted}
 use Rattle.actual_order.specs.Actual.{Executed, executes, triggered, runOf}
@@ -25,7 +25,7 @@ use Rattle.actual_order.proofs.Columns.{spans, namedBy, leads-named, tr
 use Rattle.actual_order.proofs.Hosting.{turns-kept, turns-written}
 use Rattle.actual_order.proofs.Chunks.{run-in-turn}
 
-module _ (p : Project) (prepared : List ℕ) (k : Prepared p prepared) (root chunk : ℕ) (order hosts : List ℕ) (l : Listing p root chunk (length order) (length hosts)) where
+module _ (p : Project) (wraps prepared : List ℕ) (k : PreparedAs p wraps prepared) (root chunk : ℕ) (order hosts : List ℕ) (l : Listing p root chunk (length order) (length hosts)) where
   abbrev ok : Accepted p
   ok = l .accepted
 
@@ -55,27 +55,27 @@ module _ (p : Project) (prepared : List ℕ) (k : Prepared p prepared) (root chu
   triggers-length = mid-len 10243 (10243 + records) prepared (omega (arith, k .parts .size, ok .sizes .recordModule)) ∙ omega arith
 
   triggers-in : BelowOrMissing n (triggersIn records prepared)
-  triggers-in = subst (BelowOrMissing n) (sym (k .parts .trigger)) (triggers-inside (p .normal) (p .included) (p .wrap) n refl (p .recordModule) (p .recordKind) (p .recordTarget))
+  triggers-in = subst (BelowOrMissing n) (sym (k .parts .trigger)) (triggers-inside (p .normal) (p .included) wraps n refl (p .recordModule) (p .recordKind) (p .recordTarget))
 
   -- what the rows of a module name
-  triggers-are : (m : ℕ) → m < n → leads (startsIn n prepared) (triggersIn records prepared) m ≡ keep (executes (p .normal) (p .included)) (triggered (p .normal) (p .wrap) (p .recordModule) (p .recordKind) (p .recordTarget) m)
+  triggers-are : (m : ℕ) → m < n → leads (startsIn n prepared) (triggersIn records prepared) m ≡ keep (executes (p .normal) (p .included)) (triggered (p .normal) wraps (p .recordModule) (p .recordKind) (p .recordTarget) m)
   triggers-are m h =
       leads-named (k .parts .starts) (triggersIn records prepared) m (omega (arith, starts-length))
       ∙ ap (λ (t : List ℕ). namedBy (p .recordModule) t m) (k .parts .trigger)
-      ∙ triggers-named (p .normal) (p .included) (p .wrap) n refl (p .recordModule) (p .recordKind) (p .recordTarget) m
+      ∙ triggers-named (p .normal) (p .included) wraps n refl (p .recordModule) (p .recordKind) (p .recordTarget) m
 
   abbrev load : ℕ → List ℕ
   load = loadOrder (p .order) (p .importChunk) (p .imports)
 
   -- the hosts in turn
   turns-are : turns (waysIn n prepared) (p .member) (memberStartsIn (chunks p) prepared) (loadStartsIn (chunks p) prepared) (loadsIn imports prepared) (chunks p) root chunk
-      ≡ keep (executes (p .normal) (p .included)) (hostsInTurn (p .wrap) (p .memberChunk) (p .member) load (chunks p) root (entryChunkOf p root))
+      ≡ keep (executes (p .normal) (p .included)) (hostsInTurn wraps (p .memberChunk) (p .member) load (chunks p) root (entryChunkOf p root))
   turns-are =
       ap (λ (w : List ℕ). turns w (p .member) (memberStartsIn (chunks p) prepared) (loadStartsIn (chunks p) prepared) (loadsIn imports prepared) (chunks p) root chunk) (k .parts .way)
-      ∙ turns-kept (p .normal) (p .included) (p .wrap) (p .memberChunk) (p .member) (p .importChunk) (loadsIn imports prepared) (memberStartsIn (chunks p) prepared) (loadStartsIn (chunks p) prepared) n (chunks p) refl (ok .sizes .order)
+      ∙ turns-kept (p .normal) (p .included) wraps (p .memberChunk) (p .member) (p .importChunk) (loadsIn imports prepared) (memberStartsIn (chunks p) prepared) (loadStartsIn (chunks p) prepared) n (chunks p) refl (ok .sizes .order)
       (ok .sizes .member) (k .parts .loading) (k .parts .memberStarts) (omega (arith, member-length)) (k .parts .loadStarts) (omega (arith, load-length)) root chunk
-      ∙ ap (λ (f : ℕ → List ℕ). keep (executes (p .normal) (p .included)) (hostsInTurn (p .wrap) (p .memberChunk) (p .member) f (chunks p) root chunk)) (k .same)
-      ∙ ap (λ (c : ℕ). keep (executes (p .normal) (p .included)) (hostsInTurn (p .wrap) (p .memberChunk) (p .member) load (chunks p) root c)) (l .entry .from)
+      ∙ ap (λ (f : ℕ → List ℕ). keep (executes (p .normal) (p .included)) (hostsInTurn wraps (p .memberChunk) (p .member) f (chunks p) root chunk)) (k .same)
+      ∙ ap (λ (c : ℕ). keep (executes (p .normal) (p .included)) (hostsInTurn wraps (p .memberChunk) (p .member) load (chunks p) root c)) (l .entry .from)
 
   -- with counts that are the project's, the visits may begin
   module _ (n′ chunks′ imports′ : ℕ) (e : n′ ≡ n) (f : chunks′ ≡ chunks p) (g : imports′ ≡ imports) where
@@ -103,14 +103,14 @@ module _ (p : Project) (prepared : List ℕ) (k : Prepared p prepared) (root chu
     pub made-listed : (order′ hosts′ : List ℕ) (r : ℕ)
         → foldl (hosted (leads (startsIn n′ prepared) (triggersIn records prepared))) (executing (replicate (length hosts) 0) order (replicate (length hosts) missing) 0)
         (turns (waysIn n′ prepared) (p .member) (memberStartsIn chunks′ prepared) (loadStartsIn chunks′ prepared) (loadsIn imports′ prepared) chunks′ root chunk) .made ≡ filling order′ hosts′ r
-        → Listed (runOf p (p .wrap) root) order order′ hosts′ r
+        → Listed (runOf p wraps root) order order′ hosts′ r
     made-listed order′ hosts′ r made =
         let run : ℕ → ℕ → ℕ → ℕ → Filling = λ i j c d.
         foldl (hosted (leads (startsIn j prepared) (triggersIn records prepared))) (executing (replicate i 0) order (replicate i missing) 0)
         (turns (waysIn j prepared) (p .member) (memberStartsIn c prepared) (loadStartsIn c prepared) (loadsIn d prepared) c root chunk) .made in
-        let in-turn : List ℕ = hostsInTurn (p .wrap) (p .memberChunk) (p .member) load (chunks p) root (entryChunkOf p root) in
-        subst (λ (x : Executed). Listed x order order′ hosts′ r) (sym (run-in-turn p (p .wrap) root))
-        (turns-written (p .normal) (p .included) (p .wrap) (p .recordModule) (p .recordKind) (p .recordTarget) n refl (leads (startsIn n prepared) (triggersIn records prepared)) triggers-are in-turn order order′ hosts′ r (l .room)
+        let in-turn : List ℕ = hostsInTurn wraps (p .memberChunk) (p .member) load (chunks p) root (entryChunkOf p root) in
+        subst (λ (x : Executed). Listed x order order′ hosts′ r) (sym (run-in-turn p wraps root))
+        (turns-written (p .normal) (p .included) wraps (p .recordModule) (p .recordKind) (p .recordTarget) n refl (leads (startsIn n prepared) (triggersIn records prepared)) triggers-are in-turn order order′ hosts′ r (l .room)
         (sym
         (ap (λ (i : ℕ). run i n′ chunks′ imports′) (l .size)
         ∙ ap (λ (j : ℕ). run n j chunks′ imports′) e

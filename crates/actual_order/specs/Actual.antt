@@ -4,7 +4,7 @@ use mathlib.Core.Bool.{Bool, cond, not, _&&_}
 use mathlib.Core.List.{List, [], _∷_, foldl}
 use Prim.Native.Nat.{ℕ}
 use lib.ListN.{length, replicate}
-use Rattle.lists.specs.Words.{keep}
+use Rattle.lists.specs.Words.{isZero, keep}
 use Rattle.walk.specs.Walk.{St, visit, walk, snoc, everywhere}
 use Rattle.tables.specs.Project.{Project, missing}
 use Rattle.tables.specs.Readings.{chunks, isNormal, flagged, wrapped, isEager, anyTarget, targetsOf, membersOf, entryChunkOf}
@@ -69,6 +69,12 @@ module _ (normal included wrap recordModule recordKind recordTarget : List ℕ) 
 unfoldable pub runOf : Project → List ℕ → ℕ → Executed
 runOf p wrap root =
     runFrom (p .normal) (p .included) wrap (p .recordModule) (p .recordKind) (p .recordTarget) (p .memberChunk) (p .member) (loadOrder (p .order) (p .importChunk) (p .imports)) (chunks p) root (entryChunkOf p root)
+
+-- "every planned module's wrap read as 2 and other wraps as written" (C-19): the wraps, with 2 for each module of a set
+abbrev pub readAsTwo : List ℕ → List ℕ → List ℕ
+readAsTwo S [] = []
+readAsTwo [] (w ∷ wraps) = w ∷ wraps
+readAsTwo (x ∷ S) (w ∷ wraps) = cond (isZero x) w 2 ∷ readAsTwo S wraps
 
 -- the actual order of a root
 unfoldable pub actualOf : Project → ℕ → List ℕ

@@ -46,7 +46,10 @@ use Rattle.sensitivity.specs.Marks.{groundsOf}
 use Rattle.sensitivity.proofs.Marks.{length-grounds}
 use Rattle.order_analysis.specs.Whole.{wholePlan}
 use Rattle.order_analysis.proofs.Promise.{length-whole}
-use Rattle.jolmuqter.specs.Calls.{Call, Sort, Circles, Expected, Entries, Actual, Labels, Reach, OrderRisk, CycleRisk, Plan, Whole, Grounds, Share, Arrange, Refusal, readsMemberOrder, lentTo, Promise}
+use Rattle.plan_conditions.specs.Form.{planFits}
+use Rattle.planned_load.specs.Steps.{stepModules}
+use Rattle.planned_load.proofs.Stepping.{planned-length}
+use Rattle.jolmuqter.specs.Calls.{Call, Sort, Circles, Expected, Entries, Actual, Labels, Reach, OrderRisk, CycleRisk, Plan, Whole, Grounds, Share, Arrange, Load, Refusal, readsMemberOrder, lentTo, Promise}
 use Rattle.jolmuqter.specs.Exported.{coded}
 use Rattle.jolmuqter.specs.ToldApart.{countLimit, numberLimit, AcceptedWith, RefusedWith, AnswersAreToldApart, BelowExactlyIfAccepted}
 
@@ -62,6 +65,10 @@ module _ (p : Project) where
   expected-few : (root : ℕ) → length (expectedOf p root) ≤ modules p
   unfolding expectedOf
   expected-few root = expected-length (p .normal) (p .included) (p .recordModule) (p .recordKind) (p .recordTarget) root
+
+  steps-few : (plan : List ℕ) (root : ℕ) → length (stepModules p plan root) ≤ modules p
+  unfolding stepModules
+  steps-few plan root = planned-length p plan root
 
   cyclic-few : length (cyclicOf p) ≤ chunks p
   unfolding cyclicOf
@@ -116,6 +123,13 @@ module _ (call : Call) (a : Answer) (r : ℕ) (code : r ≡ coded a) where
   told-room zero false count known l few e = refused 7 count (inl l) e
   told-room (suc n) fits count known l few e = refused n count (⊎-map (λ k. omega arith) (λ q. q) known) e
 
+  told-load : (n : ℕ) (fits form room : Bool) (count : ℕ) → Known n → 9 ≤ numberLimit call → (n ≡ 0 → count ≤ countLimit call) → a ≡ answer (cond (isZero n) (cond fits (cond form (cond room 0 6) 9) 5) n) count → Told
+  told-load zero true true true count known l few e = accepted count (few refl) e
+  told-load zero true true false count known l few e = refused 5 count (inl (omega arith)) e
+  told-load zero true false room count known l few e = refused 8 count (inl l) e
+  told-load zero false form room count known l few e = refused 4 count (inl (omega arith)) e
+  told-load (suc n) fits form room count known l few e = refused n count (⊎-map (λ k. omega arith) (λ q. q) known) e
+
 -- and so is that with two further tests
 tested-known : (n : ℕ) (one two : Bool) → Known n → Known (testedToo n one two)
 tested-known n one two k = known (eqb n 1 || not one) (eqb n 2 || not two)
@@ -154,6 +168,9 @@ module _ (t : Lent) (number-known : Known (t .number)) (tested : t .number ≡ 0
     by-promise (Arrange names) h =
         told (Arrange names) a r code (namedNumber t names) true (leb (length (p .member)) (length first)) (length (p .member)) (tested-known (t .number) true (ltb 0 (length names)) number-known) (omega arith)
         (λ z. let ok = tested (none-tested (t .number) true (ltb 0 (length names)) z .0) in omega (arith, ok .sizes .memberChunk, ok .sizes .member)) (h .answered)
+    by-promise (Load root plan) h =
+        told-load (Load root plan) a r code (t .number) (isAnalysed p root) (planFits (modules p) plan) (leb (modules p) (length first) && leb (modules p) (length second)) (length (stepModules p plan root)) number-known (omega arith)
+        (λ z. omega (arith, steps-few p plan root, tested z .sizes .normal)) (h .answered)
     by-promise Refusal h = by-number Refusal (omega arith) true true 0 (λ ok. omega arith) (h ∙ tests-alone (t .number))
 
 module _ (runtime dynamic : ℕ) (bounds columns names : List ℕ) where
@@ -200,6 +217,7 @@ limit-below (Plan seeds) = omega arith
 limit-below Whole = omega arith
 limit-below Share = omega arith
 limit-below (Arrange names) = omega arith
+limit-below (Load root plan) = omega arith
 limit-below Grounds = omega arith
 limit-below Refusal = omega arith
 

@@ -19,6 +19,7 @@ use Rattle.wrap_plan.specs.Planned.{PlanFromSeeds}
 use Rattle.order_analysis.specs.Whole.{WholeAnalysis}
 use Rattle.grounds.specs.Promise.{ModuleGrounds}
 use Rattle.shares.specs.Share.{WrittenShare}
+use Rattle.load_trial.specs.Promise.{LoadRun}
 
 -- an operation with its argument
 pub data Call : Type 0 where
@@ -36,6 +37,7 @@ pub data Call : Type 0 where
   Grounds : Call
   Share : Call
   Arrange : List ℕ → Call
+  Load : ℕ → List ℕ → Call
   Refusal : Call
 
 -- whether an operation reads members in their order, as the arrangement has it
@@ -54,6 +56,7 @@ readsMemberOrder Whole = true
 readsMemberOrder Grounds = false
 readsMemberOrder Share = true
 readsMemberOrder (Arrange names) = false
+readsMemberOrder (Load root plan) = true
 readsMemberOrder Refusal = false
 
 -- a table as it was lent to an operation, its members as they are read where it reads their order
@@ -77,4 +80,5 @@ Promise Whole t first second r first′ second′ = WholeAnalysis t first r firs
 Promise Grounds t first second r first′ second′ = ModuleGrounds t first r first′
 Promise Share t first second r first′ second′ = WrittenShare t first r first′
 Promise (Arrange names) t first second r first′ second′ = SortChunkModules t names first r first′
+Promise (Load root plan) t first second r first′ second′ = LoadRun t root plan first second r first′ second′
 Promise Refusal t first second r first′ second′ = r ≡ answer (t .number) 0

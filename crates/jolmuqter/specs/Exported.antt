@@ -8,6 +8,8 @@ use Rattle.tables.specs.declared.Answer.the-variants.{Refused, Counted}
 use Rattle.table.specs.Table.{Lent}
 use Rattle.plan_conditions.specs.declared.Judgement.{Judgement}
 use Rattle.plan_conditions.specs.declared.Judgement.the-variants as judgements
+use Rattle.planned_load.specs.declared.LoadStep.{LoadStep}
+use Rattle.planned_load.specs.declared.LoadStep.the-variants as steps
 use Rattle.jolmuqter.specs.Calls.{Call, Promise}
 
 -- the count, or 2 ^ 32 plus the refusal's number
@@ -20,6 +22,12 @@ abbrev pub codedJudgement : Judgement → ℕ
 codedJudgement judgements.Accepted = zero
 codedJudgement (judgements.Broken condition m) = condition * 2 ^ 16 + m
 codedJudgement (judgements.Refused n) = 2 ^ 32 + n
+
+-- a step of a tried load: its module times 2 ^ 16 plus its host, 2 ^ 31 where none is left, or 2 ^ 32 plus the refusal's number
+abbrev pub codedStep : LoadStep → ℕ
+codedStep (steps.Step m host) = m * 2 ^ 16 + host
+codedStep steps.Done = 2 ^ 31
+codedStep (steps.Refused n) = 2 ^ 32 + n
 
 -- the code of an answer that the operation promises
 pub record Exported (call : Call) (t : Lent) (first second : List ℕ) (r : ℕ) (first′ second′ : List ℕ) : Type 0 where

@@ -10,7 +10,7 @@ use Rattle.tables.specs.Refusal.{moduleLimit, rowLimit}
 use Rattle.tables.specs.Answers.{numberOf}
 use Rattle.tables.specs.declared.Answer.{Answer}
 use Rattle.tables.specs.declared.Answer.the-variants.{Refused, Counted}
-use Rattle.jolmuqter.specs.Calls.{Call, lentTo, Sort, Circles, Expected, Entries, Actual, Labels, Reach, OrderRisk, CycleRisk, Plan, Whole, Grounds, Share, Arrange, Refusal}
+use Rattle.jolmuqter.specs.Calls.{Call, lentTo, Sort, Circles, Expected, Entries, Actual, Labels, Reach, OrderRisk, CycleRisk, Plan, Whole, Grounds, Share, Arrange, Load, Refusal}
 use Rattle.jolmuqter.specs.Exported.{Exported}
 
 abbrev pub isCircles : Call → Bool
@@ -27,6 +27,7 @@ isCircles (Plan seeds) = false
 isCircles Whole = false
 isCircles Share = false
 isCircles (Arrange names) = false
+isCircles (Load root plan) = false
 isCircles Grounds = false
 isCircles Refusal = false
 
@@ -46,11 +47,30 @@ countLimit (Plan seeds) = moduleLimit
 countLimit Whole = moduleLimit
 countLimit Grounds = moduleLimit
 countLimit Share = moduleLimit
+countLimit (Load root plan) = moduleLimit
 countLimit Refusal = moduleLimit
 
--- the number of a refusal is 6 at most, that of circles 8, or 10
+abbrev pub isLoad : Call → Bool
+isLoad (Load root plan) = true
+isLoad Sort = false
+isLoad Circles = false
+isLoad (Expected root) = false
+isLoad (Entries entries) = false
+isLoad (Actual root) = false
+isLoad Labels = false
+isLoad (Reach chunk) = false
+isLoad (OrderRisk root) = false
+isLoad (CycleRisk root) = false
+isLoad (Plan seeds) = false
+isLoad Whole = false
+isLoad Grounds = false
+isLoad Share = false
+isLoad (Arrange names) = false
+isLoad Refusal = false
+
+-- the number of a refusal is 6 at most, that of circles 8, that of a tried load 9, or 10
 abbrev pub numberLimit : Call → ℕ
-numberLimit call = cond (isCircles call) 8 6
+numberLimit call = cond (isLoad call) 9 (cond (isCircles call) 8 6)
 
 -- the call is accepted, and r is its count
 pub record AcceptedWith (call : Call) (answer : Answer) (r : ℕ) : Type 0 where

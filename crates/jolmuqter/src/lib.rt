@@ -1,13 +1,16 @@
 // The operations for C and Rust, on a project that is lent as a table. The answer is the count, or 2^32 plus the number of a refusal; of the check of a plan
-// 0, the number of a broken condition times 2^16 plus the module, or 2^32 plus the number of a refusal.
+// 0, the number of a broken condition times 2^16 plus the module, or 2^32 plus the number of a refusal; of a step of a tried load its module times 2^16 plus
+// its host, 2^31 where none is left, or 2^32 plus the number of a refusal.
 ghost use mathlib.Core.Path.{_≡_};
 ghost use mathlib.Core.List.{[]};
 ghost use Rattle.table.specs.Table.{lent, answer};
 ghost use Rattle.arrangement.specs.OfProject.{lentNamed};
-ghost use Rattle.jolmuqter.specs.Calls.{Sort, Circles, Expected, Entries, Actual, Labels, Reach, OrderRisk, CycleRisk, Plan, Whole, Grounds, Share, Arrange, Refusal};
+ghost use Rattle.jolmuqter.specs.Calls.{Sort, Circles, Expected, Entries, Actual, Labels, Reach, OrderRisk, CycleRisk, Plan, Whole, Grounds, Share, Arrange, Load, Refusal};
 ghost use Rattle.plan_check.specs.Promise.{judgement};
-ghost use Rattle.jolmuqter.specs.Exported.{coded, codedJudgement, Exported};
+ghost use Rattle.load_trial.specs.Promise.{loadStep};
+ghost use Rattle.jolmuqter.specs.Exported.{coded, codedJudgement, codedStep, Exported};
 use plan_conditions::Judgement;
+use planned_load::LoadStep;
 use refusal::refusal_number;
 use table::RECORD_KIND;
 use table::RECORD_MODULE;
@@ -285,6 +288,62 @@ pub extern "C" fn jolmuqter_sort_chunk_modules<'a>(
     ensures { λ r. ⌜ Exported (Arrange (now (names .entry))) (lent runtime dynamic (now (bounds .entry)) (now (columns .entry)) (now (names .entry))) (now (members .entry)) [] r (now (members .exit)) [] ⌝ }
 {
     code(sort_chunk_modules::sort_chunk_modules(runtime, dynamic, bounds, columns, names, members))
+}
+
+// A step of a tried load as a number.
+fn step_code(step: LoadStep) -> u64
+    ensures { λ r. ⌜ r ≡ codedStep step ⌝ }
+{
+    match step {
+        LoadStep::Step(module, host) => module as u64 * 65536 + host as u64,
+        LoadStep::Done => 2147483648,
+        LoadStep::Refused(n) => 4294967296 + n as u64,
+    }
+}
+
+// A step of an analysed entry's load with a plan, by its number from 0.
+#[no_mangle]
+pub extern "C" fn jolmuqter_load_step<'a>(
+    runtime: u32,
+    dynamic: u32,
+    bounds: &'a [u32],
+    columns: &'a [u32],
+    names: &'a [u8],
+    root: u32,
+    number: u32,
+    plan: &'a [u32],
+) -> u64
+    ensures { λ r. ⌜ r ≡ codedStep (loadStep (lentNamed runtime dynamic (now (bounds .entry)) (now (columns .entry)) (now (names .entry))) root (now (plan .entry)) number) ⌝ }
+{
+    step_code(load_trial::load_step(runtime, dynamic, bounds, columns, names, root, plan, number))
+}
+
+// All steps of an analysed entry's load with a plan: their modules, and their hosts.
+#[no_mangle]
+pub extern "C" fn jolmuqter_load_run<'a>(
+    runtime: u32,
+    dynamic: u32,
+    bounds: &'a [u32],
+    columns: &'a [u32],
+    names: &'a [u8],
+    root: u32,
+    plan: &'a [u32],
+    steps: &mut [u32],
+    hosts: &mut [u32],
+) -> u64
+    ensures { λ r. ⌜ Exported (Load root (now (plan .entry))) (lentNamed runtime dynamic (now (bounds .entry)) (now (columns .entry)) (now (names .entry))) (now (steps .entry)) (now (hosts .entry)) r (now (steps .exit)) (now (hosts .exit)) ⌝ }
+{
+    code(load_trial::load_run(
+        runtime,
+        dynamic,
+        bounds,
+        columns,
+        names,
+        root,
+        plan,
+        steps,
+        hosts,
+    ))
 }
 
 // The answer to the tests alone.

@@ -18,14 +18,14 @@ use Rattle.tables.specs.Project.{Project, missing}
 use Rattle.tables.specs.Readings.{modules, isNormal, wrapped, isImport, isEager, anyTarget, normalTarget, resolved, rowTargets, targetsOf, rowsOf, valuesOf, analysedRow, analysed, isAnalysed}
 use Rattle.tables.specs.declared.Target.the-variants.{Missing, External, Normal}
 use Rattle.tables.proofs.Targets.{normal-in}
-use Rattle.actual_order.specs.Actual.{triggered}
+use Rattle.actual_order.specs.Actual.{triggered, readAsTwo}
 use Rattle.wrap_rules.proofs.Rows.{mem-flat, mem-rows, flat-mem}
 use Rattle.eligibility.specs.Eligible.{eligible}
 use Rattle.wrap_rules.specs.Rules.{importsOf, leads, importAsks}
 use Rattle.wrap_rules.specs.Plan.{reached, roots, importRule}
 use Rattle.order_analysis.specs.Whole.{wholePlan}
 use Rattle.promises.specs.Statements.{WholePlanIsLeast}
-use Rattle.promises.specs.Load.{implies, readAsTwo, reachedNormal, normalImports, onlyEligible, noRequire, importsAreDependencies, Plain}
+use Rattle.promises.specs.Load.{implies, reachedNormal, normalImports, onlyEligible, noRequire, importsAreDependencies, Plain}
 use Rattle.promises.proofs.Theorems.{wholePlanIsLeast}
 
 pub implied : (a b : Bool) → implies a b ≡ true → a ≡ true → b ≡ true

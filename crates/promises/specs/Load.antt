@@ -1,16 +1,16 @@
 -- The load theorem: with its plan, a load runs the sensitive modules in their expected order.
 -- Assumes nothing.
 use mathlib.Core.Path.{_≡_}
-use mathlib.Core.Bool.{Bool, true, cond, not, _&&_, _||_}
-use mathlib.Core.List.{List, [], _∷_}
+use mathlib.Core.Bool.{Bool, true, not, _&&_, _||_}
+use mathlib.Core.List.{List}
 use Prim.Native.Nat.{ℕ}
 use lib.ListN.{length, getD}
 use lib.Dec.{eqb}
-use Rattle.lists.specs.Words.{isZero, upTo, keep, every, elem}
+use Rattle.lists.specs.Words.{upTo, keep, every, elem}
 use Rattle.tables.specs.Project.{Project}
 use Rattle.tables.specs.Readings.{modules, isNormal, isImport, normalTarget, targetsOf, rowsOf, valuesOf, isAnalysed}
 use Rattle.tables.specs.Refusal.{refusal}
-use Rattle.actual_order.specs.Actual.{executes, runOf}
+use Rattle.actual_order.specs.Actual.{executes, runOf, readAsTwo}
 use Rattle.sensitivity.specs.Marks.{sensitive}
 use Rattle.eligibility.specs.Eligible.{eligible}
 use Rattle.wrap_rules.specs.Plan.{expectedSensitiveOf, reached}
@@ -19,12 +19,6 @@ use Rattle.order_analysis.specs.Whole.{wholePlan}
 -- if a, then b
 abbrev pub implies : Bool → Bool → Bool
 implies a b = not a || b
-
--- the wraps, with 2 for each module of a set
-abbrev pub readAsTwo : List ℕ → List ℕ → List ℕ
-readAsTwo S [] = []
-readAsTwo [] (w ∷ wraps) = w ∷ wraps
-readAsTwo (x ∷ S) (w ∷ wraps) = cond (isZero x) w 2 ∷ readAsTwo S wraps
 
 -- the wraps with the whole analysis' plan carried out
 abbrev pub plannedWraps : Project → List ℕ

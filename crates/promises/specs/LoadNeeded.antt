@@ -8,7 +8,7 @@ use Rattle.lists.specs.Words.{isZero, keep, every, has}
 use Rattle.tables.specs.Project.{Project}
 use Rattle.tables.specs.Readings.{isAnalysed}
 use Rattle.tables.specs.Refusal.{refusal}
-use Rattle.actual_order.specs.Actual.{runOf}
+use Rattle.actual_order.specs.Actual.{runOf, readAsTwo}
 use Rattle.sensitivity.specs.Marks.{sensitive}
 use Rattle.eligibility.specs.Eligible.{eligible}
 use Rattle.wrap_rules.specs.Plan.{expectedSensitiveOf, importRule}
@@ -16,7 +16,7 @@ use Rattle.order_analysis.specs.Whole.{seedsOf, wholePlan}
 use Rattle.promises.specs.Changes.{withMembers, withSensitive, withExports, withRecords, withDependencies}
 use Rattle.promises.specs.Listing.{listing}
 use Rattle.promises.specs.Needed.{closedUnder, others}
-use Rattle.promises.specs.Load.{implies, readAsTwo, plannedWraps, onlyEligible, noRequire, importsAreDependencies, membersBelong, Plain}
+use Rattle.promises.specs.Load.{implies, plannedWraps, onlyEligible, noRequire, importsAreDependencies, membersBelong, Plain}
 
 -- the listing of document 01: as written its load runs 3 before 2, and with its plan {1,3} after it
 pub record PlainWitness : Type 0 where

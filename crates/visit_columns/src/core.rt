@@ -4,14 +4,14 @@ ghost use Prim.Native.Nat.{_≤_};
 ghost use lib.ListN.{length};
 ghost use Rattle.tables.specs.Project.{Project};
 ghost use Rattle.tables.specs.Lookups.{Rising};
-ghost use Rattle.tables.specs.Readings.{valuesOf};
+ghost use Rattle.tables.specs.Readings.{modules, valuesOf};
 ghost use Rattle.tables.specs.Refusal.{moduleLimit, rowLimit};
 ghost use Rattle.table.specs.Table.{table, read};
 ghost use Rattle.table.specs.Places.{Places};
 ghost use Rattle.load_order.specs.LoadOrder.{loadOrder};
 ghost use Rattle.load_order.specs.inner.Rows.{Imports};
 ghost use Rattle.visit_columns.specs.inner.Prepared.{Fit, places, loadsIn, Parts};
-ghost use Rattle.visit_columns.specs.inner.OverTable.{Prepared};
+ghost use Rattle.visit_columns.specs.inner.OverTable.{PreparedAs, Prepared};
 use load_order::core::arrange;
 use table::CHUNK_LIMIT;
 use table::IMPORT_CHUNK;
@@ -95,6 +95,41 @@ fn prepare<'a>(
     );
 }
 
+// Makes the columns that the visits read, of a table with these wraps in the place of its own, as parts of one slice.
+pub fn prepare_wrapped<'a>(
+    runtime: u32,
+    dynamic: u32,
+    bounds: &'a [u32],
+    columns: &'a [u32],
+    importers: &'a [u32],
+    kinds: &'a [u32],
+    targets: &'a [u32],
+    dependencies: &'a [u32],
+    members: &'a [u32],
+    wraps: &'a [u32],
+    prepared: &mut [u32],
+)
+    ghost { Project }
+    requires project { λ p. ⌜ read (table runtime dynamic (now bounds) (now columns)) (now importers) (now kinds) (now targets) (now dependencies) (now members) ≡ p ⌝ }
+    requires wraps { λ p. ⌜ length (now wraps) ≡ modules p ⌝ }
+    requires places { λ p. ⌜ Places p places (length (now prepared)) ⌝ }
+    ensures { λ p _. ⌜ PreparedAs p (now (wraps .entry)) (now (prepared .exit)) ⌝ }
+{
+    prepare(
+        column(bounds, columns, NORMAL),
+        column(bounds, columns, INCLUDED),
+        wraps,
+        importers,
+        kinds,
+        targets,
+        column(bounds, columns, ORDER),
+        column(bounds, columns, MEMBER_CHUNK),
+        column(bounds, columns, IMPORT_CHUNK),
+        column(bounds, columns, IMPORTS),
+        prepared,
+    );
+}
+
 // Makes the columns that the visits read, of a table, as parts of one slice.
 pub fn prepare_table<'a>(
     runtime: u32,
@@ -113,17 +148,17 @@ pub fn prepare_table<'a>(
     requires places { λ p. ⌜ Places p places (length (now prepared)) ⌝ }
     ensures { λ p _. ⌜ Prepared p (now (prepared .exit)) ⌝ }
 {
-    prepare(
-        column(bounds, columns, NORMAL),
-        column(bounds, columns, INCLUDED),
-        column(bounds, columns, WRAP),
+    prepare_wrapped(
+        runtime,
+        dynamic,
+        bounds,
+        columns,
         importers,
         kinds,
         targets,
-        column(bounds, columns, ORDER),
-        column(bounds, columns, MEMBER_CHUNK),
-        column(bounds, columns, IMPORT_CHUNK),
-        column(bounds, columns, IMPORTS),
+        dependencies,
+        members,
+        column(bounds, columns, WRAP),
         prepared,
     );
 }

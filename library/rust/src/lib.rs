@@ -48,6 +48,23 @@ fn judgement(coded: u64) -> Result<Judgement, Refused> {
   }
 }
 
+/// A step of a tried load.
+#[derive(Clone, Copy, Debug, PartialEq, Eq)]
+pub enum Step {
+  /// The module that is listed next, and its host.
+  Listed(u32, u32),
+  /// None is left.
+  Done,
+}
+
+fn step(coded: u64) -> Result<Step, Refused> {
+  match coded.checked_sub(1 << 32) {
+    Some(number) => Err(Refused(number as u32)),
+    None if coded == 1 << 31 => Ok(Step::Done),
+    None => Ok(Step::Listed((coded >> 16) as u32, (coded & 65535) as u32)),
+  }
+}
+
 /// Declares exported functions, and beside each a safe one. A slice goes over as its pointer and its length.
 macro_rules! operations {
   ($answer:ident $result:ty; $($(#[$about:meta])* $safe:ident = $name:ident [$($value:ident)*] [$($list:ident)*] [$($output:ident)*];)*) => {
@@ -109,10 +126,18 @@ operations! {
   plan = jolmuqter_plan [] [] [plan];
   /// How many modules are eligible, how many of them are planned, and the quotient and the remainder of 1,000 times the second by the first. Counts 4.
   share = jolmuqter_share [] [] [share];
+  /// The steps of an analysed entry's load with a plan, 0 or 1 for each module: their modules, and their hosts. Counts the steps.
+  load_run = jolmuqter_load_run [root] [plan] [steps hosts];
 }
 
 operations! {
   judgement Result<Judgement, Refused>;
   /// Whether a plan made elsewhere, 0 or 1 for each module, is accepted with these seeds, or what it breaks first.
   check_plan = jolmuqter_check_plan [] [seeds plan] [];
+}
+
+operations! {
+  step Result<Step, Refused>;
+  /// A step of an analysed entry's load with a plan, 0 or 1 for each module, by its number from 0.
+  load_step = jolmuqter_load_step [root number] [plan] [];
 }

@@ -1,5 +1,5 @@
 //! Each function on document 01's listing, with the answers that it marks.
-use jolmuqter::{COLUMNS, Judgement, MISSING, Refused, Table};
+use jolmuqter::{COLUMNS, Judgement, MISSING, Refused, Step, Table};
 
 /// How many columns each list has.
 const WIDTHS: [usize; 14] = [8, 3, 2, 2, 2, 2, 2, 3, 2, 1, 2, 2, 2, 1];
@@ -344,6 +344,24 @@ fn checks_plans() {
   assert_eq!(ask(unchanged, &[2], &[0, 1, 1, 1, 0]), Err(Refused(9)));
   assert_eq!(ask(unchanged, &[2], &[]), Err(Refused(9)));
   assert_eq!(ask(unchanged, &[4], &[2]), Err(Refused(5)));
+}
+
+#[test]
+fn tries_a_plan() {
+  use Step::{Done, Listed};
+  let ask = |root, number, plan: &[u32]| with(unchanged, |table| table.load_step(root, number, plan));
+  let shown: Vec<_> = (0..6).map(|number| ask(1, number, &[0, 1, 0, 1])).collect();
+  assert_eq!(shown, [Ok(Listed(0, 0)), Ok(Listed(2, 2)), Ok(Listed(3, 1)), Ok(Listed(1, 1)), Ok(Done), Ok(Done)]);
+  assert_eq!(ask(1, u32::MAX, &[0; 4]), Ok(Done));
+  assert_eq!(ask(0, 0, &[2]), Err(Refused(5)));
+  assert_eq!(ask(1, 0, &[]), Err(Refused(9)));
+  let (mut steps, mut hosts) = ([9; 5], [9; 5]);
+  let mut run = |plan: &[u32], room: usize| with(unchanged, |table| table.load_run(1, plan, &mut steps[..room], &mut hosts)).map(|count| (count, steps, hosts));
+  assert_eq!(run(&[0, 1, 0], 3), Err(Refused(9)));
+  assert_eq!(run(&[0, 1, 0, 1], 3), Err(Refused(6)));
+  assert_eq!(run(&[0, 1, 0, 1], 5), Ok((4, [0, 2, 3, 1, 9], [0, 2, 1, 1, 9])));
+  // with the empty plan the actual order, each its own host
+  assert_eq!(run(&[0; 4], 4), Ok((4, [0, 3, 2, 1, 9], [0, 3, 2, 1, 9])));
 }
 
 #[test]

@@ -1,0 +1,2 @@
+-- `Promise`: what the operations promise, in each of their cases.
+pub mod Promise

@@ -1,0 +1,2 @@
+-- What trying a plan promises.
+pub mod Promise

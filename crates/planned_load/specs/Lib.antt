@@ -1,0 +1,3 @@
+-- The steps of a load with a plan carried out.
+pub mod Steps
+pub mod inner

@@ -1,0 +1,3 @@
+-- The statements of specs/, proved.
+pub mod Tried
+pub mod Witnesses

@@ -1,0 +1,1 @@
+// Tried loads: statements alone, no code.
