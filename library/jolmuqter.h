@@ -30,8 +30,8 @@
  *   entries        module, chunk or the mark
  *   seeds          module                                                          0 to 16,384 rows, as any list with no other limit
  *
- * Record targets and dependencies are read through `newer` until a module without one is reached. In actual order, tried loads, order risk, whole analysis and share
- * the members of a project with names are read as jolmuqter_sort_chunk_modules arranges them. All else is read as written.
+ * Record targets and dependencies are read through `newer` until a module without one is reached. In actual order, tried loads, order risk, whole analysis, share and
+ * pages the members of a project with names are read as jolmuqter_sort_chunk_modules arranges them. All else is read as written.
  *
  * Rows count from 0. The mark, JOLMUQTER_MISSING, stands for a value that is missing.
  *
@@ -46,7 +46,7 @@
  *   5  a root, entry, chunk or seed without a row, a root for risk or actual order that isn't an analysed entry (included, with a chunk), or over
  *      16,384 seeds
  *   6  an output that is too short: every output needs a place for each module, labels one for each chunk, the
- *      arrangement one for each member row, a share four
+ *      arrangement one for each member row, a share four, a page line 41, a page 41 for each module
  *   8  for the circles alone, in the place of 6: paths or lengths too short for all paths
  *   9  a plan that isn't one mark for each module, or holds a mark other than 0 and 1; after 5, before 6
  */
@@ -144,6 +144,18 @@ uint64_t jolmuqter_load_run(JOLMUQTER_TABLE, uint32_t root, const uint32_t *plan
 /* share: four numbers: how many modules are eligible, how many of them the whole analysis plans, and the quotient and the remainder of 1,000 times the
  * second by the first, both 0 where the first is 0. 6 where it has less than 4 places. Count: 4. */
 uint64_t jolmuqter_share(JOLMUQTER_TABLE, uint32_t *share, size_t share_len);
+
+/* line: one line of an analysed entry's page, by its number from 0: 40 characters and an LF (10). Module, expected place, actual place and shift, each
+ * right-aligned in 8; five spaces; `yes` or ` no` for planned by the whole analysis. Places count from 0 within the entry's expected and actual order with all
+ * but the sensitive modules left out, `-` where there is none; the shift is the actual place minus the expected one, `-` where either is missing. The modules
+ * of the expected order come first, in that order, then the others by actual place. 6 where it has less than 41 bytes, also past the last line. Count: 41, or
+ * 0 past the last, where nothing is written. */
+uint64_t jolmuqter_page_line(JOLMUQTER_TABLE, uint32_t root, uint32_t number, uint8_t *line, size_t line_len);
+
+/* page: the page of an analysed entry, its lines in turn as jolmuqter_page_line gives them, where `grounds`, as jolmuqter_grounds gives them, say which modules
+ * are sensitive (above 0), and `plan`, as jolmuqter_plan gives it, which are planned (not 0); so both are made once for all entries. 6 where either has less than
+ * a place for each module, or the page less than 41 bytes for each. Count: that of the page's bytes. */
+uint64_t jolmuqter_entry_page(JOLMUQTER_TABLE, uint32_t root, const uint32_t *grounds, size_t grounds_len, const uint32_t *plan, size_t plan_len, uint8_t *page, size_t page_len);
 
 #ifdef __cplusplus
 }

@@ -78,6 +78,15 @@ static Table named(Table t, const char *names) {
   return t;
 }
 
+/* A line of a page as text. */
+static void holds(int line, const uint8_t *slice, const char *known) {
+  checks++;
+  if (!memcmp(slice, known, strlen(known))) return;
+  failures++;
+  printf("known.c:%d: %.41s, not %s\n", line, slice, known);
+}
+#define HOLDS(slice, known) holds(__LINE__, slice, known)
+
 static void answers(void) {
   const uint32_t *normal = LIST(1, 1, 1, 1);
   Table t = listing(normal, LIST(0), LIST(1), 1);
@@ -256,6 +265,35 @@ static void answers(void) {
   EXPECT(jolmuqter_share(TABLE(t), a, 4), 4);
   HOLD(a, 3, 2, 666, 2);
 
+  uint8_t line[42];
+  memset(line, '.', sizeof line);
+  EXPECT(jolmuqter_page_line(TABLE(twice), 2, 0, line, 40), REFUSED(4));
+  EXPECT(jolmuqter_page_line(TABLE(t), 2, 0, line, 40), REFUSED(5));
+  EXPECT(jolmuqter_page_line(TABLE(t), 4, 0, line, 42), REFUSED(5));
+  EXPECT(jolmuqter_page_line(TABLE(t), 1, 0, line, 40), REFUSED(6));
+  EXPECT(jolmuqter_page_line(TABLE(t), 1, 3, line, 40), REFUSED(6));
+  EXPECT(jolmuqter_page_line(TABLE(t), 1, 3, line, 41), 0);
+  EXPECT(jolmuqter_page_line(TABLE(t), 1, NO, line, 41), 0);
+  HOLDS(line, "..........................................");
+  EXPECT(jolmuqter_page_line(TABLE(t), 1, 0, line, 42), 41);
+  HOLDS(line, "       2       0       1       1      no\n.");
+  EXPECT(jolmuqter_page_line(TABLE(t), 1, 1, line, 41), 41);
+  HOLDS(line, "       3       1       0      -1     yes\n.");
+  EXPECT(jolmuqter_page_line(TABLE(t), 1, 2, line, 41), 41);
+  HOLDS(line, "       1       2       2       0     yes\n.");
+
+  uint8_t page[164];
+  memset(page, '.', sizeof page);
+  EXPECT(jolmuqter_entry_page(TABLE(t), 2, LIST(0, 1, 1, 1), 4, LIST(0, 1, 0, 1), 4, page, 164), REFUSED(5));
+  EXPECT(jolmuqter_entry_page(TABLE(t), 1, LIST(0, 1, 1), 3, LIST(0, 1, 0, 1), 4, page, 164), REFUSED(6));
+  EXPECT(jolmuqter_entry_page(TABLE(t), 1, LIST(0, 1, 1, 1), 4, LIST(0, 1, 0), 3, page, 164), REFUSED(6));
+  EXPECT(jolmuqter_entry_page(TABLE(t), 1, LIST(0, 1, 1, 1), 4, LIST(0, 1, 0, 1), 4, page, 163), REFUSED(6));
+  HOLDS(page, ".........................................");
+  EXPECT(jolmuqter_entry_page(TABLE(t), 1, LIST(0, 1, 1, 1), 4, LIST(0, 1, 0, 1), 4, page, 164), 123);
+  HOLDS(page, "       2       0       1       1      no\n       3       1       0      -1     yes\n       1       2       2       0     yes\n..");
+  EXPECT(jolmuqter_entry_page(TABLE(t), 1, LIST(0, 0, 3, 0), 4, LIST(0, 0, 9, 0), 4, page, 164), 41);
+  HOLDS(page, "       2       0       0       0     yes\n       3");
+
   for (int i = 0; i < 5; i++) a[i] = 9;
   Table plain = named(t, "a\nb\nc\nd\n"), runtime = named(t, "a\nb\nc\n~rolldown/d\n");
   EXPECT(jolmuqter_refusal(TABLE(plain)), 0);
@@ -307,6 +345,36 @@ static Table chains(uint32_t wrap) {
   return t;
 }
 
+/* The last module imports all others but the runtime, 0; its chunk has the modules from the last to the first. */
+static Table reversed(void) {
+  static uint32_t up[MODULES], down[MODULES], zero[MODULES], one[MODULES], none[MODULES], last[MODULES];
+  for (uint32_t i = 0; i < MODULES; i++) up[i] = i + 1, down[i] = MODULES - 1 - i, one[i] = 1, none[i] = NO, last[i] = MODULES - 1;
+  Table t = {{0}, NULL, 0, 0, JOLMUQTER_NO_NAMES};
+  column(&t, one, MODULES), column(&t, one, MODULES), column(&t, one, MODULES), column(&t, zero, MODULES);
+  column(&t, one, MODULES), column(&t, zero, MODULES), column(&t, zero, MODULES), column(&t, none, MODULES);
+  column(&t, last, MODULES - 2), column(&t, zero, MODULES - 2), column(&t, up, MODULES - 2);
+  empty(&t, 2 + 13);
+  COLUMN(&t, 0);
+  column(&t, zero, MODULES), column(&t, down, MODULES);
+  empty(&t, 2);
+  COLUMN(&t, MODULES - 1), COLUMN(&t, 0);
+  empty(&t, 1);
+  return t;
+}
+
+/* The two ends of a shift, which no text has room for. */
+static void ends(void) {
+  Table t = reversed();
+  uint8_t line[41];
+  EXPECT(jolmuqter_page_line(TABLE(t), MODULES - 1, 0, line, 41), 41);
+  HOLDS(line, "       1       0    4094    4094      no\n");
+  EXPECT(jolmuqter_page_line(TABLE(t), MODULES - 1, 2047, line, 41), 41);
+  HOLDS(line, "    2048    2047    2047       0     yes\n");
+  EXPECT(jolmuqter_page_line(TABLE(t), MODULES - 1, 4094, line, 41), 41);
+  HOLDS(line, "    4095    4094       0   -4094     yes\n");
+  EXPECT(jolmuqter_page_line(TABLE(t), MODULES - 1, 4095, line, 41), 0);
+}
+
 static uint32_t first[MODULES], second[MODULES];
 static Table deep;
 
@@ -325,6 +393,9 @@ static void check_plan(void) { EXPECT(jolmuqter_check_plan(TABLE(deep), LIST(MOD
 static void plan_from_seeds(void) { EXPECT(jolmuqter_plan_from_seeds(TABLE(deep), LIST(MODULES - 1), 1, first, MODULES) < JOLMUQTER_REFUSED, 1); }
 static void plan_by_worklist(void) { EXPECT(jolmuqter_plan_by_worklist(TABLE(deep), LIST(MODULES - 1), 1, first, MODULES) < JOLMUQTER_REFUSED, 1); }
 static void share(void) { EXPECT(jolmuqter_share(TABLE(deep), first, MODULES), 4); }
+static void page_line(void) { EXPECT(jolmuqter_page_line(TABLE(deep), 0, 0, (uint8_t *)first, 41), 41); }
+static uint8_t all_lines[41 * MODULES];
+static void entry_page(void) { EXPECT(jolmuqter_entry_page(TABLE(deep), 0, deep.columns, MODULES, deep.columns, MODULES, all_lines, sizeof all_lines) < JOLMUQTER_REFUSED, 1); }
 static void plan(void) { EXPECT(jolmuqter_plan(TABLE(deep), first, MODULES) < JOLMUQTER_REFUSED, 1); }
 
 static void *run(void *call) { return (*(void (**)(void))call)(), NULL; }
@@ -345,8 +416,9 @@ static size_t stack_of(void (*call)(void)) {
 
 int main(void) {
   answers();
-  void (*calls[])(void) = {sort_modules, import_circles, expected_order, entries_order, actual_order, sort_chunk_modules, labels, chunk_reach, order_risk, cycle_risk, grounds, plan_from_seeds, plan_by_worklist, check_plan, plan, share};
-  const char *names[] = {"sort_modules", "import_circles", "expected_order", "entries_order", "actual_order", "sort_chunk_modules", "labels", "chunk_reach", "order_risk", "cycle_risk", "grounds", "plan_from_seeds", "plan_by_worklist", "check_plan", "plan", "share"};
+  ends();
+  void (*calls[])(void) = {sort_modules, import_circles, expected_order, entries_order, actual_order, sort_chunk_modules, labels, chunk_reach, order_risk, cycle_risk, grounds, plan_from_seeds, plan_by_worklist, check_plan, plan, share, page_line, entry_page};
+  const char *names[] = {"sort_modules", "import_circles", "expected_order", "entries_order", "actual_order", "sort_chunk_modules", "labels", "chunk_reach", "order_risk", "cycle_risk", "grounds", "plan_from_seeds", "plan_by_worklist", "check_plan", "plan", "share", "page_line", "entry_page"};
   for (uint32_t way = 0; way < 4; way++) {
     deep = named(chains(way & 2), way & 1 ? all_names() : "");
     for (size_t i = 0; i < LENGTH(calls); i++) {

@@ -4,9 +4,9 @@ use mathlib.Core.Path.{_≡_, refl, ap, _∙_}
 use mathlib.Core.Logic.{_⊎_, inl, inr, ⊎-elim, ⊎-map}
 use mathlib.Core.Bool.{Bool, true, false, cond, not, _&&_, _||_}
 use mathlib.Core.List.{List, _∷_}
-use Prim.Native.Nat.{ℕ, zero, suc, _≤_}
+use Prim.Native.Nat.{ℕ, zero, suc, _*_, _≤_}
 use native.Mathlib.Omega.{arith}
-use lib.ListN.{length}
+use lib.ListN.{length, take}
 use lib.Dec.{eqb, ltb, leb}
 use Rattle.lists.specs.Words.{isZero, upTo, ones, bit}
 use Rattle.lists.proofs.Laws.{length-countFrom, length-keep, ones-zeros}
@@ -49,7 +49,11 @@ use Rattle.order_analysis.proofs.Promise.{length-whole}
 use Rattle.plan_conditions.specs.Form.{planFits}
 use Rattle.planned_load.specs.Steps.{stepModules}
 use Rattle.planned_load.proofs.Stepping.{planned-length}
-use Rattle.jolmuqter.specs.Calls.{Call, Sort, Circles, Expected, Entries, Actual, Labels, Reach, OrderRisk, CycleRisk, Plan, Whole, Grounds, Share, Arrange, Load, Refusal, readsMemberOrder, lentTo, Promise}
+use Rattle.wall_line.specs.Wall.{pageLineOf}
+use Rattle.wall_line.proofs.Lines.{line-fits}
+use Rattle.wall_page.specs.Pages.{pageWith}
+use Rattle.wall_page.proofs.Fits.{page-fits}
+use Rattle.jolmuqter.specs.Calls.{Call, Sort, Circles, Expected, Entries, Actual, Labels, Reach, OrderRisk, CycleRisk, Plan, Whole, Grounds, Share, Line, Page, Arrange, Load, Refusal, readsMemberOrder, lentTo, Promise}
 use Rattle.jolmuqter.specs.Exported.{coded}
 use Rattle.jolmuqter.specs.ToldApart.{countLimit, numberLimit, AcceptedWith, RefusedWith, AnswersAreToldApart, BelowExactlyIfAccepted}
 
@@ -77,6 +81,10 @@ module _ (p : Project) where
 bit-few : (b : Bool) → bit b ≤ 1
 bit-few true = omega arith
 bit-few false = omega arith
+
+page-few : (p : Project) → Accepted p → (grounds plan : List ℕ) (root : ℕ) → length (pageWith p grounds plan root) ≤ 167936
+unfolding pageWith
+page-few p ok grounds plan root = omega (arith, page-fits p ok (take (modules p) grounds) (take (modules p) plan) root, ok .sizes .normal)
 
 -- a project's number is 4 at most, or 10
 
@@ -165,6 +173,8 @@ module _ (t : Lent) (number-known : Known (t .number)) (tested : t .number ≡ 0
     by-promise Whole h = by-number Whole (omega arith) true (leb (modules p) (length first)) (ones (wholePlan p)) (λ ok. omega (arith, ones-zeros (wholePlan p), length-whole p, ok .sizes .normal)) (h .answered)
     by-promise Grounds h = by-number Grounds (omega arith) true (leb (modules p) (length first)) (ones (groundsOf p)) (λ ok. omega (arith, ones-zeros (groundsOf p), length-grounds p, ok .sizes .normal)) (h .answered)
     by-promise Share h = by-number Share (omega arith) true (leb 4 (length first)) 4 (λ ok. omega arith) (h .answered)
+    by-promise (Line root number) h = by-number (Line root number) (omega arith) (isAnalysed p root) (leb 41 (length first)) (length (pageLineOf p root number)) (λ ok. omega (arith, line-fits p root ok number)) (h .answered)
+    by-promise (Page root grounds plan) h = by-number (Page root grounds plan) (omega arith) (isAnalysed p root) (leb (modules p) (length grounds) && (leb (modules p) (length plan) && leb (41 * modules p) (length first))) (length (pageWith p grounds plan root)) (λ ok. page-few p ok grounds plan root) (h .answered)
     by-promise (Arrange names) h =
         told (Arrange names) a r code (namedNumber t names) true (leb (length (p .member)) (length first)) (length (p .member)) (tested-known (t .number) true (ltb 0 (length names)) number-known) (omega arith)
         (λ z. let ok = tested (none-tested (t .number) true (ltb 0 (length names)) z .0) in omega (arith, ok .sizes .memberChunk, ok .sizes .member)) (h .answered)
@@ -216,6 +226,8 @@ limit-below (CycleRisk root) = omega arith
 limit-below (Plan seeds) = omega arith
 limit-below Whole = omega arith
 limit-below Share = omega arith
+limit-below (Line root number) = omega arith
+limit-below (Page root grounds plan) = omega arith
 limit-below (Arrange names) = omega arith
 limit-below (Load root plan) = omega arith
 limit-below Grounds = omega arith

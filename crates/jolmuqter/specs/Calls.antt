@@ -20,6 +20,8 @@ use Rattle.order_analysis.specs.Whole.{WholeAnalysis}
 use Rattle.grounds.specs.Promise.{ModuleGrounds}
 use Rattle.shares.specs.Share.{WrittenShare}
 use Rattle.load_trial.specs.Promise.{LoadRun}
+use Rattle.wall_line.specs.Wall.{PageLine}
+use Rattle.wall_page.specs.Pages.{EntryPage}
 
 -- an operation with its argument
 pub data Call : Type 0 where
@@ -36,6 +38,8 @@ pub data Call : Type 0 where
   Whole : Call
   Grounds : Call
   Share : Call
+  Line : ℕ → ℕ → Call
+  Page : ℕ → List ℕ → List ℕ → Call
   Arrange : List ℕ → Call
   Load : ℕ → List ℕ → Call
   Refusal : Call
@@ -55,6 +59,8 @@ readsMemberOrder (Plan seeds) = false
 readsMemberOrder Whole = true
 readsMemberOrder Grounds = false
 readsMemberOrder Share = true
+readsMemberOrder (Line root number) = true
+readsMemberOrder (Page root grounds plan) = true
 readsMemberOrder (Arrange names) = false
 readsMemberOrder (Load root plan) = true
 readsMemberOrder Refusal = false
@@ -79,6 +85,8 @@ Promise (Plan seeds) t first second r first′ second′ = PlanFromSeeds t seeds
 Promise Whole t first second r first′ second′ = WholeAnalysis t first r first′
 Promise Grounds t first second r first′ second′ = ModuleGrounds t first r first′
 Promise Share t first second r first′ second′ = WrittenShare t first r first′
+Promise (Line root number) t first second r first′ second′ = PageLine t root number first r first′
+Promise (Page root grounds plan) t first second r first′ second′ = EntryPage t root grounds plan first r first′
 Promise (Arrange names) t first second r first′ second′ = SortChunkModules t names first r first′
 Promise (Load root plan) t first second r first′ second′ = LoadRun t root plan first second r first′ second′
 Promise Refusal t first second r first′ second′ = r ≡ answer (t .number) 0

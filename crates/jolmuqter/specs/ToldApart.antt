@@ -10,7 +10,7 @@ use Rattle.tables.specs.Refusal.{moduleLimit, rowLimit}
 use Rattle.tables.specs.Answers.{numberOf}
 use Rattle.tables.specs.declared.Answer.{Answer}
 use Rattle.tables.specs.declared.Answer.the-variants.{Refused, Counted}
-use Rattle.jolmuqter.specs.Calls.{Call, lentTo, Sort, Circles, Expected, Entries, Actual, Labels, Reach, OrderRisk, CycleRisk, Plan, Whole, Grounds, Share, Arrange, Load, Refusal}
+use Rattle.jolmuqter.specs.Calls.{Call, lentTo, Sort, Circles, Expected, Entries, Actual, Labels, Reach, OrderRisk, CycleRisk, Plan, Whole, Grounds, Share, Line, Page, Arrange, Load, Refusal}
 use Rattle.jolmuqter.specs.Exported.{Exported}
 
 abbrev pub isCircles : Call → Bool
@@ -26,12 +26,14 @@ isCircles (CycleRisk root) = false
 isCircles (Plan seeds) = false
 isCircles Whole = false
 isCircles Share = false
+isCircles (Line root number) = false
+isCircles (Page root grounds plan) = false
 isCircles (Arrange names) = false
 isCircles (Load root plan) = false
 isCircles Grounds = false
 isCircles Refusal = false
 
--- a count is 4,096 at most, that of circles 2 ^ 27, that of member rows 16,384
+-- a count is 4,096 at most, that of circles 2 ^ 27, that of member rows 16,384, that of a page's bytes 41 times 4,096
 abbrev pub countLimit : Call → ℕ
 countLimit Circles = 2 ^ 27
 countLimit (Arrange names) = rowLimit
@@ -48,6 +50,8 @@ countLimit Whole = moduleLimit
 countLimit Grounds = moduleLimit
 countLimit Share = moduleLimit
 countLimit (Load root plan) = moduleLimit
+countLimit (Line root number) = moduleLimit
+countLimit (Page root grounds plan) = 167936
 countLimit Refusal = moduleLimit
 
 abbrev pub isLoad : Call → Bool
@@ -65,6 +69,8 @@ isLoad (Plan seeds) = false
 isLoad Whole = false
 isLoad Grounds = false
 isLoad Share = false
+isLoad (Line root number) = false
+isLoad (Page root grounds plan) = false
 isLoad (Arrange names) = false
 isLoad Refusal = false
 

@@ -5,7 +5,7 @@ ghost use mathlib.Core.Path.{_≡_};
 ghost use mathlib.Core.List.{[]};
 ghost use Rattle.table.specs.Table.{lent, answer};
 ghost use Rattle.arrangement.specs.OfProject.{lentNamed};
-ghost use Rattle.jolmuqter.specs.Calls.{Sort, Circles, Expected, Entries, Actual, Labels, Reach, OrderRisk, CycleRisk, Plan, Whole, Grounds, Share, Arrange, Load, Refusal};
+ghost use Rattle.jolmuqter.specs.Calls.{Sort, Circles, Expected, Entries, Actual, Labels, Reach, OrderRisk, CycleRisk, Plan, Whole, Grounds, Share, Line, Page, Arrange, Load, Refusal};
 ghost use Rattle.plan_check.specs.Promise.{judgement};
 ghost use Rattle.load_trial.specs.Promise.{loadStep};
 ghost use Rattle.jolmuqter.specs.Exported.{coded, codedJudgement, codedStep, Exported};
@@ -273,6 +273,51 @@ pub extern "C" fn jolmuqter_share<'a>(
     ensures { λ r. ⌜ Exported Share (lentNamed runtime dynamic (now (bounds .entry)) (now (columns .entry)) (now (names .entry))) (now (share .entry)) [] r (now (share .exit)) [] ⌝ }
 {
     code(shares::write_share(runtime, dynamic, bounds, columns, names, share))
+}
+
+// The page of an analysed entry, by grounds and a plan that were made before.
+#[no_mangle]
+pub extern "C" fn jolmuqter_entry_page<'a>(
+    runtime: u32,
+    dynamic: u32,
+    bounds: &'a [u32],
+    columns: &'a [u32],
+    names: &'a [u8],
+    root: u32,
+    grounds: &'a [u32],
+    plan: &'a [u32],
+    page: &mut [u8],
+) -> u64
+    ensures { λ r. ⌜ Exported (Page root (now (grounds .entry)) (now (plan .entry))) (lentNamed runtime dynamic (now (bounds .entry)) (now (columns .entry)) (now (names .entry))) (now (page .entry)) [] r (now (page .exit)) [] ⌝ }
+{
+    code(wall_page::entry_page(
+        runtime,
+        dynamic,
+        bounds,
+        columns,
+        names,
+        grounds,
+        plan,
+        root,
+        page,
+    ))
+}
+
+// One line of an analysed entry's page, by its number from 0.
+#[no_mangle]
+pub extern "C" fn jolmuqter_page_line<'a>(
+    runtime: u32,
+    dynamic: u32,
+    bounds: &'a [u32],
+    columns: &'a [u32],
+    names: &'a [u8],
+    root: u32,
+    number: u32,
+    line: &mut [u8],
+) -> u64
+    ensures { λ r. ⌜ Exported (Line root number) (lentNamed runtime dynamic (now (bounds .entry)) (now (columns .entry)) (now (names .entry))) (now (line .entry)) [] r (now (line .exit)) [] ⌝ }
+{
+    code(wall_line::page_line(runtime, dynamic, bounds, columns, names, root, number, line))
 }
 
 // The members of each chunk as `sort_chunk_modules` arranges them, at the chunk's member rows.

@@ -4,7 +4,7 @@ ghost use lib.ListN.{length};
 ghost use Rattle.tables.specs.Answers.{numberOf, countOf, counted, after};
 ghost use Rattle.lines.specs.Lines.{lineOf, lineNumber, members, membersNumber};
 
-mod lines;
+pub mod lines;
 
 use lines::Room;
 use lines::put_byte;

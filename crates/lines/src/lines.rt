@@ -1,4 +1,4 @@
-// A result line, written into a slice of bytes.
+// For crates above: a result line, written into a slice of bytes.
 ghost use mathlib.Core.Path.{_≡_};
 ghost use mathlib.Core.List.{[], _∷_};
 ghost use Prim.Native.Nat.{ℕ, _+_, _≤_, _<_};
@@ -8,7 +8,7 @@ ghost use Rattle.lines.specs.Lines.{RoomIs, PutAt};
 use tables::ModuleIdx;
 
 // How many digits n has.
-fn number_len(n: u32) -> usize
+pub fn number_len(n: u32) -> usize
     ensures { λ r. ⌜ r ≡ length (number n) ⌝ }
 {
     let mut left = n;
@@ -60,7 +60,7 @@ fn digit(d: u32) -> u8
 }
 
 // Writes n in decimal from `at` on, and answers the position behind it.
-fn put_number(out: &mut [u8], at: usize, n: u32) -> usize
+pub fn put_number(out: &mut [u8], at: usize, n: u32) -> usize
     requires { ⌜ at + length (number n) ≤ length (now out) ⌝ }
     ensures { λ r. ⌜ PutAt (now (out .entry)) at (number n) (now (out .exit)) r ⌝ }
 {

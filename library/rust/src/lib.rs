@@ -67,17 +67,17 @@ fn step(coded: u64) -> Result<Step, Refused> {
 
 /// Declares exported functions, and beside each a safe one. A slice goes over as its pointer and its length.
 macro_rules! operations {
-  ($answer:ident $result:ty; $($(#[$about:meta])* $safe:ident = $name:ident [$($value:ident)*] [$($list:ident)*] [$($output:ident)*];)*) => {
+  ($answer:ident $result:ty, $element:ty; $($(#[$about:meta])* $safe:ident = $name:ident [$($value:ident)*] [$($list:ident)*] [$($output:ident)*];)*) => {
     unsafe extern "C" {
       $(fn $name(
         runtime: u32, dynamic: u32, bounds: *const u32, _: usize, columns: *const u32, _: usize, names: *const u8, _: usize,
-        $($value: u32,)* $($list: *const u32, _: usize,)* $($output: *mut u32, _: usize,)*
+        $($value: u32,)* $($list: *const u32, _: usize,)* $($output: *mut $element, _: usize,)*
       ) -> u64;)*
     }
 
     impl Table<'_> {
       $($(#[$about])*
-      pub fn $safe(&self, $($value: u32,)* $($list: &[u32],)* $($output: &mut [u32],)*) -> $result {
+      pub fn $safe(&self, $($value: u32,)* $($list: &[u32],)* $($output: &mut [$element],)*) -> $result {
         // SAFETY: each pointer and length is a live slice's, and what is lent by `&mut` overlaps nothing else.
         $answer(unsafe {
           $name(
@@ -93,7 +93,7 @@ macro_rules! operations {
 }
 
 operations! {
-  answer Answer;
+  answer Answer, u32;
   /// The test of the tables alone, which every other call makes first. Counts 0.
   refusal = jolmuqter_refusal [] [] [];
   /// The number of each module, and the sorted list. Counts the listed modules.
@@ -131,7 +131,15 @@ operations! {
 }
 
 operations! {
-  judgement Result<Judgement, Refused>;
+  answer Answer, u8;
+  /// One line of an analysed entry's page, by its number from 0: 40 characters and an LF. Counts 41, or 0 past the last, where nothing is written.
+  page_line = jolmuqter_page_line [root number] [] [line];
+  /// The page of an analysed entry, by grounds and a plan that were made before. Counts its bytes.
+  entry_page = jolmuqter_entry_page [root] [grounds plan] [page];
+}
+
+operations! {
+  judgement Result<Judgement, Refused>, u32;
   /// Whether a plan made elsewhere, 0 or 1 for each module, is accepted with these seeds, or what it breaks first.
   check_plan = jolmuqter_check_plan [] [seeds plan] [];
 }

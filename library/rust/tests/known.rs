@@ -268,6 +268,31 @@ fn gives_the_order_risk() {
 }
 
 #[test]
+fn gives_a_page_line() {
+  let mut line = [b'.'; 42];
+  assert_eq!(with(unchanged, |table| table.page_line(2, 0, &mut line)), Err(Refused(5)));
+  assert_eq!(with(unchanged, |table| table.page_line(1, 0, &mut line[..40])), Err(Refused(6)));
+  assert_eq!(with(unchanged, |table| table.page_line(1, 3, &mut line[..40])), Err(Refused(6)));
+  assert_eq!(with(unchanged, |table| table.page_line(1, 3, &mut line)), Ok(0));
+  assert_eq!(line, [b'.'; 42]);
+  assert_eq!(with(unchanged, |table| table.page_line(1, 1, &mut line)), Ok(41));
+  assert_eq!(&line, b"       3       1       0      -1     yes\n.");
+}
+
+#[test]
+fn gives_an_entry_page() {
+  let mut page = [b'.'; 164];
+  assert_eq!(with(unchanged, |table| table.entry_page(2, &[0, 1, 1, 1], &[0, 1, 0, 1], &mut page)), Err(Refused(5)));
+  assert_eq!(with(unchanged, |table| table.entry_page(1, &[0, 1, 1], &[0, 1, 0, 1], &mut page)), Err(Refused(6)));
+  assert_eq!(with(unchanged, |table| table.entry_page(1, &[0, 1, 1, 1], &[0, 1, 0], &mut page)), Err(Refused(6)));
+  assert_eq!(with(unchanged, |table| table.entry_page(1, &[0, 1, 1, 1], &[0, 1, 0, 1], &mut page[..163])), Err(Refused(6)));
+  assert_eq!(page, [b'.'; 164]);
+  assert_eq!(with(unchanged, |table| table.entry_page(1, &[0, 1, 1, 1], &[0, 1, 0, 1], &mut page)), Ok(123));
+  assert_eq!(&page[41..83], b"       3       1       0      -1     yes\n  ");
+  assert_eq!(&page[122..125], b"\n..");
+}
+
+#[test]
 fn gives_the_cycle_risk() {
   let mut risk = [9; 4];
   assert_eq!(with(unchanged, |table| table.cycle_risk(2, &mut risk)), Err(Refused(5)));

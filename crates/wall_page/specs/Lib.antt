@@ -1,0 +1,3 @@
+-- `Pages`: the page of an entry by a plan and grounds that were made before. `Output`: what the page program prints.
+pub mod Pages
+pub mod Output
