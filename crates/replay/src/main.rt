@@ -449,6 +449,15 @@ fn ask_one<'a>(
             names,
             first,
         ),
+        16 => plan_by_worklist::plan_by_worklist(
+            runtime,
+            dynamic,
+            bounds,
+            columns,
+            names,
+            seeds,
+            first,
+        ),
         _ => order_analysis::analyze_execution_order(
             runtime,
             dynamic,
