@@ -4,7 +4,7 @@ use project::{MARK, Project, column::*};
 
 use crate::{
   lent::Lent,
-  model::{Call, Given, Model, Set, first_broken, members, set_of},
+  model::{Call, Given, Model, Set, first_broken, members, own_hosts, planned, set_of},
   random::Random,
   refusal,
 };
@@ -212,7 +212,7 @@ pub fn risks(root: u32) -> [Call; 3] {
 }
 
 /// A call of each operation, of a project with so many modules.
-pub fn one_call_each(modules: usize) -> [Call; 17] {
+pub fn one_call_each(modules: usize) -> [Call; 19] {
   [
     Call::Sort,
     Call::Expected(1),
@@ -231,7 +231,16 @@ pub fn one_call_each(modules: usize) -> [Call; 17] {
     Call::Circles,
     Call::Check(vec![1], vec![0; modules]),
     Call::Arrangement,
+    Call::Load(1, vec![0; modules]),
+    Call::Step(1, 0, vec![0; modules]),
   ]
+}
+
+/// Some plans to be tried, whatever they hold: none, the whole analysis', every module, and some sets.
+fn trials(p: &Project, model: &Model) -> Vec<Vec<u32>> {
+  let n = p.modules();
+  let some = sets(n).into_iter().rev().take(2).map(|set| marks(&set_of(n, &set)));
+  [vec![0; n], marks(&model.plan()), vec![1; n]].into_iter().chain(some).collect()
 }
 
 /// A set as the marks of a plan.
@@ -365,6 +374,15 @@ fn against_original(
       check(&|| format!("{call:?}"), vec![ours as u32], vec![theirs as u32]);
     }
   }
+  for plan in trials(p, model) {
+    for entry in Original::of(&planned(p, &plan)).entries() {
+      if !tied && !entry.open {
+        let (root, hosts) = (entry.root, own_hosts(&entry.actual, &entry.hosts));
+        check(&|| format!("load of {root} with {plan:?}"), model.tried(root, &plan).0, entry.actual);
+        check(&|| format!("hosts of that load of {root}"), model.tried(root, &plan).1, hosts);
+      }
+    }
+  }
   (first, results)
 }
 
@@ -382,6 +400,7 @@ fn calls(p: &Project, model: Option<&Model>) -> Vec<Call> {
     calls.extend([Call::Entries(vec![]), Call::Entries(vec![0]), Call::Entries(vec![n])]);
     calls.extend([Call::Check(vec![], vec![0; n as usize]), Call::Check(vec![n], vec![2])]);
     calls.extend([Call::Taken(vec![]), Call::Taken(vec![0]), Call::Taken(vec![n])]);
+    calls.extend([Call::Load(0, vec![2]), Call::Step(n, 0, vec![2])]);
     return calls;
   }
   for root in roots(p.modules()).into_iter().chain([n, MARK]) {
@@ -393,9 +412,17 @@ fn calls(p: &Project, model: Option<&Model>) -> Vec<Call> {
   }
   let mut entries: Vec<u32> = p[ENTRY].iter().copied().take(16).collect();
   entries.extend([0, n - 1, n, MARK]);
-  for root in entries {
+  for &root in &entries {
     calls.push(Call::Actual(root));
     calls.extend(risks(root));
+  }
+  for plan in model.into_iter().flat_map(|model| trials(p, model)) {
+    calls.extend(entries.iter().map(|&root| Call::Load(root, plan.clone())));
+    let root = entries[0];
+    calls.extend([0, 1, n / 2, n - 1, n, MARK].map(|number| Call::Step(root, number, plan.clone())));
+  }
+  for plan in [vec![], vec![0; n as usize + 1], vec![2; n as usize]] {
+    calls.extend([Call::Load(entries[0], plan.clone()), Call::Step(entries[0], 0, plan)]);
   }
   for chunk in (0..c.min(64)).chain([c.saturating_sub(1), c, MARK]) {
     calls.push(Call::Reach(chunk));

@@ -1,9 +1,9 @@
 //! The library: calls of its functions on a project that is lent.
-use jolmuqter::{Judgement, Refused, Table};
+use jolmuqter::{Judgement, Refused, Step, Table};
 
 use crate::{
   lent::Lent,
-  model::{Call, broken},
+  model::{Call, step_code, broken},
 };
 
 /// Both kinds of risk, joined.
@@ -39,6 +39,11 @@ pub fn call(lent: &Lent, call: &Call, outputs: &mut [Vec<u32>]) -> Result<usize,
     (Call::Check(seeds, plan), []) => table.check_plan(seeds, plan).map(|judgement| match judgement {
       Judgement::Accepted => 0,
       Judgement::Broken(condition, module) => broken(condition, module),
+    }),
+    (Call::Load(root, plan), [steps, hosts]) => table.load_run(*root, plan, steps, hosts),
+    (Call::Step(root, number, plan), []) => table.load_step(*root, *number, plan).map(|step| match step {
+      Step::Listed(module, host) => step_code(Some((module, host))),
+      Step::Done => step_code(None),
     }),
     _ => unreachable!("outputs that {call:?} doesn't have"),
   };

@@ -31,6 +31,10 @@ pub enum Call {
   Circles,
   /// A plan made elsewhere: the seeds, and its marks.
   Check(Vec<u32>, Vec<u32>),
+  /// All steps of an entry's load with a plan.
+  Load(u32, Vec<u32>),
+  /// One of them, by its number; as a count: `step_code`.
+  Step(u32, u32, Vec<u32>),
   /// The members of each chunk, arranged.
   Arrangement,
 }
@@ -82,6 +86,24 @@ struct Record {
   target: u32,
 }
 
+/// A project with the wraps of planned modules written as 2.
+pub fn planned(p: &Project, plan: &[u32]) -> Project {
+  let mut planned = p.clone();
+  planned[WRAP].iter_mut().zip(plan).filter(|(_, mark)| **mark == 1).for_each(|(wrap, _)| *wrap = 2);
+  planned
+}
+
+/// The host of each listed module: the noted one, or itself.
+pub fn own_hosts(order: &[u32], noted: &[u32]) -> Vec<u32> {
+  order.iter().map(|&m| if noted[m as usize] == MARK { m } else { noted[m as usize] }).collect()
+}
+
+/// A step as a count: its module and host, or that none is left.
+pub fn step_code(step: Option<(u32, u32)>) -> usize {
+  step.map_or(1 << 31, |(module, host)| ((module as usize) << 16) + host as usize)
+}
+
+#[derive(Clone)]
 pub struct Model<'a> {
   /// As it is read.
   p: Cow<'a, Project>,
@@ -519,6 +541,15 @@ impl<'a> Model<'a> {
   /// The members of each chunk as they are read.
   pub fn arranged(&self) -> &[Vec<u32>] {
     &self.members
+  }
+
+  /// The actual order of an analysed entry "with every planned module's wrap read as 2 and other wraps as written", and the host of each place, the module
+  /// itself where it is its own.
+  pub fn tried(&self, root: u32, plan: &[u32]) -> (Vec<u32>, Vec<u32>) {
+    let planned = Self { p: Cow::Owned(planned(&self.p, plan)), ..self.clone() };
+    let (order, noted) = planned.actual(root);
+    let hosts = own_hosts(&order, &noted);
+    (order, hosts)
   }
 
   // ------------------------------------------------------------ cyclic chunks
@@ -1001,6 +1032,15 @@ impl<'a> Model<'a> {
       Call::Refusal => Given { count: 0, outputs: Vec::new() },
       Call::Entries(entries) => list(self.entries(entries)),
       Call::Check(seeds, plan) => Given { count: self.check(seeds, plan), outputs: Vec::new() },
+      Call::Load(root, plan) => {
+        let (steps, hosts) = self.tried(*root, plan);
+        Given { count: steps.len(), outputs: vec![steps, hosts] }
+      }
+      Call::Step(root, number, plan) => {
+        let (steps, hosts) = self.tried(*root, plan);
+        let shown = steps.into_iter().zip(hosts).nth(*number as usize);
+        Given { count: step_code(shown), outputs: Vec::new() }
+      }
       Call::Arrangement => list(self.members.concat()),
     }
   }

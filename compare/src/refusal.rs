@@ -161,7 +161,7 @@ fn fitting(p: &Project, call: &Call) -> bool {
   match call {
     Call::Sort | Call::Circles | Call::Labels | Call::Whole | Call::Refusal | Call::Grounds | Call::Arrangement => true,
     Call::Expected(root) => module(*root),
-    Call::Actual(root) | Call::Risk(root) | Call::OrderRisk(root) | Call::CycleRisk(root) => {
+    Call::Actual(root) | Call::Load(root, _) | Call::Step(root, ..) | Call::Risk(root) | Call::OrderRisk(root) | Call::CycleRisk(root) => {
       module(*root) && analysed(p, *root)
     }
     Call::Reach(chunk) => (*chunk as usize) < p.chunks(),
@@ -172,10 +172,10 @@ fn fitting(p: &Project, call: &Call) -> bool {
   }
 }
 
-/// 9, of an accepted project with fitting seeds: "a plan that isn't one mark a module or holds a mark other than 0 and 1"
+/// 9, of an accepted project with fitting arguments: "a plan that isn't one mark a module or holds a mark other than 0 and 1"
 pub fn formed(p: &Project, call: &Call) -> bool {
   match call {
-    Call::Check(_, plan) => plan.len() == p.modules() && plan.iter().all(|&mark| mark < 2),
+    Call::Check(_, plan) | Call::Load(_, plan) | Call::Step(.., plan) => plan.len() == p.modules() && plan.iter().all(|&mark| mark < 2),
     _ => true,
   }
 }
@@ -187,8 +187,8 @@ pub fn places(p: &Project, call: &Call) -> Vec<usize> {
       let paths = Model::of(p).circles();
       vec![paths.iter().map(Vec::len).sum(), paths.len()]
     }
-    Call::Sort | Call::Actual(_) | Call::Circles => vec![p.modules(); 2],
-    Call::Reach(_) | Call::Refusal | Call::Check(..) => Vec::new(),
+    Call::Sort | Call::Actual(_) | Call::Load(..) | Call::Circles => vec![p.modules(); 2],
+    Call::Reach(_) | Call::Refusal | Call::Check(..) | Call::Step(..) => Vec::new(),
     Call::Labels => vec![p.chunks()],
     Call::Arrangement => vec![p[MEMBER].len()],
     _ => vec![p.modules()],

@@ -14,7 +14,7 @@ use crate::{
   edges,
   judge::{self, Judge, check_by_the_original, entry_lists, marks, one_call_each, risks},
   lent::Lent,
-  model::{Call, Given, Model, members, set_of},
+  model::{Call, Given, Model, members, own_hosts, planned, set_of},
   refusal::{self, Values, limit, values},
   shrink::shrunk,
   wrong::Wrong,
@@ -121,8 +121,10 @@ fn every_call(p: &Project) -> Vec<Asked> {
   for module in 0..n {
     calls.extend([Call::Expected(module), Call::PlanFrom(vec![module]), Call::Taken(vec![module])]);
   }
+  let plans = [marks(&Model::of(p).plan()), vec![1; p.modules()]];
   for &root in &p[ENTRY] {
     calls.push(Call::Actual(root));
+    calls.extend(plans.iter().map(|plan| Call::Load(root, plan.clone())));
     calls.extend(risks(root));
   }
   calls.extend((0..p.chunks() as u32).map(Call::Reach));
@@ -227,7 +229,7 @@ fn whole() -> Project {
 
 /// A call of each operation.
 fn each_call(p: &Project) -> Vec<Asked> {
-  one_call_each(p.modules()).into_iter().map(|call| roomy(p, call)).collect()
+  one_call_each(p.modules()).into_iter().filter(|call| !matches!(call, Call::Step(..))).map(|call| roomy(p, call)).collect()
 }
 
 /// A project with one thing wrong, refused by every operation.
@@ -332,6 +334,11 @@ fn arguments() -> Case {
     Call::Check(vec![1], vec![1, 0, 0, MARK]),
     Call::Check(vec![1], vec![]),
     Call::Check(vec![1; 16_380], vec![0; n as usize]),
+    Call::Load(0, vec![2]),
+    Call::Load(MARK, vec![0; n as usize]),
+    Call::Load(1, vec![]),
+    Call::Load(1, vec![0; n as usize + 1]),
+    Call::Load(1, vec![0, 1, 0, 2]),
   ] {
     calls.push(roomy(&project, call));
   }
@@ -439,6 +446,8 @@ fn put_call(out: &mut String, asked: &Asked, number: u32, given: Option<Given>) 
     Call::Circles => (13, 0),
     Call::Check(seeds, _) => (14, seeds.len() as u32),
     Call::Arrangement => (15, 0),
+    Call::Load(root, _) => (17, *root),
+    Call::Step(..) => unreachable!("a step stands in the list as a part of its load"),
   };
   let refused = u32::from(number != 0);
   put(out, [operation, argument, refused, given.as_ref().map_or(number, |given| given.count as u32)]);
@@ -446,6 +455,7 @@ fn put_call(out: &mut String, asked: &Asked, number: u32, given: Option<Given>) 
   let lent = match call {
     Call::PlanFrom(list) | Call::Taken(list) | Call::Entries(list) => list.clone(),
     Call::Check(seeds, plan) => [&seeds[..], plan].concat(),
+    Call::Load(_, plan) => plan.clone(),
     _ => Vec::new(),
   };
   put(out, [lent.len() as u32]);
@@ -493,6 +503,12 @@ fn of_the_original(p: &Project, original: &Original, call: &Call) -> Option<Give
     Call::Grounds => Given { count: original.sensitive().len(), outputs: vec![original.grounds()] },
     Call::Check(seeds, plan) => Given { count: check_by_the_original(original, seeds, plan), outputs: Vec::new() },
     Call::Arrangement => list(original.members().concat()),
+    Call::Load(root, plan) => {
+      let entry = Original::of(&planned(p, plan)).entries().into_iter().find(|entry| entry.root == *root).unwrap();
+      let hosts = own_hosts(&entry.actual, &entry.hosts);
+      Given { count: entry.actual.len(), outputs: vec![entry.actual, hosts] }
+    }
+    Call::Step(..) => return None,
     // As a set: `same_circles`.
     Call::Circles => return None,
   })
@@ -502,7 +518,7 @@ fn of_the_original(p: &Project, original: &Original, call: &Call) -> Option<Give
 fn said(p: &Project, original: &Original, call: &Call) -> bool {
   let open = original.open_chunks().contains(&true);
   match call {
-    Call::Actual(_) | Call::Risk(_) | Call::OrderRisk(_) | Call::Whole => !p.tied() && !open,
+    Call::Actual(_) | Call::Load(..) | Call::Risk(_) | Call::OrderRisk(_) | Call::Whole => !p.tied() && !open,
     Call::Arrangement => !open,
     _ => true,
   }
