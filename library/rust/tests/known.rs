@@ -288,7 +288,7 @@ fn gives_an_entry_page() {
   assert_eq!(with(unchanged, |table| table.entry_page(1, &[0, 1, 1, 1], &[0, 1, 0, 1], &mut page[..163])), Err(Refused(6)));
   assert_eq!(page, [b'.'; 164]);
   assert_eq!(with(unchanged, |table| table.entry_page(1, &[0, 1, 1, 1], &[0, 1, 0, 1], &mut page)), Ok(123));
-  assert_eq!(&page[41..83], b"       3       1       0      -1     yes\n  ");
+  assert_eq!(&page[41..82], b"       3       1       0      -1     yes\n");
   assert_eq!(&page[122..125], b"\n..");
 }
 
