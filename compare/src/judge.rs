@@ -113,10 +113,15 @@ impl Judge {
     let original = Original::of(p);
     self.tally.named += usize::from(p.is_named());
     self.tally.open += usize::from(original.open_chunks().contains(&true));
-    let (difference, results) = against_original(p, model, &original, tied);
+    let (difference, results) = against_original(p, model, &original, tied, self.checks(p));
     self.tally.results += results;
     self.note(p, model);
     difference
+  }
+
+  /// Whether plans made elsewhere are checked: of the smallest projects, in one turn of eight.
+  fn checks(&self, p: &Project) -> bool {
+    p.modules() > 4 || self.turn % 8 == 0
   }
 
   /// What a project is good for.
@@ -155,7 +160,7 @@ impl Judge {
     let subject = self.subject?;
     let lent = Lent::of(p);
     let thorough = self.turn % 8 == 0;
-    for call in calls(p, model) {
+    for call in calls(p, model, self.checks(p)) {
       let given = model.and_then(|model| {
         (refusal::of_call(p, &call, &[]) == 0).then(|| model.give(&call))
       });
@@ -292,6 +297,7 @@ fn against_original(
   model: &Model,
   original: &Original,
   tied: bool,
+  with_checks: bool,
 ) -> (Difference, usize) {
   let mut results = 0;
   let mut first = None;
@@ -367,7 +373,7 @@ fn against_original(
       check(&|| format!("rule {} with {set:?} planned", rule + 1), ours, theirs);
     }
   }
-  for call in checks(p, model) {
+  for call in with_checks.then(|| checks(p, model)).into_iter().flatten() {
     let Call::Check(seeds, plan) = &call else { continue };
     if refusal::formed(p, &call) && seeds.iter().all(|&seed| (seed as usize) < p.modules()) {
       let (ours, theirs) = (model.check(seeds, plan), check_by_the_original(original, seeds, plan));
@@ -387,7 +393,7 @@ fn against_original(
 }
 
 /// The calls that are tried: fitting arguments and some that don't fit.
-fn calls(p: &Project, model: Option<&Model>) -> Vec<Call> {
+fn calls(p: &Project, model: Option<&Model>, with_checks: bool) -> Vec<Call> {
   let (n, c) = (p.modules() as u32, p.chunks() as u32);
   let mut calls = vec![Call::Sort, Call::Circles, Call::Labels, Call::Whole, Call::Refusal, Call::Grounds, Call::Arrangement];
   if model.is_none() {
@@ -428,7 +434,7 @@ fn calls(p: &Project, model: Option<&Model>) -> Vec<Call> {
     calls.push(Call::Reach(chunk));
   }
   calls.extend(sets(p.modules()).into_iter().map(Call::PlanFrom));
-  calls.extend(model.into_iter().flat_map(|model| checks(p, model)));
+  calls.extend(model.filter(|_| with_checks).into_iter().flat_map(|model| checks(p, model)));
   for past in [n, MARK] {
     calls.push(Call::PlanFrom(vec![0, past]));
   }

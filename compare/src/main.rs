@@ -1,4 +1,4 @@
-//! `compare [--seed S] [--count N] [--model | --wrong | --replay | --program PATH]`. See ../README.md.
+//! `compare [--seed S] [--count N] [--random] [--model | --wrong | --replay | --program PATH]`. See ../README.md.
 use std::process::exit;
 
 use compare::{
@@ -17,6 +17,8 @@ use project::{Project, text::render};
 struct Flags {
   seed: u64,
   count: usize,
+  /// The random projects alone.
+  random: bool,
   /// Compare the original with the model alone, and no library.
   model: bool,
   /// Only find out how soon each wrong reading is told from the right one.
@@ -28,7 +30,7 @@ struct Flags {
 }
 
 fn flags() -> Flags {
-  let mut flags = Flags { seed: 1, count: 200_000, model: false, wrong: false, replay: false, program: None };
+  let mut flags = Flags { seed: 1, count: 200_000, random: false, model: false, wrong: false, replay: false, program: None };
   let mut args = std::env::args().skip(1);
   while let Some(arg) = args.next() {
     let mut word = || args.next().unwrap_or_else(usage);
@@ -36,6 +38,7 @@ fn flags() -> Flags {
     match arg.as_str() {
       "--seed" => flags.seed = number(),
       "--count" => flags.count = number() as usize,
+      "--random" => flags.random = true,
       "--model" => flags.model = true,
       "--wrong" => flags.wrong = true,
       "--replay" => flags.replay = true,
@@ -47,7 +50,7 @@ fn flags() -> Flags {
 }
 
 fn usage<T>() -> T {
-  eprintln!("compare [--seed S] [--count N] [--model | --wrong | --replay | --program PATH]");
+  eprintln!("compare [--seed S] [--count N] [--random] [--model | --wrong | --replay | --program PATH]");
   exit(2)
 }
 
@@ -100,7 +103,7 @@ fn run_all(flags: &Flags) {
     ("three modules with names", exhaustive::named_modules),
     ("sizes around the limits", limits::limits),
   ];
-  for (name, family) in families {
+  for (name, family) in families.into_iter().filter(|_| !flags.random) {
     let before = judge.tally.projects;
     family(&mut |p| judged(&mut judge, &p, name));
     println!("{name}: {}", judge.tally.projects - before);
