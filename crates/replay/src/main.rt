@@ -541,6 +541,17 @@ fn ask<'a>(
             operation,
             argument,
         ),
+        17 => load_trial::load_run(
+            runtime,
+            dynamic,
+            bounds,
+            columns,
+            names,
+            argument,
+            seeds,
+            first,
+            second,
+        ),
         14 => plan_check::counted_judgement(plan_check::check_plan(
             runtime,
             dynamic,
