@@ -145,7 +145,7 @@ operations! {
 }
 
 operations! {
-  step Result<Step, Refused>;
+  step Result<Step, Refused>, u32;
   /// A step of an analysed entry's load with a plan, 0 or 1 for each module, by its number from 0.
   load_step = jolmuqter_load_step [root number] [plan] [];
 }
