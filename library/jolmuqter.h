@@ -1,7 +1,7 @@
 /* The order planner's operations, from target/staticlib/libjolmuqter.a (`rt staticlib jolmuqter`, x86-64 Linux).
  *
  * A slice is a pointer and a length in elements, in this order; a pointer is aligned and isn't null, even where the length is 0. Outputs overlap
- * neither each other nor the inputs. A call uses less than 2 MiB of stack (measured: up to 1.96 MiB), jolmuqter_plan_by_worklist
+ * neither each other nor the inputs. A call uses less than 2 MiB of stack (measured: up to 1.97 MiB), jolmuqter_plan_by_worklist
  * less than 4 MiB (3.95), keeps nothing, and may run in several threads at once.
  *
  * Inputs of every call:
