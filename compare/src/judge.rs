@@ -217,7 +217,7 @@ pub fn risks(root: u32) -> [Call; 3] {
 }
 
 /// A call of each operation, of a project with so many modules.
-pub fn one_call_each(modules: usize) -> [Call; 19] {
+pub fn one_call_each(modules: usize) -> [Call; 20] {
   [
     Call::Sort,
     Call::Expected(1),
@@ -238,6 +238,7 @@ pub fn one_call_each(modules: usize) -> [Call; 19] {
     Call::Arrangement,
     Call::Load(1, vec![0; modules]),
     Call::Step(1, 0, vec![0; modules]),
+    Call::Line(1, 0),
   ]
 }
 
@@ -398,7 +399,7 @@ fn calls(p: &Project, model: Option<&Model>, with_checks: bool) -> Vec<Call> {
   let mut calls = vec![Call::Sort, Call::Circles, Call::Labels, Call::Whole, Call::Refusal, Call::Grounds, Call::Arrangement];
   if model.is_none() {
     for root in [0, n, MARK] {
-      calls.extend([Call::Expected(root), Call::Actual(root)]);
+      calls.extend([Call::Expected(root), Call::Actual(root), Call::Line(root, 0)]);
       calls.extend(risks(root));
     }
     calls.extend([Call::Reach(0), Call::Reach(c)]);
@@ -420,6 +421,7 @@ fn calls(p: &Project, model: Option<&Model>, with_checks: bool) -> Vec<Call> {
   entries.extend([0, n - 1, n, MARK]);
   for &root in &entries {
     calls.push(Call::Actual(root));
+    calls.extend([0, 1, n - 1, MARK].map(|number| Call::Line(root, number)));
     calls.extend(risks(root));
   }
   for plan in model.into_iter().flat_map(|model| trials(p, model)) {

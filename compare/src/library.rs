@@ -15,6 +15,14 @@ fn joined(table: &Table, root: u32, risk: &mut [u32]) -> Result<usize, Refused> 
   Ok(risk.iter().filter(|&&mark| mark == 1).count())
 }
 
+/// One line of a page, its bytes as numbers.
+fn line(table: &Table, root: u32, number: u32, out: &mut [u32]) -> Result<usize, Refused> {
+  let mut bytes = vec![200; out.len()];
+  let answer = table.page_line(root, number, &mut bytes);
+  out.iter_mut().zip(bytes).filter(|(_, byte)| *byte != 200).for_each(|(at, byte)| *at = u32::from(byte));
+  answer
+}
+
 /// The library's answer to a call, as a count or the number of a refusal.
 pub fn call(lent: &Lent, call: &Call, outputs: &mut [Vec<u32>]) -> Result<usize, u32> {
   let Lent { runtime, dynamic, bounds, columns, names } = lent;
@@ -40,6 +48,7 @@ pub fn call(lent: &Lent, call: &Call, outputs: &mut [Vec<u32>]) -> Result<usize,
       Judgement::Accepted => 0,
       Judgement::Broken(condition, module) => broken(condition, module),
     }),
+    (Call::Line(root, number), [out]) => line(&table, *root, *number, out),
     (Call::Load(root, plan), [steps, hosts]) => table.load_run(*root, plan, steps, hosts),
     (Call::Step(root, number, plan), []) => table.load_step(*root, *number, plan).map(|step| match step {
       Step::Listed(module, host) => step_code(Some((module, host))),

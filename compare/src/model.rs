@@ -35,8 +35,30 @@ pub enum Call {
   Load(u32, Vec<u32>),
   /// One of them, by its number; as a count: `step_code`.
   Step(u32, u32, Vec<u32>),
+  /// One line of an entry's page, by its number; its bytes as numbers.
+  Line(u32, u32),
   /// The members of each chunk, arranged.
   Arrangement,
+}
+
+/// The lines of a page: "module, expected place, actual place and shift, each right-aligned in 8; then five spaces, and three characters". "Modules of the
+/// expected sensitive order come first in that order, then the others by actual place."
+pub fn page(expected: &[u32], actual: &[u32], plan: &Set) -> Vec<String> {
+  let place = |order: &[u32], module: u32| order.iter().position(|&other| other == module);
+  let shown = |place: Option<i64>| place.map_or("-".to_string(), |place| place.to_string());
+  let line = |&module: &u32| {
+    let (there, here) = (place(expected, module).map(|place| place as i64), place(actual, module).map(|place| place as i64));
+    let shift = there.zip(here).map(|(there, here)| here - there);
+    let waits = if plan[module as usize] { "yes" } else { " no" };
+    format!("{module:>8}{:>8}{:>8}{:>8}     {waits}\n", shown(there), shown(here), shown(shift))
+  };
+  expected.iter().chain(actual.iter().filter(|module| !expected.contains(module))).map(line).collect()
+}
+
+/// What a call of a line gives.
+pub fn line_of(page: &[String], number: u32) -> Given {
+  let line = page.get(number as usize).map_or(Vec::new(), |line| line.bytes().map(u32::from).collect());
+  Given { count: line.len(), outputs: vec![line] }
 }
 
 /// A broken condition, from 1 on, and its module, as the library's code has them.
@@ -1040,6 +1062,10 @@ impl<'a> Model<'a> {
         let (steps, hosts) = self.tried(*root, plan);
         let shown = steps.into_iter().zip(hosts).nth(*number as usize);
         Given { count: step_code(shown), outputs: Vec::new() }
+      }
+      Call::Line(root, number) => {
+        let (expected, actual) = (self.only_sensitive(&self.expected(*root)), self.only_sensitive(&self.actual(*root).0));
+        line_of(&page(&expected, &actual, &self.plan()), *number)
       }
       Call::Arrangement => list(self.members.concat()),
     }

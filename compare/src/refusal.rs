@@ -161,7 +161,7 @@ fn fitting(p: &Project, call: &Call) -> bool {
   match call {
     Call::Sort | Call::Circles | Call::Labels | Call::Whole | Call::Refusal | Call::Grounds | Call::Arrangement => true,
     Call::Expected(root) => module(*root),
-    Call::Actual(root) | Call::Load(root, _) | Call::Step(root, ..) | Call::Risk(root) | Call::OrderRisk(root) | Call::CycleRisk(root) => {
+    Call::Actual(root) | Call::Load(root, _) | Call::Step(root, ..) | Call::Line(root, _) | Call::Risk(root) | Call::OrderRisk(root) | Call::CycleRisk(root) => {
       module(*root) && analysed(p, *root)
     }
     Call::Reach(chunk) => (*chunk as usize) < p.chunks(),
@@ -191,6 +191,7 @@ pub fn places(p: &Project, call: &Call) -> Vec<usize> {
     Call::Reach(_) | Call::Refusal | Call::Check(..) | Call::Step(..) => Vec::new(),
     Call::Labels => vec![p.chunks()],
     Call::Arrangement => vec![p[MEMBER].len()],
+    Call::Line(..) => vec![41],
     _ => vec![p.modules()],
   }
 }

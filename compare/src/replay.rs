@@ -14,7 +14,7 @@ use crate::{
   edges,
   judge::{self, Judge, check_by_the_original, entry_lists, marks, one_call_each, risks},
   lent::Lent,
-  model::{Call, Given, Model, members, own_hosts, planned, set_of},
+  model::{Call, Given, Model, line_of, members, own_hosts, page, planned, set_of},
   refusal::{self, Values, limit, values},
   shrink::shrunk,
   wrong::Wrong,
@@ -125,6 +125,7 @@ fn every_call(p: &Project) -> Vec<Asked> {
   for &root in &p[ENTRY] {
     calls.push(Call::Actual(root));
     calls.extend(plans.iter().map(|plan| Call::Load(root, plan.clone())));
+    calls.extend((0..4.min(n + 1)).map(|number| Call::Line(root, number)));
     calls.extend(risks(root));
   }
   calls.extend((0..p.chunks() as u32).map(Call::Reach));
@@ -339,6 +340,9 @@ fn arguments() -> Case {
     Call::Load(1, vec![]),
     Call::Load(1, vec![0; n as usize + 1]),
     Call::Load(1, vec![0, 1, 0, 2]),
+    Call::Line(0, 0),
+    Call::Line(MARK, 0),
+    Call::Line(1, MARK),
   ] {
     calls.push(roomy(&project, call));
   }
@@ -447,6 +451,7 @@ fn put_call(out: &mut String, asked: &Asked, number: u32, given: Option<Given>) 
     Call::Check(seeds, _) => (14, seeds.len() as u32),
     Call::Arrangement => (15, 0),
     Call::Load(root, _) => (17, *root),
+    Call::Line(root, _) => (18, *root),
     Call::Step(..) => unreachable!("a step stands in the list as a part of its load"),
   };
   let refused = u32::from(number != 0);
@@ -456,6 +461,7 @@ fn put_call(out: &mut String, asked: &Asked, number: u32, given: Option<Given>) 
     Call::PlanFrom(list) | Call::Taken(list) | Call::Entries(list) => list.clone(),
     Call::Check(seeds, plan) => [&seeds[..], plan].concat(),
     Call::Load(_, plan) => plan.clone(),
+    Call::Line(_, number) => vec![*number],
     _ => Vec::new(),
   };
   put(out, [lent.len() as u32]);
@@ -508,6 +514,11 @@ fn of_the_original(p: &Project, original: &Original, call: &Call) -> Option<Give
       let hosts = own_hosts(&entry.actual, &entry.hosts);
       Given { count: entry.actual.len(), outputs: vec![entry.actual, hosts] }
     }
+    Call::Line(root, number) => {
+      let (entry, sensitive) = (entry(*root), set_of(p.modules(), &original.sensitive()));
+      let only = |order: Vec<u32>| order.into_iter().filter(|&module| sensitive[module as usize]).collect::<Vec<u32>>();
+      line_of(&page(&only(original.expected(*root)), &only(entry.actual), &set_of(p.modules(), &original.plan())), *number)
+    }
     Call::Step(..) => return None,
     // As a set: `same_circles`.
     Call::Circles => return None,
@@ -518,7 +529,7 @@ fn of_the_original(p: &Project, original: &Original, call: &Call) -> Option<Give
 fn said(p: &Project, original: &Original, call: &Call) -> bool {
   let open = original.open_chunks().contains(&true);
   match call {
-    Call::Actual(_) | Call::Load(..) | Call::Risk(_) | Call::OrderRisk(_) | Call::Whole => !p.tied() && !open,
+    Call::Actual(_) | Call::Load(..) | Call::Line(..) | Call::Risk(_) | Call::OrderRisk(_) | Call::Whole => !p.tied() && !open,
     Call::Arrangement => !open,
     _ => true,
   }

@@ -469,6 +469,59 @@ fn ask_one<'a>(
     }
 }
 
+// A byte as a number; one that wasn't written leaves what stands there.
+fn shown(byte: u8, other: u32) -> u32 {
+    if byte == 200 {
+        return other;
+    }
+    byte as u32
+}
+
+// Writes bytes as numbers, from place 0.
+fn widen(bytes: &[u8], out: &mut [u32]) {
+    let mut i = 0;
+    while i < out.len() {
+        if bytes.len() <= i {
+            return;
+        }
+        out[i] = shown(bytes[i], out[i]);
+        i += 1;
+    }
+}
+
+// One line of a page, whose number is the first of the list.
+fn ask_line<'a>(
+    runtime: u32,
+    dynamic: u32,
+    bounds: &'a [u32],
+    columns: &'a [u32],
+    names: &'a [u8],
+    seeds: &'a [u32],
+    first: &mut [u32],
+    root: u32,
+) -> Answer {
+    if seeds.len() == 0 {
+        return Answer::Refused(0);
+    }
+    let n = first.len();
+    if 64 < n {
+        return Answer::Refused(0);
+    }
+    let mut line = [200u8; 64];
+    let answer = wall_line::page_line(
+        runtime,
+        dynamic,
+        bounds,
+        columns,
+        names,
+        root,
+        seeds[0],
+        &mut line[..n],
+    );
+    widen(&line, first);
+    answer
+}
+
 // Those with two.
 fn ask_two<'a>(
     runtime: u32,
@@ -551,6 +604,16 @@ fn ask<'a>(
             seeds,
             first,
             second,
+        ),
+        18 => ask_line(
+            runtime,
+            dynamic,
+            bounds,
+            columns,
+            names,
+            seeds,
+            first,
+            argument,
         ),
         14 => plan_check::counted_judgement(plan_check::check_plan(
             runtime,
