@@ -2,7 +2,7 @@
  *
  * A slice is a pointer and a length in elements, in this order; a pointer is aligned and isn't null, even where the length is 0. Outputs overlap
  * neither each other nor the inputs. A call uses less than 2 MiB of stack (measured: up to 1.97 MiB), jolmuqter_plan_by_worklist
- * less than 4 MiB (3.95), keeps nothing, and may run in several threads at once.
+ * and jolmuqter_takings_from_seeds less than 4 MiB (3.92), keeps nothing, and may run in several threads at once.
  *
  * Inputs of every call:
  *   runtime   the runtime module
@@ -121,6 +121,11 @@ uint64_t jolmuqter_plan_from_seeds(JOLMUQTER_TABLE, const uint32_t *seeds, size_
 /* plan: the same for every table and every seeds, made by a worklist: each planned module is taken once, and the rules are applied only where it can matter.
  * Long chains of modules that join one after the other take a hundredth of the time and less; the least call takes about 0.1 ms, and the stack is larger (above). */
 uint64_t jolmuqter_plan_by_worklist(JOLMUQTER_TABLE, const uint32_t *seeds, size_t seeds_len, uint32_t *plan, size_t plan_len);
+
+/* list: that worklist, its modules in the order in which they are taken. lengths: how many of them were listed after 0, 1, 2 and more takings, a number for
+ * each member of the list; after the last taking all are. Each list has, each once, the eligible seeds and what a rule asks for with just the taken modules planned. Count:
+ * that of the list, whose members are the plan from these seeds. The order of what one taking lists is free. */
+uint64_t jolmuqter_takings_from_seeds(JOLMUQTER_TABLE, const uint32_t *seeds, size_t seeds_len, uint32_t *list, size_t list_len, uint32_t *lengths, size_t lengths_len);
 
 /* plan: a plan made elsewhere, 0 or 1 for each module, with these seeds. The answer isn't a count: 0 if the plan is accepted; JOLMUQTER_CONDITION(answer), 1 to
  * 6, and JOLMUQTER_MODULE(answer) if a condition is broken; else 2^32 plus the number of a refusal, as above. The conditions, of which the first broken one is

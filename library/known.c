@@ -223,6 +223,18 @@ static void answers(void) {
     HOLD(a, 0, 1, 1, 1);
   }
 
+  uint32_t list[4] = {9, 9, 9, 9}, lengths[4] = {9, 9, 9, 9};
+  EXPECT(jolmuqter_takings_from_seeds(TABLE(t), LIST(9), 0, list, 4, lengths, 4), 0);
+  HOLD(list, 9, 9, 9, 9);
+  EXPECT(jolmuqter_takings_from_seeds(TABLE(t), LIST(0, 2, 2), 3, list, 4, lengths, 4), 3);
+  EXPECT(list[0], 2), EXPECT(list[1] + list[2], 4), EXPECT(list[1] == 2, 0), EXPECT(list[3], 9);
+  HOLD(lengths, 1, 3, 3, 9);
+  EXPECT(jolmuqter_takings_from_seeds(TABLE(t), LIST(4), 1, list, 4, lengths, 4), REFUSED(5));
+  EXPECT(jolmuqter_takings_from_seeds(TABLE(t), LIST(1), 1, list, 3, lengths, 4), REFUSED(6));
+  EXPECT(jolmuqter_takings_from_seeds(TABLE(t), LIST(1), 1, list, 4, lengths, 3), REFUSED(6));
+  EXPECT(list[0], 2);
+  HOLD(lengths, 1, 3, 3, 9);
+
   EXPECT(jolmuqter_check_plan(TABLE(t), LIST(2), 1, LIST(0, 1, 1, 1), 4), 0);
   EXPECT(jolmuqter_check_plan(TABLE(t), LIST(1), 1, LIST(0, 1, 0, 1), 4), 0);
   EXPECT(jolmuqter_check_plan(TABLE(t), LIST(0), 1, LIST(0, 0, 0, 0), 4), 0);
@@ -392,6 +404,7 @@ static void grounds(void) { EXPECT(jolmuqter_grounds(TABLE(deep), first, MODULES
 static void check_plan(void) { EXPECT(jolmuqter_check_plan(TABLE(deep), LIST(MODULES - 1), 1, first, MODULES) < JOLMUQTER_REFUSED, 1); }
 static void plan_from_seeds(void) { EXPECT(jolmuqter_plan_from_seeds(TABLE(deep), LIST(MODULES - 1), 1, first, MODULES) < JOLMUQTER_REFUSED, 1); }
 static void plan_by_worklist(void) { EXPECT(jolmuqter_plan_by_worklist(TABLE(deep), LIST(MODULES - 1), 1, first, MODULES) < JOLMUQTER_REFUSED, 1); }
+static void takings_from_seeds(void) { EXPECT(jolmuqter_takings_from_seeds(TABLE(deep), LIST(MODULES - 1), 1, first, MODULES, second, MODULES) < JOLMUQTER_REFUSED, 1); }
 static void share(void) { EXPECT(jolmuqter_share(TABLE(deep), first, MODULES), 4); }
 static void page_line(void) { EXPECT(jolmuqter_page_line(TABLE(deep), 0, 0, (uint8_t *)first, 41), 41); }
 static uint8_t all_lines[41 * MODULES];
@@ -417,14 +430,14 @@ static size_t stack_of(void (*call)(void)) {
 int main(void) {
   answers();
   ends();
-  void (*calls[])(void) = {sort_modules, import_circles, expected_order, entries_order, actual_order, sort_chunk_modules, labels, chunk_reach, order_risk, cycle_risk, grounds, plan_from_seeds, plan_by_worklist, check_plan, plan, share, page_line, entry_page};
-  const char *names[] = {"sort_modules", "import_circles", "expected_order", "entries_order", "actual_order", "sort_chunk_modules", "labels", "chunk_reach", "order_risk", "cycle_risk", "grounds", "plan_from_seeds", "plan_by_worklist", "check_plan", "plan", "share", "page_line", "entry_page"};
+  void (*calls[])(void) = {sort_modules, import_circles, expected_order, entries_order, actual_order, sort_chunk_modules, labels, chunk_reach, order_risk, cycle_risk, grounds, plan_from_seeds, plan_by_worklist, check_plan, takings_from_seeds, plan, share, page_line, entry_page};
+  const char *names[] = {"sort_modules", "import_circles", "expected_order", "entries_order", "actual_order", "sort_chunk_modules", "labels", "chunk_reach", "order_risk", "cycle_risk", "grounds", "plan_from_seeds", "plan_by_worklist", "check_plan", "takings_from_seeds", "plan", "share", "page_line", "entry_page"};
   for (uint32_t way = 0; way < 4; way++) {
     deep = named(chains(way & 2), way & 1 ? all_names() : "");
     for (size_t i = 0; i < LENGTH(calls); i++) {
       size_t bytes = stack_of(calls[i]);
       printf("stack of %s, wrap %u, %s names: %zu KB\n", names[i], way & 2, way & 1 ? "with" : "without", bytes >> 10);
-      EXPECT(bytes < (calls[i] == plan_by_worklist ? 4 : 2) << 20, 1);
+      EXPECT(bytes < (calls[i] == plan_by_worklist || calls[i] == takings_from_seeds ? 4 : 2) << 20, 1);
     }
   }
   printf("from C: %d checks, %d failed\n", checks, failures);

@@ -44,6 +44,16 @@ fn single(shapes: &[Shape]) {
   println!();
 }
 
+fn plans(shapes: &[Shape]) {
+  clock::head("shape | operation");
+  for shape in shapes {
+    for (operation, pair) in Ready::of(&shape.project()).plans() {
+      println!("| {} | {operation} | {pair} |", shape.name);
+    }
+  }
+  println!();
+}
+
 fn forty(shapes: &[Shape]) {
   clock::head("shape | expected orders");
   for shape in shapes {
@@ -91,7 +101,10 @@ fn run(words: Vec<String>) {
   }
   if flag("--growth") {
     println!("Whole analysis at a quarter, half and full size\n");
-    whole(&shapes::growing().into_iter().filter(named).collect::<Vec<_>>());
+    let growing: Vec<Shape> = shapes::growing().into_iter().filter(named).collect();
+    whole(&growing);
+    println!("The plan from the seed rows at these sizes\n");
+    plans(&growing);
   }
   if flag("--single") {
     println!("Single operations\n");

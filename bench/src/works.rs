@@ -90,13 +90,12 @@ impl<'p> Ready<'p> {
   pub fn single(&self) -> Vec<(&'static str, Pair)> {
     let (root, chunk) = (self.p[ENTRY][0], self.p[ENTRY_CHUNK][0]);
     let options = carriers::options(self.p);
-    let seeds = carriers::module_rows(&self.p[SEED]);
     let sort = || {
       let mut stage = carriers::link_stage(self.p, &options);
       timed(|| stage.sort())
     };
     let original = &self.original;
-    vec![
+    [
       ("sort", in_turns(sort, || self.ours(&Call::Sort))),
       ("sort and circles", in_turns(sort, || self.circles())),
       (
@@ -113,20 +112,19 @@ impl<'p> Ready<'p> {
         in_turns(|| timed(|| original.bare_reach(chunk)), || self.ours(&Call::Reach(chunk))),
       ),
       ("both risks", in_turns(|| timed(|| original.bare_risk(root)), || self.ours(&Call::Risk(root)))),
-      (
-        "plan from the seed rows",
-        in_turns(
-          || timed(|| original.bare_plan_from(&seeds)),
-          || self.ours(&Call::PlanFrom(self.p[SEED].clone())),
-        ),
-      ),
-      (
-        "the same by a worklist",
-        in_turns(
-          || timed(|| original.bare_plan_from(&seeds)),
-          || self.ours(&Call::Taken(self.p[SEED].clone())),
-        ),
-      ),
+    ]
+    .into_iter()
+    .chain(self.plans())
+    .collect()
+  }
+
+  /// The plan from the seed rows, by rounds and by a worklist.
+  pub fn plans(&self) -> [(&'static str, Pair); 2] {
+    let seeds = carriers::module_rows(&self.p[SEED]);
+    let plan = |call: Call| in_turns(|| timed(|| self.original.bare_plan_from(&seeds)), || self.ours(&call));
+    [
+      ("plan from the seed rows", plan(Call::PlanFrom(self.p[SEED].clone()))),
+      ("the same by a worklist", plan(Call::Taken(self.p[SEED].clone()))),
     ]
   }
 }

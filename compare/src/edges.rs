@@ -632,7 +632,7 @@ fn named() -> Vec<Case> {
   ];
   for (name, names) in broken {
     let p = Project { names: names.into(), ..listing() };
-    add(name, &p, one_call_each(4).into_iter().filter(|call| !matches!(call, Call::Step(..))).map(|call| (call.clone(), vec![4; refusal::places(&p, &call).len()])).collect());
+    add(name, &p, one_call_each(4).into_iter().filter(|call| !matches!(call, Call::Step(..) | Call::Takings(_))).map(|call| (call.clone(), vec![4; refusal::places(&p, &call).len()])).collect());
   }
   let refusals = || vec![(Call::Refusal, vec![]), (Call::Arrangement, vec![0])];
   let mut fallen = Project { names: lines(&["a"]), ..listing() };

@@ -168,7 +168,7 @@ impl Judge {
         let number = refusal::of_call(p, &call, &room);
         let right = if number == 0 { given.as_ref().ok_or(0) } else { Err(number) };
         self.tally.calls[number as usize] += 1;
-        let difference = call_differs(subject, &lent, &call, &room, right);
+        let difference = call_differs(subject, &lent, &call, &room, right, model);
         if difference.is_some() {
           return difference;
         }
@@ -182,7 +182,7 @@ impl Judge {
     for call in one_call_each(p.modules()) {
       let room = roomy(&refusal::places(p, &call), 3);
       self.tally.calls[1] += 1;
-      if let Some(words) = call_differs(subject, lent, &call, &room, Err(1)) {
+      if let Some(words) = call_differs(subject, lent, &call, &room, Err(1), None) {
         let values = lent.columns.len();
         return Some(format!("bounds {:?} with {values} values: {words}", lent.bounds));
       }
@@ -217,7 +217,7 @@ pub fn risks(root: u32) -> [Call; 3] {
 }
 
 /// A call of each operation, of a project with so many modules.
-pub fn one_call_each(modules: usize) -> [Call; 20] {
+pub fn one_call_each(modules: usize) -> [Call; 21] {
   [
     Call::Sort,
     Call::Expected(1),
@@ -227,6 +227,7 @@ pub fn one_call_each(modules: usize) -> [Call; 20] {
     Call::Risk(1),
     Call::PlanFrom(vec![1]),
     Call::Taken(vec![1]),
+    Call::Takings(vec![1]),
     Call::Whole,
     Call::Refusal,
     Call::OrderRisk(1),
@@ -447,7 +448,7 @@ fn calls(p: &Project, model: Option<&Model>, with_checks: bool) -> Vec<Call> {
     calls.push(Call::Entries(vec![0; 16_385]));
     calls.extend([16_384, 16_385].map(|many| Call::Check(vec![0; many], vec![0; n as usize])));
   }
-  let taken: Vec<Call> = calls.iter().filter_map(Call::taken).collect();
+  let taken: Vec<Call> = calls.iter().flat_map(Call::taken).collect();
   calls.extend(taken);
   calls
 }
@@ -459,16 +460,23 @@ fn call_differs(
   call: &Call,
   room: &[usize],
   right: Result<&Given, u32>,
+  model: Option<&Model>,
 ) -> Difference {
   let fill = |length: &usize| (0..*length as u32).map(|at| FILLER + at).collect::<Vec<u32>>();
   let mut outputs: Vec<Vec<u32>> = room.iter().map(fill).collect();
   let mut right_outputs = outputs.clone();
+  let answer = subject(lent, call, &mut outputs);
+  // The order of a worklist is free within what one taking lists.
+  let along = match (call, model) {
+    (Call::Takings(seeds), Some(model)) => right.ok().map(|_| model.takings(seeds, &outputs[0])),
+    _ => None,
+  };
+  let right = along.as_ref().map_or(right, Ok);
   if let Ok(given) = right {
     for (output, list) in right_outputs.iter_mut().zip(&given.outputs) {
       output[..list.len()].copy_from_slice(list);
     }
   }
-  let answer = subject(lent, call, &mut outputs);
   let what = || format!("{call:?}, outputs of {room:?}");
   if answer != right.map(|given| given.count) {
     return differ(&what(), &right.map(|given| given.count), &answer, "the library");

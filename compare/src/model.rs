@@ -19,6 +19,8 @@ pub enum Call {
   PlanFrom(Vec<u32>),
   /// The same by a worklist.
   Taken(Vec<u32>),
+  /// That worklist: its modules as they are listed, and how many are listed after each taking.
+  Takings(Vec<u32>),
   Whole,
   /// The tests 1 to 4 alone.
   Refusal,
@@ -73,9 +75,9 @@ pub fn first_broken(by_condition: Vec<Vec<u32>>) -> usize {
 }
 
 impl Call {
-  /// The call that plans from the same seeds by a worklist, where it is one that plans from seeds.
-  pub fn taken(&self) -> Option<Self> {
-    if let Self::PlanFrom(seeds) = self { Some(Self::Taken(seeds.clone())) } else { None }
+  /// The calls that plan from the same seeds by a worklist, where it is one that plans from seeds.
+  pub fn taken(&self) -> Vec<Self> {
+    if let Self::PlanFrom(seeds) = self { vec![Self::Taken(seeds.clone()), Self::Takings(seeds.clone())] } else { Vec::new() }
   }
 }
 
@@ -1012,6 +1014,37 @@ impl<'a> Model<'a> {
     grown
   }
 
+  // ------------------------------------------------------------ takings
+
+  /// "the eligible seeds and what a rule asks for with just the taken ones planned"
+  fn listed(&self, seeds: &[u32], taken: &[u32]) -> Set {
+    let eligible = self.eligible();
+    let mut listed = set_of(self.count(), &seeds.iter().copied().filter(|seed| eligible.contains(seed)).collect::<Vec<u32>>());
+    for asked in self.asked(&set_of(self.count(), taken)) {
+      listed.iter_mut().zip(asked).for_each(|(is, asked)| *is |= asked);
+    }
+    listed
+  }
+
+  /// A worklist in the order of `hint`, as far as 02 leaves that order free: what is listed after each taking follows the one before, and stands as `hint` has it
+  /// where that has just these modules there, else rising. With how many are listed before each taking.
+  pub fn takings(&self, seeds: &[u32], hint: &[u32]) -> Given {
+    let (mut list, mut lengths): (Vec<u32>, Vec<u32>) = (Vec::new(), Vec::new());
+    loop {
+      let held = set_of(self.count(), &list);
+      let added: Vec<u32> =
+        members(&self.listed(seeds, &list[..lengths.len()])).into_iter().filter(|&m| !held[m as usize]).collect();
+      let hinted = hint.get(list.len()..list.len() + added.len()).unwrap_or(&added).to_vec();
+      let mut rising = hinted.clone();
+      rising.sort_unstable();
+      list.extend(if rising == added { hinted } else { added });
+      if lengths.len() == list.len() {
+        return Given { count: list.len(), outputs: vec![list, lengths] };
+      }
+      lengths.push(list.len() as u32);
+    }
+  }
+
   // ------------------------------------------------------------ calls
 
   /// What an accepted call gives.
@@ -1050,6 +1083,7 @@ impl<'a> Model<'a> {
         Given { count: members(&self.sensitive).len(), outputs: vec![self.grounds.clone()] }
       }
       Call::PlanFrom(seeds) | Call::Taken(seeds) => marks(self.plan_from(seeds)),
+      Call::Takings(seeds) => self.takings(seeds, &[]),
       Call::Whole => marks(self.plan()),
       Call::Refusal => Given { count: 0, outputs: Vec::new() },
       Call::Entries(entries) => list(self.entries(entries)),

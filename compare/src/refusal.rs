@@ -166,7 +166,7 @@ fn fitting(p: &Project, call: &Call) -> bool {
     }
     Call::Reach(chunk) => (*chunk as usize) < p.chunks(),
     Call::Entries(entries) => entries.iter().all(|&entry| module(entry)),
-    Call::PlanFrom(seeds) | Call::Taken(seeds) | Call::Check(seeds, _) => {
+    Call::PlanFrom(seeds) | Call::Taken(seeds) | Call::Takings(seeds) | Call::Check(seeds, _) => {
       seeds.len() <= 16_384 && seeds.iter().all(|&seed| module(seed))
     }
   }
@@ -187,7 +187,7 @@ pub fn places(p: &Project, call: &Call) -> Vec<usize> {
       let paths = Model::of(p).circles();
       vec![paths.iter().map(Vec::len).sum(), paths.len()]
     }
-    Call::Sort | Call::Actual(_) | Call::Load(..) | Call::Circles => vec![p.modules(); 2],
+    Call::Sort | Call::Actual(_) | Call::Load(..) | Call::Takings(_) | Call::Circles => vec![p.modules(); 2],
     Call::Reach(_) | Call::Refusal | Call::Check(..) | Call::Step(..) => Vec::new(),
     Call::Labels => vec![p.chunks()],
     Call::Arrangement => vec![p[MEMBER].len()],

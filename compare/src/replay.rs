@@ -230,7 +230,7 @@ fn whole() -> Project {
 
 /// A call of each operation.
 fn each_call(p: &Project) -> Vec<Asked> {
-  one_call_each(p.modules()).into_iter().filter(|call| !matches!(call, Call::Step(..))).map(|call| roomy(p, call)).collect()
+  one_call_each(p.modules()).into_iter().filter(|call| !matches!(call, Call::Step(..) | Call::Takings(_))).map(|call| roomy(p, call)).collect()
 }
 
 /// A project with one thing wrong, refused by every operation.
@@ -453,6 +453,7 @@ fn put_call(out: &mut String, asked: &Asked, number: u32, given: Option<Given>) 
     Call::Load(root, _) => (17, *root),
     Call::Line(root, _) => (18, *root),
     Call::Step(..) => unreachable!("a step stands in the list as a part of its load"),
+    Call::Takings(_) => unreachable!("the order of a worklist is free"),
   };
   let refused = u32::from(number != 0);
   put(out, [operation, argument, refused, given.as_ref().map_or(number, |given| given.count as u32)]);
@@ -519,7 +520,7 @@ fn of_the_original(p: &Project, original: &Original, call: &Call) -> Option<Give
       let only = |order: Vec<u32>| order.into_iter().filter(|&module| sensitive[module as usize]).collect::<Vec<u32>>();
       line_of(&page(&only(original.expected(*root)), &only(entry.actual), &set_of(p.modules(), &original.plan())), *number)
     }
-    Call::Step(..) => return None,
+    Call::Step(..) | Call::Takings(_) => return None,
     // As a set: `same_circles`.
     Call::Circles => return None,
   })

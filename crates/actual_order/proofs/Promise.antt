@@ -15,10 +15,10 @@ use Rattle.tables.specs.declared.Answer.the-variants.{Refused, Counted}
 use Rattle.tables.proofs.Answering.{verdict-project, verdict-unfit, verdict-short, verdict-none, after-refused, after-accepted}
 use Rattle.table.specs.Table.{Lent}
 use Rattle.table.proofs.Laws.{answer-refused, answer-accepted}
-use Rattle.actual_order.specs.Actual.{runOf, actualOf, hostsOf}
-use Rattle.actual_order.specs.inner.Cores.{Listed}
+use Rattle.entry_run.specs.Actual.{runOf, actualOf, hostsOf}
+use Rattle.entry_run.specs.inner.Cores.{Listed}
 use Rattle.actual_order.specs.Promise.{actualVerdict, ActualOrder}
-use Rattle.actual_order.proofs.OfProject.{hosts-length}
+use Rattle.entry_run.proofs.OfProject.{hosts-length}
 
 module _ (t : Lent) (root : ℕ) (order hosts : List ℕ) where
   abbrev p : Project

@@ -1,4 +1,2 @@
--- The actual order of an entry, and its hosts.
-pub mod Actual
+-- What the operation promises.
 pub mod Promise
-pub mod inner

@@ -10,7 +10,7 @@ use Rattle.tables.specs.Readings.{modules, isAnalysed}
 use Rattle.tables.specs.Answers.{verdict, after}
 use Rattle.tables.specs.declared.Answer.{Answer}
 use Rattle.table.specs.Table.{Lent, answer}
-use Rattle.actual_order.specs.Actual.{actualOf, hostsOf}
+use Rattle.entry_run.specs.Actual.{actualOf, hostsOf}
 
 -- the number of a call: 5 for a root that is no analysed entry, 6 for an output shorter than the module count
 abbrev pub actualVerdict : Lent → ℕ → ℕ → ℕ → ℕ

@@ -2,8 +2,8 @@
 ghost use Rattle.arrangement.specs.OfProject.{lentNamed, lentNamedWith};
 ghost use Rattle.actual_order.specs.Promise.{ActualOrder};
 use analysed_entries::core::find_entry;
-use core::arrange_and_list;
 use current_columns::core::read_current;
+use entry_run::core::arrange_and_list;
 use refusal::refusal_number;
 use table::DEPENDENCY;
 use table::MEMBER;
@@ -16,8 +16,6 @@ use table::column;
 use table::rows;
 use tables::Answer;
 use tables::ModuleIdx;
-
-pub mod core;
 
 // The actual order of an analysed entry, written to `order` from place 0, and its hosts, a place a module, of a table whose import records are lent
 // beside it. The count is that of the listed modules.

@@ -4,7 +4,7 @@ use Prim.Native.Nat.{ℕ}
 use Rattle.tables.specs.Project.{Project}
 use Rattle.tables.specs.Readings.{isAnalysed, entryChunkOf}
 use Rattle.table.specs.Table.{read, current}
-use Rattle.analysed_entries.specs.inner.Entries.{Entry, Found}
+use Rattle.analysed_entries.specs.inner.Entries.{Found}
 
 pub found-read : (p : Project) (root chunk : ℕ) → Found p root chunk → Found (current p) root chunk
 unfolding current read isAnalysed entryChunkOf

@@ -4,7 +4,7 @@ use mathlib.Core.Path.{_≡_, refl, sym, ap, subst, _∙_}
 use mathlib.Core.Logic.{⊎-elim}
 use mathlib.Core.Bool.{Bool, true, false, cond, not, _&&_}
 use mathlib.Core.List.{List, [], _∷_, _++_, map, List·Memᴰ, List·Memᴰ·head, List·Memᴰ·tail}
-use Prim.Native.Nat.{ℕ, zero, suc, _+_, _-_, _≤_, _<_}
+use Prim.Native.Nat.{ℕ, suc, _+_, _-_, _≤_, _<_}
 use native.Mathlib.Omega.{arith}
 use native.Mathlib.Decide.{decLt}
 use lib.ListN.{length, getD, List·getD-eq-default}
@@ -12,13 +12,15 @@ use lib.Dec.{eqb}
 use borrow.Author.Tests.{eqb-true, eqb-false, eq-eqb, ne-eqb}
 use Rattle.lists.specs.Words.{countFrom, keep, any, Distinct}
 use Rattle.lists.proofs.Laws.{both, countFrom-append, mem-countFrom, keep-append, keep-none}
+use Rattle.lists.proofs.Distinct.{distinct-places}
+use Rattle.lists.proofs.Tests.{cond-id}
 use Rattle.tables.specs.Project.{Project, missing}
 use Rattle.tables.specs.Readings.{chunks, flagged, rowsOf, valuesOf, firstOf, analysedRow, isAnalysed, entryChunkOf}
 use Rattle.tables.specs.Accepted.{Accepted, BelowOrMissing}
-use Rattle.tables.proofs.Accepted.{getD-mem}
-use Rattle.analysed_entries.specs.inner.Entries.{analysedChunk, Entry, Found}
+use Rattle.tables.proofs.OwnerRows.{mem-rows, rows-none, values-row}
+use Rattle.analysed_entries.specs.inner.Entries.{analysedChunk, Found}
 use Rattle.load_order.proofs.LoadOrders.{Pairs}
-use Rattle.load_order.proofs.Arranging.{mem-rows, rows-none, rows-rise, mem-values}
+use Rattle.load_order.proofs.Arranging.{rows-rise}
 
 -- the first row of an owner
 
@@ -87,28 +89,17 @@ module _ (included entry entryChunk : List ℕ) (root : ℕ) where
           go : (xs : List ℕ) → ((x : ℕ) → List·Memᴰ x xs → List·Memᴰ x (valuesOf entry entryChunk root)) → (firstOf xs ≡ missing → ⊥) → firstOf xs < k
           go [] f y = absurd (y refl)
           go (x ∷ xs) f y =
-              let a = mem-values entry entryChunk root (f x (List·Memᴰ·head refl)) in
-              ⊎-elim (λ h. subst (λ (w : ℕ). w < k) (sym (a .3)) h) (λ h. absurd (y (a .3 ∙ h))) (b (a .0) (omega (arith, l, a .1)))
+              let a = values-row entry entryChunk root x (f x (List·Memᴰ·head refl)) in
+              ⊎-elim (λ h. subst (λ (w : ℕ). w < k) (a .3) h) (λ h. absurd (y (sym (a .3) ∙ h))) (b (a .0) (omega (arith, l, a .1)))
 
 -- where no entry stands twice, a root is an analysed entry if its entry chunk is found
-
-pub distinct-rows : (xs : List ℕ) → Distinct xs → (i j : ℕ) → i < j → j < length xs → getD xs i 0 ≡ getD xs j 0 → ⊥
-unfolding Distinct
-distinct-rows [] d i j l h e = omega arith
-distinct-rows (x ∷ xs) d i zero l h e = omega arith
-distinct-rows (x ∷ xs) d zero (suc j) l h e = d .0 (subst (λ (y : ℕ). List·Memᴰ y xs) (sym e) (getD-mem xs j (omega arith)))
-distinct-rows (x ∷ xs) d (suc i) (suc j) l h e = distinct-rows xs (d .1) i j (omega arith) (omega arith) e
-
-itself : (b : Bool) → cond b true false ≡ b
-itself true = refl
-itself false = refl
 
 missing-found : false ≡ not (eqb missing missing)
 missing-found = ap not (sym (eq-eqb missing missing refl))
 
 -- a row's test and its chunk
 one-row : (b : Bool) (c : ℕ) → cond (b && not (eqb c missing)) true false ≡ not (eqb (cond b c missing) missing)
-one-row true c = itself (not (eqb c missing))
+one-row true c = cond-id (not (eqb c missing))
 one-row false c = missing-found
 
 no-row : (b : Bool) → false ≡ not (eqb (cond b missing missing) missing)
@@ -128,7 +119,7 @@ analysed-found p root d = go (rowsOf (p .entry) root) (rows-rise (p .entry) root
     go (row ∷ next ∷ rows) q f =
         let a = f row (List·Memᴰ·head refl) in
         let b = f next (List·Memᴰ·tail (List·Memᴰ·head refl)) in
-        absurd (distinct-rows (p .entry) d row next (q .0 next (List·Memᴰ·head refl)) (b .0) (a .1 ∙ sym (b .1)))
+        absurd (distinct-places (p .entry) d row next (q .0 next (List·Memᴰ·head refl)) (b .0) (a .1 ∙ sym (b .1)))
 
 -- entries of an accepted project
 
@@ -145,12 +136,3 @@ module _ (p : Project) (a : Accepted p) where
               record { within = omega (arith, c .row, a .sizes .included); from = sym (c .first); inside = c .inside (chunks p) (a .sizes .entryChunk) (a .values .entryChunk) },
             );
       }
-
-  -- an entry row that has a chunk
-  pub row-entry : (row : ℕ) → row < length (p .entry) → (getD (p .entryChunk) row 0 ≡ missing → ⊥) → Entry p (getD (p .entry) row 0) (getD (p .entryChunk) row 0)
-  unfolding entryChunkOf
-  row-entry row l n = record {
-    within = a .values .entry row l;
-    from = sym (first-found (p .entry) (p .entryChunk) (getD (p .entry) row 0) row l (λ k i e. distinct-rows (p .entry) (a .agrees .entry) k row i l e) refl);
-    inside = ⊎-elim (λ h. h) (λ e. absurd (n e)) (a .values .entryChunk row (omega (arith, a .sizes .entryChunk)));
-  }

@@ -1,16 +1,14 @@
 -- The members sorted in place, chunk by chunk.
 -- Assumes nothing.
 use mathlib.Core.Path.{_≡_, refl, sym, ap, subst, _∙_}
-use mathlib.Core.Bool.{Bool}
-use mathlib.Core.List.{List, [], _∷_, _++_, flatMap, append-assoc, List·Memᴰ, Memᴰ·append-left, Memᴰ·append-right}
-use Prim.Native.Nat.{ℕ, _+_, _-_, _≤_, _<_}
+use mathlib.Core.List.{List, _++_, flatMap, append-assoc, List·Memᴰ, Memᴰ·append-left, Memᴰ·append-right}
+use Prim.Native.Nat.{ℕ, _+_, _-_, _≤_}
 use native.Mathlib.Omega.{arith}
 use lib.ListN.{length, take, drop, length-append, length-drop, take-append-drop}
 use lib.Seq.{take-all, take-at, drop-drop, length-take-le}
 use borrow.Rule.Slice.PartMut.{midOf, postOf, putMid, same-len-mid, drop-put}
 use Rattle.lists.specs.Words.{upTo}
-use Rattle.tables.specs.Lookups.{Rising, FirstRow}
-use Rattle.tables.specs.Accepted.{Below}
+use Rattle.tables.specs.Lookups.{FirstRow}
 use Rattle.tables.specs.Readings.{valuesOf}
 use Rattle.tables.proofs.Rows.{run-ordered, values-part}
 use Rattle.merge_sort.specs.Sort.{ahead, sortWith}

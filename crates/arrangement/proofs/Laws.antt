@@ -1,17 +1,18 @@
 -- The laws of an arrangement: each chunk has the same modules as often as before, in the order of their keys, at its member rows.
 -- Assumes nothing.
-use mathlib.Core.Path.{_≡_, refl, sym, ap, subst, _∙_}
-use mathlib.Core.List.{List, [], _∷_, _++_, flatMap, List·Memᴰ}
-use mathlib.Core.Bool.{true, false}
-use Prim.Native.Nat.{ℕ, _≤_, _<_}
+use mathlib.Core.Path.{_≡_, sym, ap, subst, _∙_}
+use mathlib.Core.List.{List, List·Memᴰ}
+use Prim.Native.Nat.{ℕ, _<_}
 use native.Mathlib.Omega.{arith}
 use lib.ListN.{length, getD}
 use Rattle.lists.specs.Words.{upTo}
+use Rattle.lists.proofs.Maps.{flat-cong}
 use Rattle.tables.specs.Accepted.{Below}
 use Rattle.tables.specs.Readings.{valuesOf, membersOf}
 use Rattle.tables.proofs.OwnerRows.{row-values}
-use Rattle.load_order.proofs.Arranging.{below-mem, values-below}
-use Rattle.merge_sort.specs.Sort.{ahead, sortWith}
+use Rattle.tables.proofs.Accepted.{below-mem}
+use Rattle.load_order.proofs.Arranging.{values-below}
+use Rattle.merge_sort.specs.Sort.{ahead}
 use Rattle.merge_sort.proofs.Ahead.{ahead-asym, ahead-trans}
 use Rattle.merge_sort.proofs.Sorting.{times, same-mem, sort-times, InOrder, sort-order, sort-cong}
 use Rattle.merge_sort.proofs.Halves.{sort-length}
@@ -52,17 +53,12 @@ module _ (key : ℕ → List ℕ) (memberChunk member : List ℕ) (chunks : ℕ)
 
 -- keys that agree on the modules arrange alike
 
-flat-cong : (f g : ℕ → List ℕ) (xs : List ℕ) → ((c : ℕ) → f c ≡ g c) → flatMap f xs ≡ flatMap g xs
-unfolding flatMap
-flat-cong f g [] h = refl
-flat-cong f g (x ∷ xs) h = ap (λ (l : List ℕ). l ++ flatMap f xs) (h x) ∙ ap (λ (l : List ℕ). g x ++ l) (flat-cong f g xs h)
-
 pub arranged-same : (key key′ : ℕ → List ℕ) (chunks n : ℕ) (memberChunk member : List ℕ) → ((m : ℕ) → m < n → key m ≡ key′ m) → length member ≡ length memberChunk → Below n member
     → arranged key chunks memberChunk member ≡ arranged key′ chunks memberChunk member
 unfolding arranged ahead
 arranged-same key key′ chunks n memberChunk member h e b =
     flat-cong (sortedMembers key memberChunk member) (sortedMembers key′ memberChunk member) (upTo chunks)
-    (λ c. sort-cong (ahead key) (ahead key′) (valuesOf memberChunk member c) (λ x y p q. rw (h x (inside c x p), h y (inside c y q))))
+    (λ c m. sort-cong (ahead key) (ahead key′) (valuesOf memberChunk member c) (λ x y p q. rw (h x (inside c x p), h y (inside c y q))))
   where
     inside : (c x : ℕ) → List·Memᴰ x (valuesOf memberChunk member c) → x < n
     inside c x p = below-mem (valuesOf memberChunk member c) (values-below n memberChunk member c e b) p

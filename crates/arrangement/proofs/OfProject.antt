@@ -1,10 +1,10 @@
 -- The arrangement of an accepted project's members.
 -- Assumes nothing.
-use mathlib.Core.Path.{_≡_, refl, sym, ap, subst, _∙_}
-use mathlib.Core.Logic.{_⊎_, ⊎-elim}
-use mathlib.Core.Bool.{Bool, true, false, cond, _||_, false≢true}
+use mathlib.Core.Path.{_≡_, refl, sym, ap, _∙_}
+use mathlib.Core.Logic.{⊎-elim}
+use mathlib.Core.Bool.{true, cond, _||_}
 use mathlib.Core.List.{List, [], _++_, append-nil}
-use Prim.Native.Nat.{ℕ, zero, suc, _≤_, _<_}
+use Prim.Native.Nat.{ℕ, zero, suc, _≤_}
 use native.Mathlib.Omega.{arith}
 use lib.ListN.{length, take, drop, replicate, length-replicate, length-append, drop-of-length-le}
 use lib.Seq.{length-take-le, take-at}
@@ -14,7 +14,7 @@ use Rattle.tables.specs.Project.{Project}
 use Rattle.tables.specs.Readings.{modules, chunks, isAnalysed}
 use Rattle.tables.specs.Refusal.{rowLimit}
 use Rattle.tables.specs.Accepted.{Accepted}
-use Rattle.table.specs.Table.{columnAt, table, read, withRecords, current, lentAs, lent, lentWith}
+use Rattle.table.specs.Table.{columnAt, read, current, lentAs}
 use Rattle.table.specs.Places.{Places}
 use Rattle.table.proofs.Laws.{read-own, lent-cut, lent-current, lent-names}
 use Rattle.table.proofs.Reading.{Replacing, accepted-read}

@@ -1,9 +1,9 @@
 -- A column made of a part for each owner, by rising owner.
 -- Assumes nothing.
 use mathlib.Core.Path.{_≡_, refl, sym, ap, subst, _∙_}
-use mathlib.Core.List.{List, [], _∷_, _++_, flatMap, append-assoc, append-nil}
-use Prim.Native.Nat.{ℕ, zero, suc, _+_, _-_, _≤_, _<_}
-use native.Mathlib.Nat.{zero-add, add-zero}
+use mathlib.Core.List.{List, [], _∷_, _++_, flatMap, append-assoc}
+use Prim.Native.Nat.{ℕ, zero, suc, _+_, _-_, _<_}
+use native.Mathlib.Nat.{zero-add}
 use native.Mathlib.Numerals.{add-one}
 use native.Mathlib.Omega.{arith}
 use native.Mathlib.Decide.{decLt}
@@ -11,19 +11,11 @@ use lib.ListN.{length, getD, take, drop, length-append, length-drop}
 use lib.Seq.{take-at, drop-at, length-take-le}
 use Rattle.lists.specs.Words.{upTo, countFrom}
 use Rattle.lists.proofs.Laws.{countFrom-append}
+use Rattle.lists.proofs.Maps.{flat-append, flat-one}
 use Rattle.tables.specs.Lookups.{Rising, FirstRow}
 use Rattle.tables.specs.Accepted.{Below}
 use Rattle.tables.specs.Readings.{valuesOf}
 use Rattle.tables.proofs.Rows.{run-ordered, values-part}
-
-flat-append : (f : ℕ → List ℕ) (xs ys : List ℕ) → flatMap f (xs ++ ys) ≡ flatMap f xs ++ flatMap f ys
-unfolding flatMap
-flat-append f [] ys = refl
-flat-append f (x ∷ xs) ys = ap (λ (l : List ℕ). f x ++ l) (flat-append f xs ys) ∙ sym (append-assoc (f x) (flatMap f xs) (flatMap f ys))
-
-flat-one : (f : ℕ → List ℕ) (x : ℕ) → flatMap f (x ∷ []) ≡ f x
-unfolding flatMap
-flat-one f x = append-nil (f x)
 
 -- one owner more
 pub flat-more : (f : ℕ → List ℕ) (c : ℕ) → flatMap f (upTo (c + 1)) ≡ flatMap f (upTo c) ++ f c

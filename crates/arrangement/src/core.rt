@@ -1,17 +1,15 @@
 // For crates above, on tested tables and names.
 ghost use mathlib.Core.Path.{_≡_};
 ghost use mathlib.Core.Bool.{true};
-ghost use Prim.Native.Nat.{ℕ, _≤_};
+ghost use Prim.Native.Nat.{_≤_};
 ghost use lib.ListN.{length};
 ghost use Rattle.tables.specs.Project.{Project};
 ghost use Rattle.tables.specs.Readings.{modules};
-ghost use Rattle.tables.specs.Accepted.{Below};
 ghost use Rattle.table.specs.Table.{table, read};
 ghost use Rattle.table.specs.Places.{Places};
 ghost use Rattle.names.specs.Names.{namesIn, namesFit};
 ghost use Rattle.merge_sort.specs.inner.Held.{heldKey, Held};
 ghost use Rattle.module_keys.specs.Keys.{keyOf};
-ghost use Rattle.module_keys.specs.inner.Filling.{Modules};
 ghost use Rattle.sort_modules.specs.OfProject.{numbersOf};
 ghost use Rattle.arrangement.specs.Arrangement.{arranged};
 ghost use Rattle.arrangement.specs.OfProject.{arrangedOf, membersRead};

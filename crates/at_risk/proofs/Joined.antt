@@ -13,7 +13,7 @@ use Rattle.tables.specs.Readings.{modules}
 use Rattle.risk_of_orders.specs.Risk.{riskOf}
 use Rattle.risk_of_orders.specs.inner.Steps.{join}
 use Rattle.risk_of_orders.proofs.Joins.{join-cong, join-join, join-zero}
-use Rattle.at_risk.specs.Entry.{inOrderRisk, inCycleRisk, orderRiskOfEntry, cycleRiskOfEntry, riskOfEntry}
+use Rattle.at_risk.specs.Promise.{inOrderRisk, inCycleRisk, orderRiskOfEntry, cycleRiskOfEntry, riskOfEntry}
 
 module _ (p : Project) (root : ℕ) where
   abbrev joined : ℕ → Bool

@@ -7,16 +7,16 @@ use native.Mathlib.Omega.{arith}
 use lib.ListN.{length, getD, take, drop, replicate, length-append}
 use lib.Seq.{take-at}
 use Rattle.lists.specs.Words.{Distinct}
+use Rattle.lists.proofs.Members.{getD-mem}
 use Rattle.tables.specs.Project.{Project}
 use Rattle.tables.specs.Readings.{modules}
 use Rattle.tables.specs.Refusal.{moduleLimit}
 use Rattle.tables.specs.Accepted.{Accepted}
-use Rattle.tables.proofs.Accepted.{getD-mem}
 use Rattle.expected_order.specs.OfProject.{expectedOf}
 use Rattle.expected_order.specs.Visit.{Listed}
 use Rattle.expected_order.proofs.Laws.{expected-distinct, expected-length, expected-in}
-use Rattle.actual_order.specs.Actual.{actualOf}
-use Rattle.actual_order.proofs.OfProject.{actual-distinct, actual-length, actual-member}
+use Rattle.entry_run.specs.Actual.{actualOf}
+use Rattle.entry_run.proofs.OfProject.{actual-distinct, actual-length, actual-member}
 use Rattle.risk_of_orders.specs.inner.Steps.{Order}
 use Rattle.at_risk.specs.inner.OverTable.{Placed}
 

@@ -15,7 +15,7 @@ use Rattle.tables.specs.declared.Answer.the-variants.{Refused, Counted}
 use Rattle.tables.proofs.Answering.{verdict-project, verdict-unfit, verdict-short, verdict-none, after-refused, after-accepted}
 use Rattle.table.specs.Table.{Lent}
 use Rattle.table.proofs.Laws.{answer-refused, answer-accepted}
-use Rattle.at_risk.specs.Entry.{riskVerdict, EntryMarks}
+use Rattle.at_risk.specs.Promise.{riskVerdict, EntryMarks}
 use Rattle.at_risk.specs.inner.OverTable.{Marked}
 
 module _ (set : Project → ℕ → List ℕ) (t : Lent) (root : ℕ) (marks : List ℕ) where

@@ -1,3 +1,3 @@
 -- The risk of an entry of a project, and what the operation promises.
-pub mod Entry
+pub mod Promise
 pub mod inner

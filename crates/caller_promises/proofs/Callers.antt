@@ -14,7 +14,7 @@ use Rattle.arrangement.specs.OfProject.{lentNamed}
 use Rattle.arrangement.proofs.OfProject.{lent-named}
 use Rattle.record_columns.specs.declared.Record.{Record}
 use Rattle.record_columns.specs.Rows.{importerColumn, kindColumn, targetColumn}
-use Rattle.jolmuqter.specs.Exported.{coded}
+use Rattle.answer_codes.specs.Exported.{coded}
 use Rattle.caller_promises.specs.Ways.{fromC, lentRecords, lentNamedRecords, withRecordSlices}
 use Rattle.caller_promises.specs.DemandThree.{DemandThreeFromC, DemandThreeOfRecordForms}
 use Rattle.caller_promises.proofs.Held.{demand-three, plan-held, whole-held}

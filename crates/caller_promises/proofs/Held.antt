@@ -16,9 +16,9 @@ use Rattle.tables.specs.declared.Answer.{Answer}
 use Rattle.table.specs.Table.{Lent, answer}
 use Rattle.seeds.specs.Seeds.{seedsFit}
 use Rattle.wrap_rules.specs.Plan.{expectedSensitiveOf}
-use Rattle.at_risk.specs.Entry.{actualSensitiveOf}
-use Rattle.wrap_plan.specs.Planned.{planOf, planVerdict, PlanFromSeeds}
-use Rattle.order_analysis.specs.Whole.{wholePlan, wholeVerdict, WholeAnalysis}
+use Rattle.at_risk.specs.Promise.{actualSensitiveOf}
+use Rattle.wrap_plan.specs.Promise.{planOf, planVerdict, PlanFromSeeds}
+use Rattle.order_analysis.specs.Promise.{wholePlan, wholeVerdict, WholeAnalysis}
 use Rattle.chunk_cycles.specs.Paths.{MoreImports}
 use Rattle.promises.specs.Statements.{PlanIsLeast, WholePlanIsLeast, MoreSeedsKeepThePlan, MoreSeedRowsKeepTheWholePlan, WholePlanKeepsTheOrder, LeastPlan, SameOrder, PlanCallLeavesThePlan, WholeCallLeavesThePlan}
 use Rattle.promises.proofs.Theorems.{planIsLeast, wholePlanIsLeast, moreSeedsKeepThePlan, moreSeedRowsKeepTheWholePlan, more-imports, wholePlanKeepsTheOrder, planCallLeavesThePlan, wholeCallLeavesThePlan}

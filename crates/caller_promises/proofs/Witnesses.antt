@@ -8,7 +8,7 @@ use Rattle.tables.specs.Project.{missing}
 use Rattle.tables.specs.declared.Answer.the-variants.{Counted}
 use Rattle.table.specs.Table.{part, columnAt, table, read, boundsFit}
 use Rattle.names.specs.Names.{linesOf, ended, namesFit, namesIn, lineEnds, namesSized}
-use Rattle.promises.proofs.Computing.{computing}
+use Rattle.marked_cases.proofs.Computing.{computing}
 use Rattle.caller_promises.specs.Witnesses.{PlansFromC, PlansWithRecords}
 
 -- the listing's columns before and after those of its records

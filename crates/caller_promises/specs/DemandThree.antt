@@ -9,8 +9,8 @@ use Rattle.lists.specs.Words.{elem, has, ones}
 use Rattle.tables.specs.Readings.{modules, isAnalysed}
 use Rattle.chunk_cycles.specs.Paths.{MoreImports}
 use Rattle.wrap_rules.specs.Plan.{expectedSensitiveOf}
-use Rattle.at_risk.specs.Entry.{actualSensitiveOf}
-use Rattle.order_analysis.specs.Whole.{seedsOf}
+use Rattle.at_risk.specs.Promise.{actualSensitiveOf}
+use Rattle.order_analysis.specs.Promise.{seedsOf}
 use Rattle.promises.specs.Changes.{withSeed, withImports}
 use Rattle.promises.specs.Statements.{LeastPlan, AllEligible, SameOrder}
 use Rattle.caller_promises.specs.Ways.{Left, marksIn, Way, fromC, withRecordSlices}

@@ -11,12 +11,12 @@ use Rattle.tables.specs.Answers.{numberOf, countOf}
 use Rattle.tables.specs.declared.Answer.{Answer}
 use Rattle.table.specs.Table.{Lent, lent, lentWith}
 use Rattle.arrangement.specs.OfProject.{namedLent, lentNamed}
-use Rattle.wrap_plan.specs.Planned.{PlanFromSeeds}
-use Rattle.order_analysis.specs.Whole.{WholeAnalysis}
+use Rattle.wrap_plan.specs.Promise.{PlanFromSeeds}
+use Rattle.order_analysis.specs.Promise.{WholeAnalysis}
 use Rattle.record_columns.specs.declared.Record.{Record}
 use Rattle.record_columns.specs.Rows.{importerColumn, kindColumn, targetColumn}
-use Rattle.jolmuqter.specs.Calls.{Plan, Whole}
-use Rattle.jolmuqter.specs.Exported.{Exported}
+use Rattle.answer_codes.specs.Calls.{Plan, Whole}
+use Rattle.answer_codes.specs.Exported.{Exported}
 
 -- what an accepted call that makes a plan was lent and leaves: its project, the slice before and after, and the count
 pub record Left : Type 0 where

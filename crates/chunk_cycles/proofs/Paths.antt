@@ -15,7 +15,7 @@ use Rattle.lists.proofs.Laws.{both, not-true, and-parts, and-join, length-count
 use Rattle.walk.specs.Reach.{Reach, here, step, Reach⁺}
 use Rattle.tables.specs.Project.{Project, missing}
 use Rattle.tables.specs.Readings.{chunks}
-use Rattle.strong_connection.specs.Cycles.{reached, connected, cyclic, label, labels}
+use Rattle.strong_connection.specs.Cycles.{reachedFrom, connected, cyclic, label, labels}
 use Rattle.chunk_cycles.specs.Cycles.{importedBy, labelsOf, labelAt, reachesCycleOf}
 use Rattle.chunk_cycles.specs.Paths.{Edge, Path*, stay, go, Path⁺, Connected, Cyclic, Lowest, MoreImports}
 use Rattle.chunk_cycles.specs.inner.OverTable.{ImportsFit}
@@ -65,7 +65,7 @@ module _ (p : Project) where
 
 module _ (p : Project) (fit : ImportsFit p) where
   -- the chunks that c reaches are those that a path of zero or more import rows leads to
-  pub reached-paths : (c d : ℕ) → c < chunks p → (elem d (reached (chunks p) (importedBy p) c) ≡ true) ↔ Path* p c d
+  pub reached-paths : (c d : ℕ) → c < chunks p → (elem d (reachedFrom (chunks p) (importedBy p) c) ≡ true) ↔ Path* p c d
   reached-paths c d l = (
     λ e. reach-path p (reached-reach (chunks p) (importedBy p) (graph-inside fit) c d l e),
     λ q. reach-reached (chunks p) (importedBy p) (graph-inside fit) c d l (path-reach p q),
@@ -147,17 +147,7 @@ module _ (p q : Project) (more : MoreImports p q) where
   unfolding Cyclic MoreImports
   cyclic-grows c r = ⊎-elim (λ h. inl (h .0, h .1, connected-grows c (h .0) (h .2))) (λ e. inr (more c c e)) r
 
-  circle-grows : (c : ℕ) → Path⁺ p c c → Path⁺ q c c
-  unfolding Path⁺ MoreImports
-  circle-grows c r = (r .0, more c (r .0) (r .1), path-grows (r .2))
-
   module _ (fit : ImportsFit p) (fit′ : ImportsFit q) (same : chunks p ≡ chunks q) where
-    -- a chunk that reaches a cyclic one still does
-    pub reach-grows : (c : ℕ) → c < chunks p → reachesCycleOf p c ≡ true → reachesCycleOf q c ≡ true
-    reach-grows c l e =
-        let r = reach-paths p fit c l .0 e in
-        reach-paths q fit′ c (rw same at l) .1 (r .0, path-grows (r .1), circle-grows (r .0) (r .2))
-
     -- chunks of one cyclic component, by their labels, still are
     pub component-grows : (c d : ℕ) → (eqb (labelAt p c) (labelAt p d) && not (eqb (labelAt p c) missing)) ≡ true → (eqb (labelAt q c) (labelAt q d) && not (eqb (labelAt q c) missing)) ≡ true
     component-grows c d e =

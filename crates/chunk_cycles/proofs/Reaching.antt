@@ -13,7 +13,7 @@ use Rattle.walk.specs.Walk.{everywhere}
 use Rattle.walk.proofs.Orders.{order-met}
 use Rattle.tables.specs.Project.{missing}
 use Rattle.tables.specs.Readings.{valuesOf}
-use Rattle.strong_connection.specs.Cycles.{reached, cyclic, label, labels, reachesCycle}
+use Rattle.strong_connection.specs.Cycles.{reachedFrom, cyclic, label, labels, reachesCycle}
 use Rattle.strong_connection.specs.inner.Graph.{Graph}
 use Rattle.strong_connection.specs.inner.Marking.{reachMarks}
 use Rattle.strong_connection.proofs.Rows.{graph-inside}
@@ -29,8 +29,8 @@ module _ (from to : List ℕ) (n : ℕ) (g : Graph from to n) where
   limit : n ≤ missing
   limit = omega (arith, g .few)
 
-  reached-in : (c d : ℕ) → List·Memᴰ d (reached n succ c) → d < n
-  unfolding reached
+  reached-in : (c d : ℕ) → List·Memᴰ d (reachedFrom n succ c) → d < n
+  unfolding reachedFrom
   reached-in c d h = order-met succ everywhere n (c ∷ []) d h .0
 
   -- a reached chunk has a label exactly if a reached chunk is cyclic
@@ -41,17 +41,17 @@ module _ (from to : List ℕ) (n : ℕ) (g : Graph from to n) where
       let test : ℕ → Bool = labelledAt (reachMarks n s c) (labels n s) in
       let at : (d : ℕ) → d < n → labelled (getD (labels n s) d missing) ≡ cyclic n s d =
       λ d k. ap labelled (getD-map-upTo (label n s) n d missing k) ∙ label-test n s (graph-inside g) limit d k in
-      let in-reach : (d : ℕ) → d < n → has (reachMarks n s c) d ≡ elem d (reached n s c) = λ d k. has-marksOf (λ (x : ℕ). elem x (reached n s c)) n d k in
-      iff-eq (any test (upTo n)) (any (cyclic n s) (reached n s c))
+      let in-reach : (d : ℕ) → d < n → has (reachMarks n s c) d ≡ elem d (reachedFrom n s c) = λ d k. has-marksOf (λ (x : ℕ). elem x (reachedFrom n s c)) n d k in
+      iff-eq (any test (upTo n)) (any (cyclic n s) (reachedFrom n s c))
       (λ e.
       let r = any-mem test (upTo n) e in
       let k = mem-upTo (r .1) in
       let b = and-parts (has (reachMarks n s c) (r .0)) (labelled (getD (labels n s) (r .0) missing)) (r .2) in
-      mem-any (cyclic n s) (reached n s c) (elem-mem (r .0) (reached n s c) (sym (in-reach (r .0) k) ∙ b .0)) (sym (at (r .0) k) ∙ b .1))
+      mem-any (cyclic n s) (reachedFrom n s c) (elem-mem (r .0) (reachedFrom n s c) (sym (in-reach (r .0) k) ∙ b .0)) (sym (at (r .0) k) ∙ b .1))
       (λ e.
-      let r = any-mem (cyclic n s) (reached n s c) e in
+      let r = any-mem (cyclic n s) (reachedFrom n s c) e in
       let k = reached-in c (r .0) (r .1) in
-      mem-any test (upTo n) (upTo-mem k) (and-join (has (reachMarks n s c) (r .0)) (labelled (getD (labels n s) (r .0) missing)) (in-reach (r .0) k ∙ mem-elem (r .0) (reached n s c) (r .1)) (at (r .0) k ∙ r .2)))
+      mem-any test (upTo n) (upTo-mem k) (and-join (has (reachMarks n s c) (r .0)) (labelled (getD (labels n s) (r .0) missing)) (in-reach (r .0) k ∙ mem-elem (r .0) (reachedFrom n s c) (r .1)) (at (r .0) k ∙ r .2)))
 
   -- where no chunk has a label, no cyclic one is reached
   pub reach-none : (c : ℕ) → length (keep labelled (labels n succ)) ≡ 0 → false ≡ reachesCycle n succ c
@@ -59,9 +59,9 @@ module _ (from to : List ℕ) (n : ℕ) (g : Graph from to n) where
   reach-none c e =
       let s : ℕ → List ℕ = succ in
       ⊎-elim
-      (λ h. let r = any-mem (cyclic n s) (reached n s c) h in absurd (none (keep (cyclic n s) (upTo n)) (sym (count-cyclic from to n g) ∙ e) (keep-mem (cyclic n s) (upTo n) (upTo-mem (reached-in c (r .0) (r .1))) (r .2))))
+      (λ h. let r = any-mem (cyclic n s) (reachedFrom n s c) h in absurd (none (keep (cyclic n s) (upTo n)) (sym (count-cyclic from to n g) ∙ e) (keep-mem (cyclic n s) (upTo n) (upTo-mem (reached-in c (r .0) (r .1))) (r .2))))
       (λ h. sym h)
-      (both (any (cyclic n s) (reached n s c)))
+      (both (any (cyclic n s) (reachedFrom n s c)))
     where
       none : (xs : List ℕ) {x : ℕ} → length xs ≡ 0 → List·Memᴰ x xs → ⊥
       none [] e h = List·Memᴰ·not-nil h

@@ -1,20 +1,21 @@
 -- The rows lead to the sort's targets, each once.
 -- Assumes nothing.
 use mathlib.Core.Path.{_≡_, refl, sym, ap, subst, _∙_, fun-ext}
-use mathlib.Core.Logic.{_⊎_, ⊎-elim}
+use mathlib.Core.Logic.{⊎-elim}
 use mathlib.Core.Bool.{Bool, true, false, cond, true≢false}
-use mathlib.Core.List.{List, [], _∷_, flatMap, List·Memᴰ, List·Memᴰ·head, List·Memᴰ·tail, List·Memᴰ·cases-cons, List·Memᴰ·not-nil, List·Memᴰ·eq-of-singleton}
-use Prim.Native.Nat.{ℕ, zero, suc, _+_, _-_, _<_, _≤_}
+use mathlib.Core.List.{List, [], _∷_, flatMap, List·Memᴰ, List·Memᴰ·head, List·Memᴰ·cases-cons, List·Memᴰ·not-nil, List·Memᴰ·eq-of-singleton}
+use Prim.Native.Nat.{ℕ, _+_, _-_, _<_, _≤_}
 use native.Mathlib.Decide.{decLt}
 use native.Mathlib.Omega.{arith}
 use lib.ListN.{length, getD, List·getD-eq-default}
 use lib.Dec.{eqb}
 use borrow.Author.Tests.{ne-eqb, eqb-false}
-use Rattle.lists.specs.Words.{elem, keep, countFrom, upTo, Distinct}
-use Rattle.lists.proofs.Laws.{both, mem-elem, elem-mem, keep-none, mem-upTo, mem-countFrom}
+use Rattle.lists.specs.Words.{elem, countFrom, upTo, Distinct}
+use Rattle.lists.proofs.Laws.{both, mem-elem, keep-none, mem-upTo, mem-countFrom}
+use Rattle.lists.proofs.Members.{mem-flat}
 use Rattle.tables.specs.Project.{missing}
-use Rattle.tables.specs.Lookups.{FirstRows, FirstRow}
-use Rattle.tables.specs.Accepted.{Below, BelowOrMissing}
+use Rattle.tables.specs.Lookups.{FirstRows}
+use Rattle.tables.specs.Accepted.{Below}
 use Rattle.tables.specs.Readings.{rowsOf}
 use Rattle.tables.specs.Refusal as refusal
 use Rattle.tables.proofs.Rows.{rows-of-run, run-ordered}
@@ -22,7 +23,6 @@ use Rattle.sort_steps.proofs.Rows.{unless-missing, unless-one}
 use Rattle.sort_steps.specs.Steps.{unlessMissing}
 use Rattle.circle_search.specs.inner.Search.{onceAfter, once}
 use Rattle.circle_rows.specs.Rows.{ledRow, LedOnce}
-use Rattle.circle_rows.proofs.Rows.{flat-mem}
 use Rattle.circle_visit.specs.Visit.{ledBy, Leads}
 
 -- what stands once stands in the list, and not in what was seen
@@ -59,7 +59,7 @@ module _ {starts led : List ℕ} {n : ℕ} (leads : Leads starts led n) where
   pub led-inside : (m y : ℕ) → List·Memᴰ y (ledBy starts led m) → y < n
   unfolding ledBy
   led-inside m y h =
-      let a = flat-mem (ledRow led) y (countFrom (getD starts m 0) (getD starts (m + 1) 0 - getD starts m 0)) h in
+      let a = mem-flat (ledRow led) (countFrom (getD starts m 0) (getD starts (m + 1) 0 - getD starts m 0)) h in
       let r = mem-countFrom (getD starts m 0) (getD starts (m + 1) 0 - getD starts m 0) (a .1) in
       let q = led-one (getD led (a .0) 0) y (a .2) in
       ⊎-elim (λ c. omega (arith, c, q .0)) (λ c. absurd (q .1 c)) (leads .within (a .0) (below (a .0) (r .0) (r .1)))

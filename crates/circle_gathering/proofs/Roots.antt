@@ -1,30 +1,18 @@
 -- Meeting the roots in turn: there is room at each of them.
 -- Assumes nothing.
-use mathlib.Core.Path.{_≡_, refl, sym, ap, subst, _∙_}
-use mathlib.Core.Logic.{⊎-elim}
-use mathlib.Core.List.{List, [], _∷_, _++_, flatMap, List·Memᴰ, List·Memᴰ·not-nil, List·Memᴰ·cases-cons}
-use Prim.Native.Nat.{ℕ, zero, suc, _+_, _-_, _*_, _<_, _≤_}
-use native.Mathlib.Nat.{not-suc-le-zero}
+use mathlib.Core.Path.{_≡_, refl, sym, ap, _∙_}
+use mathlib.Core.List.{List, [], _∷_, flatMap}
+use Prim.Native.Nat.{ℕ, zero, suc, _-_, _*_, _<_, _≤_}
 use native.Mathlib.Omega.{arith}
-use lib.ListN.{length, getD, take, replicate}
-use Rattle.lists.specs.Words.{zeros, countFrom}
+use lib.ListN.{length, getD}
+use Rattle.lists.specs.Words.{countFrom}
 use Rattle.walk.proofs.Visits.{zeros-le}
 use Rattle.tables.specs.Accepted.{Below}
+use Rattle.tables.specs.Refusal.{rowLimit}
 use Rattle.circle_search.specs.inner.Search.{Held, Searches}
-use Rattle.circle_search.proofs.Searches.{Kept, met-kept, met-keeps, met-room}
-use Rattle.circle_visit.specs.Visit.{Listed, listed, write, ledBy, held, Leads, Room, rowLimit}
+use Rattle.circle_search.proofs.Searches.{met-kept, met-keeps, met-room}
+use Rattle.circle_visit.specs.Visit.{Listed, write, ledBy, held, Leads, Room}
 use Rattle.circle_visit.proofs.Turns.{targets-few}
-
--- a part of an array of zeros
-pub zeroed : (n k : ℕ) → n ≤ k → take {A = ℕ} n (replicate k 0) ≡ replicate n 0
-zeroed zero k l = refl
-zeroed (suc n) zero l = absurd (not-suc-le-zero l)
-zeroed (suc n) (suc k) l = ap (λ (z : List ℕ). 0 ∷ z) (zeroed n k (omega arith))
-
--- each root is a module
-pub roots-in : (n : ℕ) (entry : List ℕ) → Below n entry → (y : ℕ) → List·Memᴰ y entry → y < n
-roots-in n [] b y h = absurd (List·Memᴰ·not-nil h)
-roots-in n (x ∷ entry) b y h = ⊎-elim (λ q. subst (λ (v : ℕ). v < n) (sym q) (b 0 (omega arith))) (λ q. roots-in n entry (λ i l. b (suc i) (omega arith)) y q) (List·Memᴰ·cases-cons h)
 
 -- a root a row
 pub ones-length : (g : ℕ → ℕ) (i n : ℕ) → length (flatMap (λ (row : ℕ). g row ∷ []) (countFrom i n)) ≡ n
@@ -44,14 +32,6 @@ root-below n runtime entry r b (suc at) l = b at (omega arith)
 module _ {starts led : List ℕ} (states : List ℕ) (leads : Leads starts led (length states)) (stack paths lengths : List ℕ) (same : length stack ≡ length states) where
   abbrev start : Held Listed
   start = held states stack 0 paths lengths 0 0
-
-  pub root-room : Room states stack 0 0 0
-  root-room = record {
-    places = same;
-    lists = omega (arith, zeros-le states);
-    counts = omega (arith, zeros-le states, leads .few);
-    short = omega arith;
-  }
 
   module _ (stack′ : List ℕ) {states′ paths′ lengths′ xs : List ℕ} {count used : ℕ} (v : Searches (ledBy starts led) write start xs (held states′ stack′ 0 paths′ lengths′ count used)) where
     pub root-length : length states′ ≡ length states

@@ -1,17 +1,18 @@
 -- What is left of the circles in the slices.
 -- Assumes nothing.
-use mathlib.Core.Path.{_≡_, refl, sym, ap, subst, _∙_}
-use mathlib.Core.Bool.{Bool, true, false, cond, _&&_}
-use mathlib.Core.List.{List, [], _∷_, _++_, foldl, map}
-use Prim.Native.Nat.{ℕ, zero, suc, _+_, _<_, _≤_}
+use mathlib.Core.Path.{_≡_, sym, ap, _∙_}
+use mathlib.Core.Bool.{Bool, cond, _&&_}
+use mathlib.Core.List.{List, [], _∷_, _++_, foldl}
+use Prim.Native.Nat.{ℕ, suc, _+_, _<_, _≤_}
 use native.Mathlib.Nat.{add-zero, zero-add}
 use native.Mathlib.Numerals.{add-one}
 use native.Mathlib.Omega.{arith}
 use lib.ListN.{length, set, drop, length-append, length-map}
-use lib.Seq.{sets, sets-eq}
+use lib.Seq.{sets}
 use lib.Dec.{leb}
 use borrow.Author.Tests.{le-leb, lt-leb}
 use Rattle.lists.proofs.Laws.{and-join, and-out}
+use Rattle.lists.proofs.Fronts.{sets-front}
 use Rattle.tables.specs.Answers.{after}
 use Rattle.tables.specs.declared.Answer.the-variants.{Refused, Counted}
 use Rattle.table.specs.Table.{answer}
@@ -50,14 +51,11 @@ module _ (circles : List (List ℕ)) (paths lengths : List ℕ) {paths′ length
   pub used-all : used ≡ length (joined circles)
   used-all = ap (λ (a : Listed). a .used) whole ∙ zero-add (length (joined circles))
 
-  fills : (l xs : List ℕ) → length xs ≤ length l → sets l 0 xs ≡ xs ++ drop (length xs) l
-  fills l xs h = sets-eq xs l 0 (omega arith) ∙ ap (λ (k : ℕ). xs ++ drop k l) (zero-add (length xs))
-
   pub paths-all : length (joined circles) ≤ length paths → paths′ ≡ joined circles ++ drop (length (joined circles)) paths
-  paths-all h = ap (λ (a : Listed). a .paths) whole ∙ fills paths (joined circles) h
+  paths-all h = ap (λ (a : Listed). a .paths) whole ∙ sets-front paths (joined circles) h
 
   pub lengths-all : length circles ≤ length lengths → lengths′ ≡ lengthsOf circles ++ drop (length (lengthsOf circles)) lengths
-  lengths-all h = ap (λ (a : Listed). a .lengths) whole ∙ fills lengths (lengthsOf circles) (omega (arith, length-map circles length))
+  lengths-all h = ap (λ (a : Listed). a .lengths) whole ∙ sets-front lengths (lengthsOf circles) (omega (arith, length-map circles length))
 
 -- the three answers
 module _ (circles : List (List ℕ)) (paths lengths : List ℕ) where

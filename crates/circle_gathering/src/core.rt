@@ -8,7 +8,7 @@ ghost use Rattle.sort_visit.specs.Visit.{Fit};
 ghost use Rattle.sort_modules.specs.Sort.{staticsOf};
 ghost use Rattle.circle_search.specs.Circles.{circles};
 ghost use Rattle.circle_search.specs.inner.Search.{Searches};
-ghost use Rattle.circle_visit.specs.Visit.{listed, write, ledBy, held, Leads, Room};
+ghost use Rattle.circle_visit.specs.Visit.{listed, write, ledBy, held, Leads};
 ghost use Rattle.circle_gathering.specs.Gathering.{Gathered};
 ghost use Rattle.circle_gathering.specs.inner.Searching.{Searched};
 use circle_rows::core::lead_rows;

@@ -1,18 +1,19 @@
 -- What is found: each path once, and each is a ring of modules that the roots reach.
 -- Assumes nothing.
 use mathlib.Core.Path.{_≡_, refl, sym, ap, subst, _∙_}
-use mathlib.Core.Logic.{_⊎_, inl, inr, ⊎-elim}
-use mathlib.Core.Bool.{Bool, true, false, cond, _&&_, _||_, true≢false, false≢true}
-use mathlib.Core.List.{List, [], _∷_, _++_, foldl, List·Memᴰ, List·Memᴰ·head, List·Memᴰ·tail, List·Memᴰ·cases-cons, List·Memᴰ·not-nil, List·Memᴰ·append-cases, List·Memᴰ·eq-of-singleton}
+use mathlib.Core.Logic.{⊎-elim}
+use mathlib.Core.Bool.{Bool, true, false, cond, _||_, true≢false, false≢true}
+use mathlib.Core.List.{List, [], _∷_, _++_, foldl, List·Memᴰ, List·Memᴰ·head, List·Memᴰ·tail, List·Memᴰ·not-nil, List·Memᴰ·append-cases, List·Memᴰ·eq-of-singleton}
 use Prim.Native.Nat.{ℕ, zero, suc}
 use lib.Dec.{eqb}
-use borrow.Author.Tests.{eq-eqb, eqb-true}
+use borrow.Author.Tests.{eqb-true}
 use Rattle.lists.specs.Words.{elem, any, twice, Distinct}
-use Rattle.lists.proofs.Laws.{both, elem-mem, mem-elem, any-append, distinct-append}
+use Rattle.lists.proofs.Laws.{both, mem-elem, any-append, distinct-append}
 use Rattle.walk.specs.Walk.{snoc}
-use Rattle.walk.specs.Reach.{Reach, here, step, Reach⁺, ReachAny}
-use Rattle.circle_search.specs.Circles.{Search, sameList, from, pathTo, keepOnce, found, begin, number, meet, circles}
-use Rattle.circle_search.proofs.Once.{same-refl, meet-cases, Grows, meet-grows, meets-grow}
+use Rattle.walk.specs.Reach.{here, step, Reach⁺, ReachAny}
+use Rattle.walk.proofs.Orders.{reach-next}
+use Rattle.circle_search.specs.Circles.{Search, sameList, from, pathTo, keepOnce, begin, meet, circles}
+use Rattle.circle_search.proofs.Once.{same-refl, meet-cases, meet-grows}
 use Rattle.circle_search.proofs.States.{same-eq}
 use Rattle.circle_laws.specs.Rings.{Steps, Ring}
 
@@ -111,13 +112,9 @@ module _ (succ : ℕ → List ℕ) (roots : List ℕ) where
       (List·Memᴰ·append-cases paths (subst (List·Memᴰ p) (ap (λ (b : Bool). cond b paths (paths ++ (path ∷ []))) e) h)))
       (both (any (sameList path) paths))
 
-  reach-on : {r m y : ℕ} → Reach succ r m → List·Memᴰ y (succ m) → Reach succ r y
-  reach-on {r} {m} {y} (here e) h = step (subst (λ (v : ℕ). List·Memᴰ y (succ v)) e h) (here refl)
-  reach-on (step s p) h = step s (reach-on p h)
-
   any-on : {m y : ℕ} → ReachAny succ roots m → List·Memᴰ y (succ m) → ReachAny succ roots y
   unfolding ReachAny
-  any-on r h = (r .0, r .1, reach-on (r .2) h)
+  any-on r h = (r .0, r .1, reach-next succ (r .2) h)
 
   distinct-more : (l : List ℕ) (m : ℕ) → Distinct l → elem m l ≡ false → Distinct (snoc l m)
   unfolding Distinct

@@ -1,7 +1,5 @@
 -- The statements of specs/Statements, inhabited.
 -- Assumes nothing.
-use mathlib.Core.Path.{_≡_, refl}
-use Prim.Native.Nat.{ℕ}
 use Rattle.tables.specs.Readings.{modules}
 use Rattle.sort_modules.specs.Sort.{visited}
 use Rattle.import_circles.specs.OfProject.{walked, rootsOf, circlesOf}

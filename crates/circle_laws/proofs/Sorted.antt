@@ -1,25 +1,24 @@
 -- The search numbers modules as the post-order walk lists them; and where no path is found, each after all its successors.
 -- Assumes nothing.
 use mathlib.Core.Path.{_≡_, refl, sym, ap, subst, _∙_}
-use mathlib.Core.Logic.{_⊎_, inl, inr, ⊎-elim}
-use mathlib.Core.Bool.{Bool, true, false, cond, not, true≢false, false≢true}
-use mathlib.Core.List.{List, [], _∷_, _++_, foldl, List·Memᴰ, List·Memᴰ·head, List·Memᴰ·tail, List·Memᴰ·cases-cons, List·Memᴰ·not-nil, List·Memᴰ·append-cases, List·Memᴰ·eq-of-singleton, Memᴰ·append-left, Memᴰ·append-right}
-use Prim.Native.Nat.{ℕ, zero, suc, _<_, _≤_}
+use mathlib.Core.Logic.{⊎-elim}
+use mathlib.Core.Bool.{Bool, true, false, cond, not, true≢false}
+use mathlib.Core.List.{List, [], _∷_, _++_, foldl, List·Memᴰ, List·Memᴰ·head, List·Memᴰ·tail, List·Memᴰ·cases-cons, List·Memᴰ·not-nil, List·Memᴰ·append-cases, List·Memᴰ·eq-of-singleton, Memᴰ·append-left}
+use Prim.Native.Nat.{ℕ, zero, suc, _<_}
 use native.Mathlib.Nat.{not-suc-le-zero}
 use native.Mathlib.Decide.{ℕ-discrete}
 use native.Mathlib.Omega.{arith}
-use lib.ListN.{length, getD, set, replicate, length-set, length-replicate, length-append}
+use lib.ListN.{length, getD, set, length-append}
 use lib.Seq.{getD-set-other}
-use lib.Dec.{eqb}
 use Rattle.lists.specs.Words.{isZero, zeros, elem, any}
-use Rattle.lists.proofs.Laws.{both, elem-mem, mem-elem}
-use Rattle.walk.specs.Walk.{St, fresh, enter, leave, visit, walk, snoc, unmet, everywhere, postOrder}
+use Rattle.lists.proofs.Laws.{both, elem-mem}
+use Rattle.walk.specs.Walk.{St, fresh, enter, leave, visit, snoc, unmet, everywhere, postOrder}
 use Rattle.walk.specs.Reach.{Reach, here, step, Reach⁺, ReachAny}
 use Rattle.walk.proofs.Visits.{set-self, set-zeros, unmet-fresh, visit-met, visit-enters, visit-grown, walk-fuel, zeros-replicate}
 use Rattle.walk.proofs.Orders.{reach-all}
-use Rattle.circle_search.specs.Circles.{Search, sameList, front, pathTo, keepOnce, found, begin, number, meet, circles}
+use Rattle.circle_search.specs.Circles.{Search, sameList, front, pathTo, keepOnce, begin, number, meet, circles}
 use Rattle.circle_search.proofs.Searches.{front-snoc}
-use Rattle.circle_search.proofs.Once.{meet-numbered, meet-begun, meet-new, Grows, meet-grows, meets-grow, elem-last}
+use Rattle.circle_search.proofs.Once.{meet-numbered, meet-begun, meet-new, Grows, meets-grow, elem-last}
 use Rattle.circle_search.proofs.States.{other}
 
 -- m is neither begun nor numbered

@@ -2,26 +2,26 @@
 -- Assumes nothing.
 use mathlib.Core.Path.{_≡_, refl, sym, ap, subst, _∙_}
 use mathlib.Core.Logic.{_⊎_, inl, inr, ⊎-elim}
-use mathlib.Core.Bool.{Bool, true, false, cond, not, _||_, true≢false, false≢true}
-use mathlib.Core.List.{List, [], _∷_, _++_, foldl, flatMap, append-nil, append-assoc, List·Memᴰ, List·Memᴰ·head, List·Memᴰ·tail, List·Memᴰ·cases-cons, List·Memᴰ·not-nil, List·Memᴰ·append-cases, List·Memᴰ·eq-of-singleton, Memᴰ·append-left, Memᴰ·append-right}
+use mathlib.Core.Bool.{Bool, true, false, cond, not, _||_, false≢true}
+use mathlib.Core.List.{List, [], _∷_, _++_, foldl, flatMap, append-nil, List·Memᴰ, List·Memᴰ·head, List·Memᴰ·not-nil, List·Memᴰ·eq-of-singleton}
 use Prim.Native.Nat.{ℕ, zero, suc, _+_, _<_, _≤_}
 use native.Mathlib.Nat.{zero-add}
 use native.Mathlib.Decide.{ℕ-discrete}
 use native.Mathlib.Omega.{arith}
-use lib.ListN.{length, getD, set, length-set, replicate, length-replicate, getD-replicate}
+use lib.ListN.{length, getD, set, length-set, replicate, length-replicate}
 use lib.Seq.{getD-set-same, getD-set-other, set-getD}
 use lib.Dec.{eqb}
 use borrow.Author.Tests.{eq-eqb, ne-eqb, eqb-true}
-use Rattle.lists.specs.Words.{elem, any, keep, upTo, countFrom}
-use Rattle.lists.proofs.Laws.{both, iff-eq, elem-mem, mem-elem, any-append, or-left, or-right, or-parts, mem-keep, keep-mem, mem-upTo, upTo-mem, countFrom-append, keep-append, keep-cong, not-true}
+use Rattle.lists.specs.Words.{elem, keep, upTo}
+use Rattle.lists.proofs.Laws.{both, iff-eq, elem-mem, mem-elem, mem-keep, keep-mem, mem-upTo, upTo-mem, countFrom-append, keep-append, keep-cong}
+use Rattle.lists.proofs.Members.{mem-flat, flat-mem}
+use Rattle.lists.proofs.Maps.{flat-one, flat-cong, flat-append}
 use Rattle.tables.specs.Project.{missing}
 use Rattle.tables.specs.Lookups.{Rising}
-use Rattle.tables.specs.Accepted.{BelowOrMissing}
 use Rattle.tables.specs.Readings.{rowsOf}
 use Rattle.sort_steps.specs.Steps.{unlessMissing}
 use Rattle.sort_steps.proofs.Rows.{unless-missing, unless-one}
 use Rattle.circle_search.specs.inner.Search.{onceAfter, once}
-use Rattle.circle_search.proofs.Searches.{flat-append}
 use Rattle.circle_rows.specs.Rows.{ledRow, Led, LedOnce}
 
 -- a row leads to one module at most, t unless it is the mark
@@ -93,28 +93,6 @@ once-after seen (x ∷ xs) t =
 pub once-one : (xs : List ℕ) (t : ℕ) → once (xs ++ (t ∷ [])) ≡ once xs ++ cond (elem t xs) [] (t ∷ [])
 once-one xs t = once-after [] xs t
 
-pub flat-mem : (f : ℕ → List ℕ) (x : ℕ) (xs : List ℕ) → List·Memᴰ x (flatMap f xs) → (y : ℕ) × List·Memᴰ y xs × List·Memᴰ x (f y)
-unfolding flatMap
-flat-mem f x [] h = absurd (List·Memᴰ·not-nil h)
-flat-mem f x (y ∷ ys) h =
-    ⊎-elim (λ c. (y, List·Memᴰ·head refl, c)) (λ c. let r = flat-mem f x ys c in (r .0, List·Memᴰ·tail (r .1), r .2)) (List·Memᴰ·append-cases (f y) h)
-
-mem-flat : (f : ℕ → List ℕ) (x y : ℕ) (xs : List ℕ) → List·Memᴰ y xs → List·Memᴰ x (f y) → List·Memᴰ x (flatMap f xs)
-unfolding flatMap
-mem-flat f x y [] h j = absurd (List·Memᴰ·not-nil h)
-mem-flat f x y (z ∷ xs) h j =
-    ⊎-elim (λ q. Memᴰ·append-left (flatMap f xs) (subst (λ (v : ℕ). List·Memᴰ x (f v)) q j)) (λ q. Memᴰ·append-right (f z) (mem-flat f x y xs q j)) (List·Memᴰ·cases-cons h)
-
-flat-one : (f : ℕ → List ℕ) (x : ℕ) → flatMap f (x ∷ []) ≡ f x
-unfolding flatMap
-flat-one f x = append-nil (f x)
-
-flat-cong : (f g : ℕ → List ℕ) (xs : List ℕ) → ((y : ℕ) → List·Memᴰ y xs → f y ≡ g y) → flatMap f xs ≡ flatMap g xs
-unfolding flatMap
-flat-cong f g [] h = refl
-flat-cong f g (y ∷ ys) h =
-    ap (λ (l : List ℕ). l ++ flatMap f ys) (h y (List·Memᴰ·head refl)) ∙ ap (λ (l : List ℕ). g y ++ l) (flat-cong f g ys (λ z i. h z (List·Memᴰ·tail i)))
-
 module _ (recordModule : List ℕ) (targets : ℕ → List ℕ) (n : ℕ) where
   -- the rows of m before a row
   abbrev rowsBefore : ℕ → ℕ → List ℕ
@@ -167,35 +145,35 @@ module _ (recordModule : List ℕ) (targets : ℕ → List ℕ) (n : ℕ) where
         equal : by + 1 ≤ getD seen t 0 → (v : ℕ) → getD seen t 0 ≡ v → getD seen t 0 ≡ by + 1
         equal l zero q = omega (arith, l, q)
         equal l (suc v) q =
-            let h = flat-mem targets t (rowsBefore v row) (p .last v t (omega (arith, q))) in
+            let h = mem-flat targets (rowsBefore v row) (p .last v t (omega (arith, q))) in
             let k = mem-keep (λ (r : ℕ). eqb (getD recordModule r 0) v) (upTo row) (h .1) in
             omega (arith, l, q, eqb-true (getD recordModule (h .0) 0) v (k .1), rising (h .0) row (omega (arith, mem-upTo {n = row} (k .0))) inside)
 
     -- a target of the rows before the next: of those before, or of this one
     before-more : (m t : ℕ) → List·Memᴰ t (targetsBefore m (row + 1)) → List·Memᴰ t (targetsBefore m row) ⊎ ((by ≡ m) × List·Memᴰ t (targets row))
     before-more m t h =
-        let a = flat-mem targets t (rowsBefore m (row + 1)) h in
+        let a = mem-flat targets (rowsBefore m (row + 1)) h in
         let k = mem-keep (λ (r : ℕ). eqb (getD recordModule r 0) m) (upTo (row + 1)) (a .1) in
         go (a .0) (ℕ-discrete (a .0) row) (mem-upTo {n = row + 1} (k .0)) (k .1) (a .2)
       where
         go : (r : ℕ) → Dec (r ≡ row) → r < row + 1 → eqb (getD recordModule r 0) m ≡ true → List·Memᴰ t (targets r) → List·Memᴰ t (targetsBefore m row) ⊎ ((by ≡ m) × List·Memᴰ t (targets row))
         go r (yes q) l e j = inr (ap (λ (v : ℕ). getD recordModule v 0) (sym q) ∙ eqb-true (getD recordModule r 0) m e, subst (λ (v : ℕ). List·Memᴰ t (targets v)) q j)
-        go r (no q) l e j = inl (mem-flat targets t r (rowsBefore m row) (keep-mem (λ (v : ℕ). eqb (getD recordModule v 0) m) (upTo row) (upTo-mem {n = row} (omega arith)) e) j)
+        go r (no q) l e j = inl (flat-mem targets (rowsBefore m row) (keep-mem (λ (v : ℕ). eqb (getD recordModule v 0) m) (upTo row) (upTo-mem {n = row} (omega arith)) e) j)
 
     more-before : (m t : ℕ) → List·Memᴰ t (targetsBefore m row) → List·Memᴰ t (targetsBefore m (row + 1))
     more-before m t h =
-        let a = flat-mem targets t (rowsBefore m row) h in
+        let a = mem-flat targets (rowsBefore m row) h in
         let k = mem-keep (λ (r : ℕ). eqb (getD recordModule r 0) m) (upTo row) (a .1) in
-        mem-flat targets t (a .0) (rowsBefore m (row + 1)) (keep-mem (λ (v : ℕ). eqb (getD recordModule v 0) m) (upTo (row + 1)) (upTo-mem {n = row + 1} (let l = mem-upTo {n = row} (k .0) in omega arith)) (k .1)) (a .2)
+        flat-mem targets (rowsBefore m (row + 1)) (keep-mem (λ (v : ℕ). eqb (getD recordModule v 0) m) (upTo (row + 1)) (upTo-mem {n = row + 1} (let l = mem-upTo {n = row} (k .0) in omega arith)) (k .1)) (a .2)
 
     this-before : (t : ℕ) → List·Memᴰ t (targets row) → List·Memᴰ t (targetsBefore by (row + 1))
-    this-before t h = mem-flat targets t row (rowsBefore by (row + 1)) (keep-mem (λ (v : ℕ). eqb (getD recordModule v 0) by) (upTo (row + 1)) (upTo-mem {n = row + 1} (omega arith)) (eq-eqb by by refl)) h
+    this-before t h = flat-mem targets (rowsBefore by (row + 1)) (keep-mem (λ (v : ℕ). eqb (getD recordModule v 0) by) (upTo (row + 1)) (upTo-mem {n = row + 1} (omega arith)) (eq-eqb by by refl)) h
 
     -- no earlier row is of a later module
     earlier : (m t : ℕ) → List·Memᴰ t (targetsBefore m row) → m ≤ by
     unfolding Rising
     earlier m t h =
-        let a = flat-mem targets t (rowsBefore m row) h in
+        let a = mem-flat targets (rowsBefore m row) h in
         let k = mem-keep (λ (r : ℕ). eqb (getD recordModule r 0) m) (upTo row) (a .1) in
         let l = mem-upTo {n = row} (k .0) in
         omega (arith, eqb-true (getD recordModule (a .0) 0) m (k .1), rising (a .0) row (omega arith) inside)

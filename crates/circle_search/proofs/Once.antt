@@ -2,12 +2,12 @@
 -- Assumes nothing.
 use mathlib.Core.Path.{_≡_, refl, sym, ap, subst, _∙_}
 use mathlib.Core.Logic.{_⊎_, inl, inr, ⊎-elim}
-use mathlib.Core.Bool.{Bool, true, false, cond, _&&_, _||_, true≢false}
+use mathlib.Core.Bool.{Bool, true, false, cond, true≢false}
 use mathlib.Core.List.{List, [], _∷_, _++_, foldl, List·Memᴰ, List·Memᴰ·head, List·Memᴰ·cases-cons, List·Memᴰ·not-nil}
 use Prim.Native.Nat.{ℕ, zero, suc}
 use borrow.Author.Tests.{eq-eqb}
 use lib.Dec.{eqb}
-use Rattle.lists.specs.Words.{elem, any, Distinct}
+use Rattle.lists.specs.Words.{elem, any}
 use Rattle.lists.proofs.Laws.{both, elem-mem, mem-elem, any-append, or-left, or-right}
 use Rattle.walk.specs.Walk.{snoc}
 use Rattle.circle_search.specs.Circles.{Search, sameList, front, pathTo, keepOnce, found, begin, number, meet, circles}

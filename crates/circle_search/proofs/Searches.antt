@@ -2,33 +2,21 @@
 -- successors.
 -- Assumes nothing.
 use mathlib.Core.Path.{_≡_, refl, sym, ap, subst, _∙_}
-use mathlib.Core.Bool.{Bool, true, false}
+use mathlib.Core.Bool.{true, false}
 use mathlib.Core.Logic.{⊎-elim}
-use mathlib.Core.List.{List, [], _∷_, _++_, foldl, foldl-append, flatMap, append-assoc, append-nil}
+use mathlib.Core.List.{List, [], _∷_, _++_, foldl, foldl-append, flatMap}
 use Prim.Native.Nat.{ℕ, zero, suc, _+_, _-_, _*_, _≤_, _<_}
 use native.Mathlib.Nat.{not-suc-le-zero, mul-suc, mul-le-mul-left}
 use native.Mathlib.Omega.{arith}
-use lib.ListN.{length, getD, set, length-set, length-append}
+use lib.ListN.{length, set, length-set, length-append}
 use lib.Dec.{eqb}
-use Rattle.lists.specs.Words.{isZero, zeros, countFrom}
-use Rattle.lists.proofs.Laws.{both, countFrom-append}
+use Rattle.lists.specs.Words.{zeros, countFrom}
+use Rattle.lists.proofs.Laws.{both}
+use Rattle.lists.proofs.Maps.{flat-snoc}
 use Rattle.walk.specs.Walk.{snoc}
 use Rattle.walk.proofs.Visits.{set-zeros}
 use Rattle.circle_search.specs.Circles.{front, from, pathTo}
 use Rattle.circle_search.specs.inner.Search.{Held, isNew, isOpen, enter, leave, close, search, Searches}
-
-pub flat-append : (f : ℕ → List ℕ) (xs ys : List ℕ) → flatMap f (xs ++ ys) ≡ flatMap f xs ++ flatMap f ys
-unfolding flatMap
-flat-append f [] ys = refl
-flat-append f (x ∷ xs) ys = ap (λ (l : List ℕ). f x ++ l) (flat-append f xs ys) ∙ sym (append-assoc (f x) (flatMap f xs) (flatMap f ys))
-
--- one row more at the end
-flat-snoc : (f : ℕ → List ℕ) (i n : ℕ) → flatMap f (countFrom i (suc n)) ≡ flatMap f (countFrom i n) ++ f (i + n)
-unfolding flatMap
-flat-snoc f i n =
-    let e : suc n ≡ n + 1 = omega arith in
-    ap (λ (k : ℕ). flatMap f (countFrom i k)) e ∙ ap (flatMap f) (countFrom-append i n 1) ∙ flat-append f (countFrom i n) (countFrom (i + n) 1)
-    ∙ ap (λ (l : List ℕ). flatMap f (countFrom i n) ++ l) (append-nil (f (i + n)))
 
 -- all but the last of one more
 pub front-snoc : (l : List ℕ) (m : ℕ) → front (snoc l m) ≡ l

@@ -2,21 +2,21 @@
 -- Assumes nothing.
 use mathlib.Core.Path.{_≡_, refl, sym, ap, subst, _∙_}
 use mathlib.Core.Logic.{_⊎_, inl, inr, ⊎-elim}
-use mathlib.Core.Bool.{Bool, true, false, cond, _&&_, _||_, true≢false, false≢true}
-use mathlib.Core.List.{List, [], _∷_, _++_, foldl, foldl-append, List·Memᴰ, List·Memᴰ·head, List·Memᴰ·tail, List·Memᴰ·cases-cons, List·Memᴰ·not-nil, List·Memᴰ·append-cases, List·Memᴰ·eq-of-singleton}
-use Prim.Native.Nat.{ℕ, zero, suc, _<_, _≤_}
+use mathlib.Core.Bool.{Bool, true, false, cond, true≢false, false≢true}
+use mathlib.Core.List.{List, [], _∷_, _++_, foldl, foldl-append, List·Memᴰ, List·Memᴰ·head, List·Memᴰ·tail, List·Memᴰ·not-nil, List·Memᴰ·append-cases, List·Memᴰ·eq-of-singleton}
+use Prim.Native.Nat.{ℕ, zero, suc, _<_}
 use native.Mathlib.Decide.{ℕ-discrete}
 use native.Mathlib.Omega.{arith}
 use lib.ListN.{length, getD, set, replicate, length-set, length-replicate, getD-replicate}
 use lib.Seq.{getD-set-same, getD-set-other}
 use lib.Dec.{eqb}
 use borrow.Author.Tests.{eq-eqb, ne-eqb, eqb-true}
-use Rattle.lists.specs.Words.{isZero, zeros, elem, any, Distinct}
-use Rattle.lists.proofs.Laws.{both, elem-mem, mem-elem, any-mem, any-append, or-left, or-right, or-parts, and-parts}
+use Rattle.lists.specs.Words.{elem, any, Distinct}
+use Rattle.lists.proofs.Laws.{both, elem-mem, mem-elem, any-mem, any-append, or-left, and-parts}
 use Rattle.walk.specs.Walk.{snoc}
 use Rattle.walk.proofs.Visits.{fresh-zero, fresh-not, zeros-replicate}
 use Rattle.circle_search.specs.Circles.{Search, sameList, from, front, pathTo, keepOnce, found, begin, number, meet, circles}
-use Rattle.circle_search.specs.inner.Search.{onceAfter, once, Held, isNew, isOpen, enter, leave, close, search, Searches}
+use Rattle.circle_search.specs.inner.Search.{Held, isNew, isOpen, enter, leave, close, search, Searches}
 use Rattle.circle_search.proofs.Searches.{front-snoc, search-new, search-open, search-done}
 use Rattle.circle_search.proofs.Once.{meet-numbered, meet-begun, meet-new, meets-grow, meet-grows, Grows, elem-last}
 

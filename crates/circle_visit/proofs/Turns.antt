@@ -1,9 +1,9 @@
 -- What meeting a module rests on: the module is begun, its rows are followed, and it takes its number.
 -- Assumes nothing.
-use mathlib.Core.Path.{_≡_, refl, sym, ap, subst, _∙_}
-use mathlib.Core.Bool.{Bool, true, false}
+use mathlib.Core.Path.{_≡_, sym, ap, subst, _∙_}
+use mathlib.Core.Bool.{true, false}
 use mathlib.Core.Logic.{⊎-elim}
-use mathlib.Core.List.{List, [], _∷_, _++_, flatMap}
+use mathlib.Core.List.{List, [], _∷_, flatMap}
 use Prim.Native.Nat.{ℕ, zero, suc, _+_, _-_, _*_, _≤_, _<_}
 use native.Mathlib.Decide.{decLt}
 use native.Mathlib.Numerals.{add-one}
@@ -11,18 +11,17 @@ use native.Mathlib.Omega.{arith}
 use lib.ListN.{length, getD, set, take, length-set, length-append, List·getD-eq-default}
 use lib.Seq.{take-suc, take-suc-set, length-take-le}
 use lib.Dec.{eqb}
-use Rattle.lists.specs.Words.{isZero, zeros, countFrom}
+use Rattle.lists.specs.Words.{zeros, countFrom}
 use Rattle.lists.proofs.Laws.{both}
-use Rattle.walk.specs.Walk.{snoc}
 use Rattle.walk.proofs.Visits.{set-zeros}
 use Rattle.tables.specs.Project.{missing}
-use Rattle.sort_steps.specs.Steps.{unlessMissing}
+use Rattle.tables.specs.Refusal.{rowLimit}
 use Rattle.sort_steps.proofs.Rows.{unless-missing, unless-one}
 use Rattle.circle_search.specs.Circles.{front}
-use Rattle.circle_search.specs.inner.Search.{Held, isNew, isOpen, enter, leave, close, Searches}
+use Rattle.circle_search.specs.inner.Search.{Held, isNew, isOpen, enter, close, Searches}
 use Rattle.circle_search.proofs.Searches.{Kept, front-snoc, met-kept, met-keeps, met-room, new-met, open-met}
 use Rattle.circle_rows.specs.Rows.{ledRow}
-use Rattle.circle_visit.specs.Visit.{Listed, listed, write, ledBy, held, Leads, Room, rowLimit, moduleLimit, pathLimit}
+use Rattle.circle_visit.specs.Visit.{Listed, listed, write, ledBy, held, Leads, Room}
 
 row-few : (led : List ℕ) (row : ℕ) → length (ledRow led row) ≤ 1
 row-few led row =
@@ -66,9 +65,6 @@ module _ {starts led states stack : List ℕ} {depth count used : ℕ} (leads : 
 
     pub has-place : depth < length stack
     has-place = omega (arith, one-less, room .lists, room .places)
-
-    pub has-number : depth < moduleLimit
-    has-number = omega (arith, has-place, room .places, leads .few)
 
     abbrev pub begun : Held Listed
     begun = held (set states m 1) (set stack depth m) (depth + 1) paths lengths count used

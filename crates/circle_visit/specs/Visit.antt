@@ -7,17 +7,11 @@ use lib.ListN.{length, getD, set, take}
 use lib.Seq.{sets}
 use Rattle.lists.specs.Words.{zeros, countFrom}
 use Rattle.tables.specs.Accepted.{BelowOrMissing}
-use Rattle.tables.specs.Refusal as refusal
+use Rattle.tables.specs.Refusal.{moduleLimit, rowLimit}
 use Rattle.circle_rows.specs.Rows.{ledRow}
 use Rattle.circle_search.specs.inner.Search.{Held}
 
--- the limits: modules, rows, and more than paths can be found
-abbrev pub moduleLimit : ℕ
-moduleLimit = refusal.moduleLimit
-
-abbrev pub rowLimit : ℕ
-rowLimit = refusal.rowLimit
-
+-- more than paths can be found
 abbrev pub pathLimit : ℕ
 pathLimit = 134217728
 

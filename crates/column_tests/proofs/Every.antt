@@ -9,9 +9,8 @@ use native.Mathlib.Omega.{arith}
 use lib.ListN.{length, getD, drop, drop-of-length-le}
 use lib.Seq.{drop-cons}
 use Rattle.lists.specs.Words.{every, countFrom, upTo}
-use Rattle.lists.proofs.Laws.{mem-every, mem-countFrom}
-use Rattle.tables.proofs.Rows.{count-step, count-end}
-use Rattle.column_tests.proofs.Chain.{and-true}
+use Rattle.lists.proofs.Laws.{mem-every, mem-countFrom, count-step, count-end}
+use Rattle.lists.proofs.Tests.{and-true}
 
 pub drop-next : (xs : List ℕ) (i : ℕ) → i < length xs → drop i xs ≡ getD xs i 0 ∷ drop (i + 1) xs
 drop-next xs i h = rw (add-one, drop-cons xs i 0)

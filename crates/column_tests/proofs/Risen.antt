@@ -8,8 +8,9 @@ use native.Mathlib.Omega.{arith}
 use lib.ListN.{length, getD, drop, length-drop}
 use lib.Seq.{drop-cons}
 use lib.Dec.{leb}
+use Rattle.lists.proofs.Tests.{and-true}
 use Rattle.tables.specs.Refusal.{rises}
-use Rattle.column_tests.proofs.Chain.{and-true, and-assoc}
+use Rattle.column_tests.proofs.Chain.{and-assoc}
 
 rises-few : (xs : List ℕ) → length xs ≤ 1 → rises xs ≡ true
 unfolding rises

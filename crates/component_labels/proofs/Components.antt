@@ -1,6 +1,6 @@
 -- How labels come about: the component of a chunk by the marks of two walks, and the labels of the components that the edges so far lead into.
 -- Assumes nothing.
-use mathlib.Core.Path.{_≡_, refl, sym, ap, _∙_}
+use mathlib.Core.Path.{_≡_, sym, ap, _∙_}
 use mathlib.Core.Logic.{⊎-elim}
 use mathlib.Core.Bool.{Bool, true, false, cond, _&&_, true≢false}
 use mathlib.Core.List.{List, map, List·Memᴰ}
@@ -11,15 +11,15 @@ use lib.ListN.{length, getD, replicate, length-replicate, getD-replicate}
 use lib.Seq.{ext-getD}
 use Rattle.lists.specs.Words.{upTo, keep, any, elem, has}
 use Rattle.lists.proofs.Laws.{both, and-parts, and-join, iff-eq, any-mem, mem-any, keep-cong, mem-upTo, has-in, has-marksOf, length-marksOf, getD-map-upTo, length-map-upTo}
+use Rattle.lists.proofs.Maps.{map-upTo-cong, map-upTo-self, keep-map}
 use Rattle.walk.specs.Reach.{Reach, Reach⁺}
 use Rattle.tables.specs.Project.{missing}
 use Rattle.tables.specs.Readings.{firstOf, valuesOf}
-use Rattle.strong_connection.specs.Cycles.{reached, connected, component, cyclic, label, labels}
+use Rattle.strong_connection.specs.Cycles.{reachedFrom, connected, component, cyclic, label, labels}
 use Rattle.strong_connection.specs.inner.Graph.{Graph}
 use Rattle.strong_connection.specs.inner.Marking.{reachMarks}
 use Rattle.component_labels.specs.inner.Labelling.{inBoth, relabelled, componentLabelled, labelled}
 use Rattle.tables.proofs.OwnerRows.{values-row}
-use Rattle.component_labels.proofs.Lists.{map-upTo-cong, map-upTo-self, keep-map}
 use Rattle.strong_connection.proofs.Strong.{reached-reach, reach-reached, connected-reach, reach-connected, connected-in, connected-self, connected-sym, connected-trans, cyclic-same, cyclic-reach, reach-cyclic, lowest, lowest-in, lowest-same, label-cyclic, label-none, label-test}
 use Rattle.strong_connection.proofs.Rows.{graph-inside, graph-back, reach-back}
 use Rattle.component_labels.proofs.Numbers.{circle-rises}
@@ -39,11 +39,11 @@ module _ (from to : List ℕ) (n : ℕ) (g : Graph from to n) where
 
     behind-reach : (d : ℕ) → has (reachMarks n pred c) d ≡ true → Reach succ d c
     behind-reach d e =
-        let k : d < n = omega (arith, has-in (reachMarks n pred c) d e, length-marksOf (λ (x : ℕ). elem x (reached n pred c)) n) in
-        reach-back to from (sym (g .lengths)) (reached-reach n pred (graph-inside (graph-back g)) c d l (sym (has-marksOf (λ (x : ℕ). elem x (reached n pred c)) n d k) ∙ e))
+        let k : d < n = omega (arith, has-in (reachMarks n pred c) d e, length-marksOf (λ (x : ℕ). elem x (reachedFrom n pred c)) n) in
+        reach-back to from (sym (g .lengths)) (reached-reach n pred (graph-inside (graph-back g)) c d l (sym (has-marksOf (λ (x : ℕ). elem x (reachedFrom n pred c)) n d k) ∙ e))
 
     reach-behind : (d : ℕ) → d < n → Reach succ d c → has (reachMarks n pred c) d ≡ true
-    reach-behind d k p = has-marksOf (λ (x : ℕ). elem x (reached n pred c)) n d k ∙ reach-reached n pred (graph-inside (graph-back g)) c d l (reach-back from to (g .lengths) p)
+    reach-behind d k p = has-marksOf (λ (x : ℕ). elem x (reachedFrom n pred c)) n d k ∙ reach-reached n pred (graph-inside (graph-back g)) c d l (reach-back from to (g .lengths) p)
 
     -- c is cyclic exactly if one of its edges leads to a chunk that leads to c
     pub cyclic-test : any (has (reachMarks n pred c)) (succ c) ≡ cyclic n succ c
@@ -56,7 +56,7 @@ module _ (from to : List ℕ) (n : ℕ) (g : Graph from to n) where
     -- c's component is what both walks meet
     both-test : (d : ℕ) → d < n → inBoth (reachMarks n succ c) (reachMarks n pred c) d ≡ connected n succ c d
     both-test d k =
-        let ahead : has (reachMarks n succ c) d ≡ elem d (reached n succ c) = has-marksOf (λ (x : ℕ). elem x (reached n succ c)) n d k in
+        let ahead : has (reachMarks n succ c) d ≡ elem d (reachedFrom n succ c) = has-marksOf (λ (x : ℕ). elem x (reachedFrom n succ c)) n d k in
         iff-eq (inBoth (reachMarks n succ c) (reachMarks n pred c) d) (connected n succ c d)
         (λ e.
         let b = and-parts (has (reachMarks n succ c) d) (has (reachMarks n pred c) d) e in
@@ -81,7 +81,7 @@ module _ (from to : List ℕ) (n : ℕ) (g : Graph from to n) where
 
       pub component-none : cyclic n succ c ≡ false → labels ≡ componentLabelled n succ c labels
       component-none e =
-          sym (map-upTo-self labels (length labels) refl)
+          sym (map-upTo-self 0 labels)
           ∙ map-upTo-cong (λ (d : ℕ). getD labels d 0) (λ (d : ℕ). cond (cyclic n succ c && connected n succ c d) (lowest n succ inside c) (getD labels d 0)) (length labels)
           (λ d k. sym (ap (λ (b : Bool). cond (b && connected n succ c d) (lowest n succ inside c) (getD labels d 0)) e))
 

@@ -6,7 +6,7 @@ ghost use Rattle.tables.specs.Accepted.{Accepted};
 ghost use Rattle.table.specs.Table.{table, read};
 ghost use Rattle.eligibility.specs.Eligible.{eligibleMarks};
 ghost use Rattle.risk_of_orders.specs.inner.Steps.{join};
-ghost use Rattle.at_risk.specs.Entry.{inCycleRisk, cycleRiskOfEntry};
+ghost use Rattle.at_risk.specs.Promise.{inCycleRisk, cycleRiskOfEntry};
 ghost use Rattle.at_risk.specs.inner.OverTable.{Entered, Marked};
 use at_risk::core::add_entry_cycle_risk;
 use chunk_cycles::core::label_table;

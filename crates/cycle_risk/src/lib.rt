@@ -1,6 +1,6 @@
 // The cycle risk of an entry.
 ghost use Rattle.table.specs.Table.{lent, lentWith};
-ghost use Rattle.at_risk.specs.Entry.{EntryCycleRisk};
+ghost use Rattle.at_risk.specs.Promise.{EntryCycleRisk};
 use analysed_entries::core::find_entry;
 use core::mark_cycle_risk;
 use current_columns::core::read_current;

@@ -3,8 +3,8 @@
 use mathlib.Core.Path.{_≡_, refl, sym, ap, _∙_}
 use mathlib.Core.Logic.{⊎-elim}
 use mathlib.Core.Bool.{Bool, true, false, cond, not, _&&_}
-use mathlib.Core.List.{List, [], _∷_, _++_, append-nil, List·Memᴰ}
-use Prim.Native.Nat.{ℕ, _<_, _≤_}
+use mathlib.Core.List.{List, [], _∷_, _++_, append-nil}
+use Prim.Native.Nat.{ℕ, _≤_}
 use native.Mathlib.Omega.{arith}
 use lib.ListN.{length}
 use Rattle.lists.specs.Words.{keep, elem, Distinct}
@@ -14,7 +14,7 @@ use Rattle.walk.proofs.Orders.{order-distinct, order-length}
 use Rattle.walk.proofs.Pruned.{order-pruned}
 use Rattle.tables.specs.Project.{Project}
 use Rattle.tables.specs.Readings.{modules, isNormal, flagged}
-use Rattle.expected_order.specs.Expected.{importsOf, expected}
+use Rattle.expected_order.specs.Expected.{normalImportsOf, expected}
 use Rattle.expected_order.specs.OfProject.{expectedOf}
 use Rattle.expected_order.proofs.Laws.{imports-in}
 use Rattle.entries_order.specs.Entries.{isWalked, entriesOrder}
@@ -22,7 +22,7 @@ use Rattle.entries_order.specs.OfEntries.{expectedOfEntries}
 
 module _ (p : Project) where
   abbrev succ : ℕ → List ℕ
-  succ = importsOf (p .normal) (p .recordModule) (p .recordKind) (p .recordTarget)
+  succ = normalImportsOf (p .normal) (p .recordModule) (p .recordKind) (p .recordTarget)
 
   abbrev listed : ℕ → Bool
   listed = flagged (p .included)

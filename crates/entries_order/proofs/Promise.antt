@@ -8,12 +8,12 @@ use native.Mathlib.Omega.{arith}
 use lib.ListN.{length, getD}
 use lib.Dec.{ltb, leb}
 use borrow.Author.Tests.{le-leb, lt-leb, ltb-true}
+use Rattle.lists.proofs.Tests.{every-at}
 use Rattle.tables.specs.Project.{Project}
 use Rattle.tables.specs.Readings.{modules}
 use Rattle.tables.specs.Refusal.{below}
 use Rattle.tables.specs.Accepted.{Below}
 use Rattle.tables.specs.declared.Answer.the-variants.{Refused, Counted}
-use Rattle.tables.proofs.Accepted.{every-at}
 use Rattle.tables.proofs.Answering.{verdict-project, verdict-unfit, verdict-short, verdict-none, after-refused, after-accepted}
 use Rattle.table.specs.Table.{Lent}
 use Rattle.table.proofs.Laws.{answer-refused, answer-accepted}
@@ -48,7 +48,7 @@ module _ (t : Lent) (entries order : List ℕ) where
 
   pub entries-inside : fit ≡ true → Below (modules p) entries
   unfolding below
-  entries-inside f i l = ltb-true (getD entries i 0) (modules p) (every-at (λ (x : ℕ). ltb x (modules p)) entries f i l)
+  entries-inside f i l = ltb-true (getD entries i 0) (modules p) (every-at (λ (x : ℕ). ltb x (modules p)) entries 0 f i l)
 
   module _ (accepts : t .number ≡ 0) where
     pub entries-refused : fit ≡ false → EntriesOrder t entries order (Refused 5) order

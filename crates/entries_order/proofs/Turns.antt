@@ -1,26 +1,21 @@
 -- From visits of the entries in turn to the list of entries' order.
 -- Assumes nothing.
-use mathlib.Core.Path.{_≡_, refl, sym, ap, _∙_}
-use mathlib.Core.Bool.{Bool, true, false, cond, _&&_}
+use mathlib.Core.Path.{_≡_, sym, ap, _∙_}
+use mathlib.Core.Bool.{true, false}
 use mathlib.Core.List.{List, [], _∷_, _++_, flatMap}
 use Prim.Native.Nat.{ℕ, _-_, _≤_}
 use lib.ListN.{length, getD, drop, replicate}
 use Rattle.lists.specs.Words.{keep, countFrom}
-use Rattle.lists.proofs.Laws.{keep-append, and-out}
+use Rattle.lists.proofs.Laws.{and-out}
+use Rattle.lists.proofs.Maps.{keep-flat}
 use Rattle.walk.specs.Walk.{St, Placed, place, everywhere, Visits}
 use Rattle.walk.proofs.Going.{visited-walk, column-rows}
 use Rattle.walk.proofs.Placing.{placed-order}
 use Rattle.tables.specs.Readings.{isNormal, flagged}
-use Rattle.expected_order.specs.Expected.{importsOf}
+use Rattle.expected_order.specs.Expected.{normalImportsOf}
 use Rattle.expected_visit.specs.Visit.{held}
 use Rattle.entries_order.specs.Entries.{isWalked, entriesOrder}
 use Rattle.entries_order.specs.inner.Walked.{Written}
-
--- what is kept of rows' lists
-keep-flat : (q : ℕ → Bool) (f : ℕ → List ℕ) (rows : List ℕ) → keep q (flatMap f rows) ≡ flatMap (λ (row : ℕ). keep q (f row)) rows
-unfolding flatMap
-keep-flat q f [] = refl
-keep-flat q f (row ∷ rows) = keep-append q (f row) (flatMap f rows) ∙ ap (λ (l : List ℕ). keep q (f row) ++ l) (keep-flat q f rows)
 
 module _ (normal included entries : List ℕ) where
   -- what a row of the list leads to: its entry, if it is walked
@@ -45,13 +40,13 @@ module _ (normal included entries : List ℕ) where
 module _ (normal included recordModule recordKind recordTarget entries order : List ℕ) where
   -- visits from nothing met list the order
   pub entries-written : (marks′ order′ : List ℕ) (r : ℕ) → length normal ≤ length order
-      → Visits (importsOf normal recordModule recordKind recordTarget) everywhere (place (flagged included)) (held (replicate (length normal) 0) order 0) (keep (isWalked normal included) entries) (held marks′ order′ r)
+      → Visits (normalImportsOf normal recordModule recordKind recordTarget) everywhere (place (flagged included)) (held (replicate (length normal) 0) order 0) (keep (isWalked normal included) entries) (held marks′ order′ r)
       → Written (entriesOrder normal included recordModule recordKind recordTarget entries) order order′ r
   unfolding entriesOrder
   entries-written marks′ order′ r l v = record { count = ap (λ (p : Placed). p .count) made; written = ap (λ (p : Placed). p .order) made }
     where
       succ : ℕ → List ℕ
-      succ = importsOf normal recordModule recordKind recordTarget
+      succ = normalImportsOf normal recordModule recordKind recordTarget
 
       list : List ℕ
       list = entriesOrder normal included recordModule recordKind recordTarget entries

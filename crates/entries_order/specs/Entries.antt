@@ -7,7 +7,7 @@ use lib.ListN.{length}
 use Rattle.lists.specs.Words.{keep}
 use Rattle.walk.specs.Walk.{everywhere, postOrder}
 use Rattle.tables.specs.Readings.{isNormal, flagged}
-use Rattle.expected_order.specs.Expected.{importsOf}
+use Rattle.expected_order.specs.Expected.{normalImportsOf}
 
 -- "Entries that aren't included are passed over", and so are external ones
 abbrev pub isWalked : List ℕ → List ℕ → ℕ → Bool
@@ -17,4 +17,4 @@ isWalked normal included e = flagged included e && isNormal normal e
 unfoldable pub entriesOrder : List ℕ → List ℕ → List ℕ → List ℕ → List ℕ → List ℕ → List ℕ
 entriesOrder normal included recordModule recordKind recordTarget entries =
     keep (flagged included)
-    (postOrder (importsOf normal recordModule recordKind recordTarget) everywhere (length normal) (keep (isWalked normal included) entries))
+    (postOrder (normalImportsOf normal recordModule recordKind recordTarget) everywhere (length normal) (keep (isWalked normal included) entries))

@@ -10,7 +10,7 @@ ghost use Rattle.tables.specs.Lookups.{FirstRows};
 ghost use Rattle.tables.specs.Readings.{flagged};
 ghost use Rattle.table.specs.Table.{table, read};
 ghost use Rattle.expected_visit.specs.Visit.{Fit, held};
-ghost use Rattle.expected_order.specs.Expected.{importsOf};
+ghost use Rattle.expected_order.specs.Expected.{normalImportsOf};
 ghost use Rattle.entries_order.specs.Entries.{isWalked, entriesOrder};
 ghost use Rattle.entries_order.specs.OfEntries.{expectedOfEntries};
 ghost use Rattle.entries_order.specs.inner.Walked.{Written, Entered};
@@ -38,7 +38,7 @@ fn visit_entries<'a>(
     requires places { ⌜ length (now marks) < length (now starts) ⌝ }
     requires entries { ⌜ Below (length (now marks)) (now entries) ⌝ }
     requires room { ⌜ zeros (now marks) ≤ length (now order) ⌝ }
-    ensures { λ r. ⌜ Visits (importsOf (now (normal .entry)) (now (record_module .entry)) (now (record_kind .entry)) (now (record_target .entry))) everywhere (place (flagged (now (included .entry)))) (held (now (marks .entry)) (now (order .entry)) 0) (keep (isWalked (now (normal .entry)) (now (included .entry))) (now (entries .entry))) (held (now (marks .exit)) (now (order .exit)) r) ⌝ }
+    ensures { λ r. ⌜ Visits (normalImportsOf (now (normal .entry)) (now (record_module .entry)) (now (record_kind .entry)) (now (record_target .entry))) everywhere (place (flagged (now (included .entry)))) (held (now (marks .entry)) (now (order .entry)) 0) (keep (isWalked (now (normal .entry)) (now (included .entry))) (now (entries .entry))) (held (now (marks .exit)) (now (order .exit)) r) ⌝ }
 {
     let mut count = 0;
     for k in 0..entries.len() {

@@ -2,30 +2,30 @@
 -- Assumes nothing.
 use mathlib.Core.Path.{_≡_, sym, ap, subst, _∙_}
 use mathlib.Core.Bool.{Bool}
-use mathlib.Core.List.{List, List·Memᴰ}
-use Prim.Native.Nat.{ℕ, _≤_, _<_}
+use mathlib.Core.List.{List}
+use Prim.Native.Nat.{ℕ, _≤_}
 use native.Mathlib.Omega.{arith}
-use lib.ListN.{length, getD, take, drop, length-append}
+use lib.ListN.{length, take, drop, length-append}
 use lib.Seq.{take-at, length-take-le}
 use Rattle.lists.specs.Words.{keep}
 use Rattle.lists.proofs.Laws.{mem-keep, distinct-keep, length-keep}
-use Rattle.tables.proofs.Accepted.{getD-mem}
+use Rattle.lists.proofs.Members.{getD-mem}
+use Rattle.lists.proofs.Distinct.{few-distinct}
+use Rattle.tables.proofs.Accepted.{below-mem}
 use Rattle.risk_of_orders.specs.inner.Steps.{Order}
 use Rattle.page_rows.specs.inner.Steps.{Members, Listed}
-use Rattle.page_rows.proofs.Places.{below-mem}
-use Rattle.page_rows.proofs.Once.{few-distinct}
 use Rattle.page_text.specs.inner.Sheets.{Orders}
 
 module _ (f : ℕ → Bool) (xs : List ℕ) (n : ℕ) (o : Order xs n) where
   pub keep-order : Order (keep f xs) n
   keep-order = record {
-    members = λ i l. below-mem n xs (o .members) (mem-keep f xs (getD-mem (keep f xs) i l) .0);
+    members = λ i l. below-mem xs (o .members) (mem-keep f xs (getD-mem (keep f xs) i l) .0);
     once = distinct-keep f xs (o .once);
     few = omega (arith, length-keep f xs, o .few);
   }
 
   pub keep-fits : length (keep f xs) ≤ n
-  keep-fits = few-distinct n (keep f xs) (keep-order .once) (λ x h. below-mem n (keep f xs) (keep-order .members) h)
+  keep-fits = few-distinct n (keep f xs) (keep-order .once) (λ x h. below-mem (keep f xs) (keep-order .members) h)
 
 pub order-members : (xs : List ℕ) (n : ℕ) → Order xs n → Members xs n
 order-members xs n o = record { rows = o .members; few = o .few }

@@ -5,7 +5,7 @@ use Prim.Native.Nat.{ℕ}
 use Rattle.lists.specs.Words.{keep, has}
 use Rattle.tables.specs.Project.{Project}
 use Rattle.expected_order.specs.OfProject.{expectedOf}
-use Rattle.actual_order.specs.Actual.{actualOf}
+use Rattle.entry_run.specs.Actual.{actualOf}
 use Rattle.page_text.specs.Page.{lineAt, pageBy}
 
 module _ (p : Project) (sensitives plan : List ℕ) (root : ℕ) where

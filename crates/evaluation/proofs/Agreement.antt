@@ -7,11 +7,11 @@ use mathlib.Core.List.{List, foldl, List·Memᴰ}
 use Prim.Native.Nat.{ℕ, zero, suc}
 use lib.ListN.{length}
 use Rattle.lists.proofs.Laws.{both}
+use Rattle.lists.proofs.Maps.{fold-cong}
 use Rattle.walk.specs.Walk.{St, fresh, enter, leave, visit, walk, snoc, unmet, postOrder}
 use Rattle.walk.specs.Reach.{Reach, here, step, ReachAny}
 use Rattle.walk.proofs.Visits.{visit-new, visit-old}
 use Rattle.evaluation.specs.Evaluation.{State, begin, lower, execute, finish, require, innerModuleEvaluation, start, evaluate}
-use Rattle.evaluation.proofs.Lists.{fold-agrees}
 use Rattle.evaluation.proofs.Steps.{unbegun}
 use Rattle.evaluation.proofs.Runs.{inner-new, inner-old}
 
@@ -31,7 +31,7 @@ module _ (succ succ′ : ℕ → List ℕ) where
       ⊎-elim
       (λ e.
       visit-new succ gate act k s m e
-      ∙ ap (leave act m) (fold-agrees (visit succ gate act k) (visit succ′ gate act k) (succ m) (λ y i t. visit-agrees gate act k t y (agree-next m y a i)) (enter m s))
+      ∙ ap (leave act m) (fold-cong (visit succ gate act k) (visit succ′ gate act k) (succ m) (λ y i t. visit-agrees gate act k t y (agree-next m y a i)) (enter m s))
       ∙ ap (λ (ys : List ℕ). leave act m (foldl (visit succ′ gate act k) (enter m s) ys)) (a m (here refl))
       ∙ sym (visit-new succ′ gate act k s m e))
       (λ e. visit-old succ gate act (suc k) s m e ∙ sym (visit-old succ′ gate act (suc k) s m e))
@@ -41,7 +41,7 @@ module _ (succ succ′ : ℕ → List ℕ) where
   unfolding postOrder walk ReachAny Agree
   order-agrees gate n roots a =
       ap (λ (t : St (List ℕ)). t .made)
-      (fold-agrees (visit succ gate snoc (length (unmet n .marks))) (visit succ′ gate snoc (length (unmet n .marks))) roots
+      (fold-cong (visit succ gate snoc (length (unmet n .marks))) (visit succ′ gate snoc (length (unmet n .marks))) roots
       (λ y i s. visit-agrees gate snoc (length (unmet n .marks)) s y (λ x p. a x (y, i, p))) (unmet n))
 
   inner-agrees : (k : ℕ) (s : State) (m : ℕ) → Agree m → innerModuleEvaluation succ k s m ≡ innerModuleEvaluation succ′ k s m
@@ -51,7 +51,7 @@ module _ (succ succ′ : ℕ → List ℕ) where
       ⊎-elim
       (λ e.
       inner-new succ k s m e
-      ∙ ap (λ (t : State). finish m (execute m t)) (fold-agrees (require (innerModuleEvaluation succ k) m) (require (innerModuleEvaluation succ′ k) m) (succ m) (λ y i t. ap (lower m y) (inner-agrees k t y (agree-next m y a i))) (begin m s))
+      ∙ ap (λ (t : State). finish m (execute m t)) (fold-cong (require (innerModuleEvaluation succ k) m) (require (innerModuleEvaluation succ′ k) m) (succ m) (λ y i t. ap (lower m y) (inner-agrees k t y (agree-next m y a i))) (begin m s))
       ∙ ap (λ (ys : List ℕ). finish m (execute m (foldl (require (innerModuleEvaluation succ′ k) m) (begin m s) ys))) (a m (here refl))
       ∙ sym (inner-new succ′ k s m e))
       (λ e. inner-old succ (suc k) s m e ∙ sym (inner-old succ′ (suc k) s m e))

@@ -1,29 +1,23 @@
 -- Under 01's premises module evaluation gives the expected order of its root. Whether the project passes the tests is not asked.
 -- Assumes nothing.
 use mathlib.Core.Path.{_≡_, sym, ap, subst, _∙_}
-use mathlib.Core.Bool.{true, cond, false≢true}
-use mathlib.Core.List.{List, [], _∷_, List·Memᴰ, List·Memᴰ·eq-of-singleton}
-use Prim.Native.Nat.{ℕ, zero, suc, _≤_, _<_}
-use native.Mathlib.Omega.{arith}
-use lib.ListN.{length, getD}
+use mathlib.Core.Bool.{cond}
+use mathlib.Core.List.{List, [], _∷_, List·Memᴰ, List·Memᴰ·eq-of-singleton, Memᴰ·map}
+use Prim.Native.Nat.{ℕ, _≤_, _<_}
+use lib.ListN.{getD}
 use borrow.Author.Tests.{ne-eqb}
 use Rattle.lists.specs.Words.{keep}
 use Rattle.lists.proofs.Laws.{mem-keep, keep-all}
+use Rattle.lists.proofs.Maps.{flat-ones}
 use Rattle.walk.specs.Walk.{everywhere, postOrder}
 use Rattle.walk.specs.Reach.{Reach, ReachAny, passing, through}
 use Rattle.walk.proofs.Orders.{reach-next, reach-more, order-reach}
 use Rattle.tables.specs.Project.{Project, missing}
-use Rattle.tables.specs.Readings.{modules, isNormal, flagged, rowsOf, isImport, resolved, normalTarget, targetsOf}
+use Rattle.tables.specs.Readings.{modules, flagged, rowsOf, isImport, resolved, normalTarget, targetsOf}
+use Rattle.tables.proofs.Targets.{normal-in}
 use Rattle.evaluation.specs.Premises.{requestedOf, Reached, Premises, GivesExpectedOrder}
-use Rattle.evaluation.proofs.Lists.{mem-map, flatMap-ones}
 use Rattle.evaluation.proofs.PostOrder.{evaluation-is-post-order, evaluation-settles, evaluation-empties-the-stack}
 use Rattle.evaluation.proofs.Agreement.{order-agrees}
-
--- a normal module has a row
-normal-in : (normal : List ℕ) (x : ℕ) → isNormal normal x ≡ true → x < length normal
-normal-in [] x e = absurd (false≢true e)
-normal-in (y ∷ l) zero e = omega arith
-normal-in (y ∷ l) (suc x) e = let h = normal-in l x e in omega arith
 
 -- what a post-order from one root lists is reached from it
 order-reached : (succ : ℕ → List ℕ) (n root x : ℕ) → List·Memᴰ x (postOrder succ everywhere n (root ∷ [])) → Reach succ root x
@@ -41,13 +35,13 @@ module _ (p : Project) (root : ℕ) (premises : Premises p root) where
   -- it follows all that a reached module requests
   same : (x : ℕ) → Reached p root x → requestedOf p x ≡ followed x
   unfolding requestedOf targetsOf resolved
-  same x r = sym (flatMap-ones _ (λ (row : ℕ). getD (p .recordTarget) row 0) (rowsOf (p .recordModule) x) one)
+  same x r = sym (flat-ones _ (λ (row : ℕ). getD (p .recordTarget) row 0) (rowsOf (p .recordModule) x) one)
     where
       one : (row : ℕ) → List·Memᴰ row (rowsOf (p .recordModule) x)
           → cond (isImport (getD (p .recordKind) row 0)) (normalTarget (resolved (p .normal) (p .recordTarget) row)) [] ≡ getD (p .recordTarget) row 0 ∷ []
       one row i =
           let t : ℕ = getD (p .recordTarget) row 0 in
-          let reached : Reached p root t = reach-next (requestedOf p) r (mem-map (λ (row : ℕ). getD (p .recordTarget) row 0) i) in
+          let reached : Reached p root t = reach-next (requestedOf p) r (Memᴰ·map (λ (row : ℕ). getD (p .recordTarget) row 0) i) in
           simp (premises .kinds x row r i, ne-eqb t missing (premises .targets x row r i), premises .normal t reached)
 
   reached-below : (x : ℕ) → Reached p root x → x < modules p

@@ -1,6 +1,5 @@
 -- `PostOrder`: evaluation executes the post-order, empties the stack and settles what is reached. `Agreement`: only what is reached matters.
 -- `Expected`: 01's sentence on the expected order. `Assertions`: the standard's own. `Witness`, `Apart`, `Cases`: computed cases.
-pub mod Lists
 pub mod Steps
 pub mod Runs
 pub mod PostOrder

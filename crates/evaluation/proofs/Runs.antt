@@ -12,8 +12,8 @@ use lib.Dec.{eqb}
 use borrow.Author.Tests.{eq-eqb}
 use Rattle.lists.specs.Words.{elem, Distinct}
 use Rattle.lists.proofs.Laws.{both, distinct-append, elem-mem}
+use Rattle.lists.proofs.Members.{not-elem}
 use Rattle.evaluation.specs.Evaluation.{Status, linked, evaluating, evaluated, Module, State, moduleAt, begin, execute, pop, finish, require, innerModuleEvaluation}
-use Rattle.evaluation.proofs.Lists.{not-elem}
 use Rattle.evaluation.proofs.Steps.{isLinked, unbegun, linked-is, settled-not, begun-other, begin-same, begin-other, Lowered, lowers, Popped, pops}
 
 pub record Run (s t : State) : Type 0 where

@@ -11,7 +11,7 @@ use lib.Seq.{getD-set-same, getD-set-other}
 use borrow.Author.Tests.{eq-eqb, ne-eqb}
 use Rattle.lists.specs.Words.{elem}
 use Rattle.lists.proofs.Laws.{both, elem-mem}
-use Rattle.evaluation.proofs.Lists.{not-elem}
+use Rattle.lists.proofs.Members.{not-elem}
 use Rattle.evaluation.specs.Evaluation.{Status, linked, evaluating, evaluated, Module, State, noModule, moduleAt, store, begin, lowered, lower, settled, remove, pop}
 
 abbrev pub isLinked : Status → Bool

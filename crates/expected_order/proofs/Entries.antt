@@ -10,7 +10,7 @@ use Rattle.walk.specs.Walk.{St, Placed, place, everywhere, Visits}
 use Rattle.walk.proofs.Going.{visited-walk}
 use Rattle.walk.proofs.Placing.{placed-order}
 use Rattle.tables.specs.Readings.{isNormal, flagged}
-use Rattle.expected_order.specs.Expected.{importsOf, reached, expected}
+use Rattle.expected_order.specs.Expected.{normalImportsOf, walkedFrom, expected}
 use Rattle.expected_visit.specs.Visit.{held}
 use Rattle.expected_order.specs.Visit.{Listed}
 
@@ -32,7 +32,7 @@ module _ (normal included recordModule recordKind recordTarget : List ℕ) (root
 
   -- a visit of a normal root, from nothing met, lists the expected order
   pub root-listed : (marks order marks₁ marks′ order′ : List ℕ) (r : ℕ) → isNormal normal root ≡ true → length normal ≤ length order → marks′ ≡ replicate (length marks) 0
-      → Visits (importsOf normal recordModule recordKind recordTarget) everywhere (place (flagged included)) (held (replicate (length normal) 0) order 0) (root ∷ []) (held marks₁ order′ r)
+      → Visits (normalImportsOf normal recordModule recordKind recordTarget) everywhere (place (flagged included)) (held (replicate (length normal) 0) order 0) (root ∷ []) (held marks₁ order′ r)
       → Listed list marks order marks′ order′ r
   unfolding expected
   root-listed marks order marks₁ marks′ order′ r e l z v = record {
@@ -42,10 +42,10 @@ module _ (normal included recordModule recordKind recordTarget : List ℕ) (root
   }
     where
       succ : ℕ → List ℕ
-      succ = importsOf normal recordModule recordKind recordTarget
+      succ = normalImportsOf normal recordModule recordKind recordTarget
 
       listed : List ℕ
-      listed = keep (flagged included) (reached normal recordModule recordKind recordTarget root)
+      listed = keep (flagged included) (walkedFrom normal recordModule recordKind recordTarget root)
 
       some : list ≡ listed
       some = rw e

@@ -3,30 +3,21 @@
 use mathlib.Core.Path.{_≡_, refl, sym, ap, subst}
 use mathlib.Core.Logic.{⊎-elim}
 use mathlib.Core.Bool.{true, false}
-use mathlib.Core.List.{List, [], _∷_, flatMap, List·Memᴰ, List·Memᴰ·head, List·Memᴰ·tail, List·Memᴰ·not-nil, List·Memᴰ·eq-of-singleton, List·Memᴰ·append-cases}
+use mathlib.Core.List.{List, [], _∷_, List·Memᴰ, List·Memᴰ·head, List·Memᴰ·not-nil, List·Memᴰ·eq-of-singleton}
 use Prim.Native.Nat.{ℕ, _≤_, _<_}
 use native.Mathlib.Omega.{arith}
 use lib.ListN.{length, getD}
 use Rattle.lists.specs.Words.{keep, Distinct}
 use Rattle.lists.proofs.Laws.{both, mem-keep, keep-mem, distinct-keep, length-keep}
+use Rattle.lists.proofs.Members.{mem-flat}
 use Rattle.walk.specs.Walk.{everywhere}
 use Rattle.walk.specs.Reach.{Reach, ReachAny}
 use Rattle.walk.proofs.Orders.{order-met, order-distinct, order-length, all-reach, reach-all}
 use Rattle.tables.specs.Readings.{isNormal, flagged, isImport, normalTarget, resolved, rowTargets, rowsOf, targetsOf}
 use Rattle.tables.specs.declared.Target.{Target}
 use Rattle.tables.specs.declared.Target.the-variants.{Missing, External, Normal}
-use Rattle.expected_order.specs.Expected.{importsOf, reached, expected}
+use Rattle.expected_order.specs.Expected.{normalImportsOf, walkedFrom, expected}
 use Rattle.tables.proofs.Targets.{normal-in, target-in}
-
--- what a member of the rows' lists is a member of
-flat-mem : {y : ℕ} (f : ℕ → List ℕ) (rows : List ℕ) → List·Memᴰ y (flatMap f rows) → (row : ℕ) × List·Memᴰ row rows × List·Memᴰ y (f row)
-unfolding flatMap
-flat-mem f [] h = absurd (List·Memᴰ·not-nil h)
-flat-mem f (row ∷ rows) h =
-    ⊎-elim
-    (λ a. (row, List·Memᴰ·head refl, a))
-    (λ b. let r = flat-mem f rows b in (r .0, List·Memᴰ·tail (r .1), r .2))
-    (List·Memᴰ·append-cases (f row) h)
 
 normal-target : (t : Target) (y : ℕ) → List·Memᴰ y (normalTarget t) → t ≡ Normal y
 normal-target Missing y h = absurd (List·Memᴰ·not-nil h)
@@ -35,10 +26,10 @@ normal-target (Normal m) y h = ap Normal (sym (List·Memᴰ·eq-of-singleton h))
 
 module _ (normal recordModule recordKind recordTarget : List ℕ) where
   -- what is imported has a row
-  pub imports-in : (m y : ℕ) → List·Memᴰ y (importsOf normal recordModule recordKind recordTarget m) → y < length normal
+  pub imports-in : (m y : ℕ) → List·Memᴰ y (normalImportsOf normal recordModule recordKind recordTarget m) → y < length normal
   unfolding targetsOf
   imports-in m y h =
-      let r = flat-mem (rowTargets isImport normalTarget normal recordKind recordTarget) (rowsOf recordModule m) h in
+      let r = mem-flat (rowTargets isImport normalTarget normal recordKind recordTarget) (rowsOf recordModule m) h in
       let row = r .0 in
       ⊎-elim
       (λ e. target-in normal recordKind recordTarget row y (normal-target (resolved normal recordTarget row) y (rw e at (r .2))))
@@ -50,22 +41,22 @@ module _ (normal recordModule recordKind recordTarget : List ℕ) where
     start r h = subst (λ (x : ℕ). x < length normal) (sym (List·Memᴰ·eq-of-singleton h)) (normal-in normal root n)
 
     -- from a normal root the walk meets the modules that paths lead to
-    pub reached-path : (x : ℕ) → List·Memᴰ x (reached normal recordModule recordKind recordTarget root) → Reach (importsOf normal recordModule recordKind recordTarget) root x
+    pub reached-path : (x : ℕ) → List·Memᴰ x (walkedFrom normal recordModule recordKind recordTarget root) → Reach (normalImportsOf normal recordModule recordKind recordTarget) root x
     unfolding ReachAny
     reached-path x h =
-        let succ = importsOf normal recordModule recordKind recordTarget in
+        let succ = normalImportsOf normal recordModule recordKind recordTarget in
         let a = all-reach succ (length normal) (λ m y l. imports-in m y) (root ∷ []) start x h in
         subst (λ (r : ℕ). Reach succ r x) (List·Memᴰ·eq-of-singleton (a .1)) (a .2)
 
-    pub path-reached : (x : ℕ) → Reach (importsOf normal recordModule recordKind recordTarget) root x → List·Memᴰ x (reached normal recordModule recordKind recordTarget root)
+    pub path-reached : (x : ℕ) → Reach (normalImportsOf normal recordModule recordKind recordTarget) root x → List·Memᴰ x (walkedFrom normal recordModule recordKind recordTarget root)
     unfolding ReachAny
-    path-reached x p = reach-all (importsOf normal recordModule recordKind recordTarget) (length normal) (λ m y l. imports-in m y) (root ∷ []) start x (root, List·Memᴰ·head refl, p)
+    path-reached x p = reach-all (normalImportsOf normal recordModule recordKind recordTarget) (length normal) (λ m y l. imports-in m y) (root ∷ []) start x (root, List·Memᴰ·head refl, p)
 
 module _ (normal included recordModule recordKind recordTarget : List ℕ) (root : ℕ) where
   abbrev list : List ℕ
   list = expected normal included recordModule recordKind recordTarget root
 
-  expected-normal : isNormal normal root ≡ true → list ≡ keep (flagged included) (reached normal recordModule recordKind recordTarget root)
+  expected-normal : isNormal normal root ≡ true → list ≡ keep (flagged included) (walkedFrom normal recordModule recordKind recordTarget root)
   unfolding expected
   expected-normal e = rw e
 
@@ -79,16 +70,16 @@ module _ (normal included recordModule recordKind recordTarget : List ℕ) (root
   unfolding Distinct
   expected-distinct =
       ⊎-elim
-      (λ e. subst Distinct (sym (expected-normal e)) (distinct-keep (flagged included) (reached normal recordModule recordKind recordTarget root) (order-distinct (importsOf normal recordModule recordKind recordTarget) everywhere (length normal) (root ∷ []))))
+      (λ e. subst Distinct (sym (expected-normal e)) (distinct-keep (flagged included) (walkedFrom normal recordModule recordKind recordTarget root) (order-distinct (normalImportsOf normal recordModule recordKind recordTarget) everywhere (length normal) (root ∷ []))))
       (λ e. subst Distinct (sym (expected-external e)) tt)
       (both (isNormal normal root))
 
   -- there are no more than modules
   pub expected-length : length list ≤ length normal
   expected-length =
-      let o = order-length (importsOf normal recordModule recordKind recordTarget) everywhere (length normal) (root ∷ []) in
+      let o = order-length (normalImportsOf normal recordModule recordKind recordTarget) everywhere (length normal) (root ∷ []) in
       ⊎-elim
-      (λ e. rw (expected-normal e) (omega (arith, o, length-keep (flagged included) (reached normal recordModule recordKind recordTarget root))))
+      (λ e. rw (expected-normal e) (omega (arith, o, length-keep (flagged included) (walkedFrom normal recordModule recordKind recordTarget root))))
       (λ e. rw (expected-external e) (omega arith))
       (both (isNormal normal root))
 
@@ -96,7 +87,7 @@ module _ (normal included recordModule recordKind recordTarget : List ℕ) (root
   pub expected-in : (x : ℕ) → List·Memᴰ x list → x < length normal
   expected-in x h =
       ⊎-elim
-      (λ e. order-met (importsOf normal recordModule recordKind recordTarget) everywhere (length normal) (root ∷ []) x (mem-keep (flagged included) (reached normal recordModule recordKind recordTarget root) (subst (List·Memᴰ x) (expected-normal e) h) .0) .0)
+      (λ e. order-met (normalImportsOf normal recordModule recordKind recordTarget) everywhere (length normal) (root ∷ []) x (mem-keep (flagged included) (walkedFrom normal recordModule recordKind recordTarget root) (subst (List·Memᴰ x) (expected-normal e) h) .0) .0)
       (λ e. absurd (List·Memᴰ·not-nil (subst (List·Memᴰ x) (expected-external e) h)))
       (both (isNormal normal root))
 
@@ -104,13 +95,13 @@ module _ (normal included recordModule recordKind recordTarget : List ℕ) (root
   pub record Member (x : ℕ) : Type 0 where
     pub rooted : isNormal normal root ≡ true
     pub listed : flagged included x ≡ true
-    pub path : Reach (importsOf normal recordModule recordKind recordTarget) root x
+    pub path : Reach (normalImportsOf normal recordModule recordKind recordTarget) root x
 
   pub expected-member : (x : ℕ) → List·Memᴰ x list → Member x
   expected-member x h =
       ⊎-elim
       (λ e.
-      let k = mem-keep (flagged included) (reached normal recordModule recordKind recordTarget root) (subst (List·Memᴰ x) (expected-normal e) h) in
+      let k = mem-keep (flagged included) (walkedFrom normal recordModule recordKind recordTarget root) (subst (List·Memᴰ x) (expected-normal e) h) in
       record { rooted = e; listed = k .1; path = reached-path normal recordModule recordKind recordTarget root e x (k .0) })
       (λ e. absurd (List·Memᴰ·not-nil (subst (List·Memᴰ x) (expected-external e) h)))
       (both (isNormal normal root))
@@ -118,4 +109,4 @@ module _ (normal included recordModule recordKind recordTarget : List ℕ) (root
   pub member-expected : (x : ℕ) → Member x → List·Memᴰ x list
   member-expected x m =
       subst (List·Memᴰ x) (sym (expected-normal (m .rooted)))
-      (keep-mem (flagged included) (reached normal recordModule recordKind recordTarget root) (path-reached normal recordModule recordKind recordTarget root (m .rooted) x (m .path)) (m .listed))
+      (keep-mem (flagged included) (walkedFrom normal recordModule recordKind recordTarget root) (path-reached normal recordModule recordKind recordTarget root (m .rooted) x (m .path)) (m .listed))

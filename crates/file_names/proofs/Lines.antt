@@ -5,7 +5,7 @@ use mathlib.Core.Bool.{Bool, true, false, cond, _||_}
 use mathlib.Core.List.{List, [], _∷_, _++_}
 use Prim.Native.Nat.{ℕ, zero, suc}
 use lib.Dec.{eqb, eqb·zero-suc, eqb·suc-zero}
-use borrow.Author.Tests.{eq-eqb, ne-eqb}
+use borrow.Author.Tests.{ne-eqb}
 use Rattle.lists.specs.Words.{elem}
 use Rattle.lists.proofs.Laws.{any-append}
 use Rattle.file_names.specs.Asked.{opened, linesOf}

@@ -1,23 +1,23 @@
 -- The steps over an input ask for what its lines do, in whatever pieces it comes.
 -- Assumes nothing.
-use mathlib.Core.Path.{_≡_, refl, sym, ap, ap₂, subst, _∙_}
+use mathlib.Core.Path.{_≡_, refl, sym, ap, ap₂, _∙_}
 use mathlib.Core.Logic.{_⊎_, inl, inr, ⊎-elim}
-use mathlib.Core.Bool.{Bool, true, false, cond, not, _&&_, _||_}
+use mathlib.Core.Bool.{Bool, true, false, cond, _&&_}
 use mathlib.Core.List.{List, [], _∷_, _++_, foldl, foldl-append, flatten, append-assoc, append-nil}
-use Prim.Native.Nat.{ℕ, zero, suc, _+_, _-_, _≤_, _<_}
+use Prim.Native.Nat.{ℕ, zero, suc, _+_, _≤_, _<_}
 use native.Mathlib.Omega.{arith}
 use native.Mathlib.Numerals.{add-one}
 use lib.ListN.{length, take, set, length-append, length-set}
 use lib.Seq.{take-suc-set}
 use lib.Dec.{eqb, ltb, leb, eqb·suc-zero}
-use borrow.Author.Tests.{eq-eqb, ne-eqb, eqb-true, eqb-false, lt-ltb, le-ltb, le-leb, lt-leb, ltb-true, ltb-false}
+use borrow.Author.Tests.{ne-eqb, eqb-true, eqb-false, lt-ltb, le-ltb, le-leb, lt-leb, ltb-true, ltb-false}
 use Rattle.lists.specs.Words.{elem}
 use Rattle.lists.proofs.Laws.{both, and-out}
 use Rattle.file_names.specs.declared.Names.{Names}
 use Rattle.file_names.specs.Asked.{Asked, File, Refused, askedBy, opened, linesOf, inTurn, asked}
 use Rattle.file_names.specs.Steps.{begun, turnOfLine, turnAt, namesAfter, keptAfter, finished, due}
 use Rattle.file_names.specs.Whole.{Run, took, tookPiece, toldInAll, PiecesAskAsTheWhole}
-use Rattle.file_names.proofs.Lines.{Plain, none, more, plain-last, line-ends, line-last, zero-last}
+use Rattle.file_names.proofs.Lines.{Plain, none, plain-last, line-ends, line-last, zero-last}
 
 -- a line's length as it is known
 abbrev capped : ℕ → ℕ

@@ -1,7 +1,7 @@
 -- What the splitting of an input keeps and answers, byte by byte.
 -- Assumes nothing.
-use mathlib.Core.Bool.{Bool, true, false, cond, _||_}
-use mathlib.Core.List.{List, [], _∷_, _++_}
+use mathlib.Core.Bool.{true, false, cond, _||_}
+use mathlib.Core.List.{List, [], _∷_}
 use Prim.Native.Nat.{ℕ, _+_, _-_}
 use lib.ListN.{set, take}
 use lib.Dec.{eqb, ltb}

@@ -8,9 +8,9 @@ use mathlib.Core.Bool.{true}
 use mathlib.Core.List.{List, [], _∷_, _++_, append-assoc, append-nil}
 use lib.ListN.{length, getD}
 use Rattle.lists.specs.Words.{every}
+use Rattle.lists.proofs.Tests.{every-head}
 use Rattle.tables.specs.Project.{Project, project}
 use Rattle.form.specs.Form.{section, sections, names, lists, render, even, hasText, Renders}
-use Rattle.form.proofs.Lists.{every-head}
 use Rattle.form.proofs.Rows.{section-once}
 
 -- lists of columns that are as many and as wide, none without a column

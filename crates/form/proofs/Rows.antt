@@ -10,11 +10,13 @@ use lib.ListN.{length, getD, length-map}
 use lib.Dec.{eqb, leb}
 use borrow.Author.Tests.{eqb-true, leb-true}
 use Rattle.lists.specs.Words.{every, upTo}
+use Rattle.lists.proofs.Laws.{and-parts}
+use Rattle.lists.proofs.Tests.{every-head, every-at}
 use Rattle.tables.specs.Project.{missing}
 use Rattle.form.specs.Form.{bytes, field, row, transpose, rowCount, rowsOf, section, even}
 use Rattle.form.specs.Parse.{ok, bad, front, Fit, none, more}
 use Rattle.form.proofs.Fields.{front-field}
-use Rattle.form.proofs.Lists.{and-true, every-head, every-at, transpose-twice}
+use Rattle.form.proofs.Transposing.{transpose-twice}
 
 -- one field and the byte behind it
 pub field-once : (v u e f : ℕ) (x y : List ℕ) → v ≤ missing → u ≤ missing → e < 48 → f < 48 → field v ++ e ∷ x ≡ field u ++ f ∷ y
@@ -87,7 +89,7 @@ module _ (columns : List (List ℕ)) (e : even columns ≡ true) where
       → (eqb (length (getD columns k [])) (rowCount columns) ≡ true) × (every (λ (x : ℕ). leb x missing) (getD columns k []) ≡ true)
   unfolding even
   column-test k h =
-      and-true _ _ (every-at (λ (c : List ℕ). eqb (length c) (rowCount columns) && every (λ (x : ℕ). leb x missing) c) columns [] k e h)
+      and-parts _ _ (every-at (λ (c : List ℕ). eqb (length c) (rowCount columns) && every (λ (x : ℕ). leb x missing) c) columns [] e k h)
 
   pub column-length : (k : ℕ) → k < length columns → length (getD columns k []) ≡ rowCount columns
   column-length k h = eqb-true _ _ (column-test k h .0)
@@ -95,7 +97,7 @@ module _ (columns : List (List ℕ)) (e : even columns ≡ true) where
   pub column-fit : (k : ℕ) → k < length columns → Fit (getD columns k [])
   column-fit k h = every-fit _ (column-test k h .1)
 
-fit-at : (c : List ℕ) (i : ℕ) → Fit c → getD c i 0 ≤ missing
+pub fit-at : (c : List ℕ) (i : ℕ) → Fit c → getD c i 0 ≤ missing
 fit-at [] i f = omega arith
 fit-at (x ∷ xs) zero (more h f) = h
 fit-at (x ∷ xs) (suc i) (more h f) = fit-at xs i f

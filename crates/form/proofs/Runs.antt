@@ -1,12 +1,12 @@
 -- Stores one run after another.
 -- Assumes nothing.
-use Prim.Native.Nat.{ℕ, suc, _+_, _≤_}
+use Prim.Native.Nat.{ℕ, suc, _+_}
 use native.Mathlib.Omega.{arith}
 use native.Mathlib.Nat.{add-zero}
 use mathlib.Core.Path.{_≡_, sym, ap, ap₂, _∙_}
 use mathlib.Core.List.{List, [], _∷_, _++_}
-use lib.ListN.{length, drop, set}
-use lib.Seq.{sets, sets-eq, length-sets}
+use lib.ListN.{length, set}
+use lib.Seq.{sets, length-sets}
 
 -- a run and then another behind it is one run
 pub sets-append : (l : List ℕ) (i : ℕ) (xs ys : List ℕ) → sets (sets l i xs) (i + length xs) ys ≡ sets l i (xs ++ ys)
@@ -18,10 +18,6 @@ sets-append l i (x ∷ xs) ys =
 -- one element behind a run
 pub store-more : (d : List ℕ) (at : ℕ) (xs d′ : List ℕ) (i v : ℕ) → d′ ≡ sets d at xs → i ≡ length xs → set d′ (at + i) v ≡ sets d at (xs ++ v ∷ [])
 store-more d at xs d′ i v e l = ap₂ (λ (x : List ℕ) (k : ℕ). set x (at + k) v) e l ∙ sets-append d at xs (v ∷ [])
-
--- a run from place 0
-pub sets-front : (l xs : List ℕ) → length xs ≤ length l → sets l 0 xs ≡ xs ++ drop (length xs) l
-sets-front l xs h = sets-eq xs l 0 (omega arith) ∙ ap (λ (k : ℕ). xs ++ drop k l) {x = 0 + length xs} {y = length xs} (omega arith)
 
 -- stores that end alike began with lists of one length
 pub sets-size : (d d′ : List ℕ) (i j : ℕ) (xs ys : List ℕ) → sets d i xs ≡ sets d′ j ys → length d ≡ length d′

@@ -1,29 +1,27 @@
 -- How many circles there can be, for crates above.
 -- Assumes nothing.
-use mathlib.Core.Path.{_≡_, refl, sym, ap, subst, _∙_}
+use mathlib.Core.Path.{_≡_, sym, ap, subst, _∙_}
 use mathlib.Core.Logic.{⊎-elim}
-use mathlib.Core.Bool.{Bool, true, false}
-use mathlib.Core.List.{List, [], _∷_, _++_, flatMap, List·Memᴰ, List·Memᴰ·head, List·Memᴰ·tail, List·Memᴰ·eq-of-singleton, List·Memᴰ·cases-cons, List·Memᴰ·not-nil}
-use Prim.Native.Nat.{ℕ, zero, suc, _+_, _*_, _≤_, _<_}
+use mathlib.Core.List.{List, [], _∷_, flatMap, List·Memᴰ, List·Memᴰ·head, List·Memᴰ·tail, List·Memᴰ·eq-of-singleton, List·Memᴰ·cases-cons, List·Memᴰ·not-nil}
+use Prim.Native.Nat.{ℕ, suc, _+_, _≤_, _<_}
 use native.Mathlib.Omega.{arith}
 use lib.ListN.{length, getD, replicate, length-append}
 use lib.Dec.{eqb}
-use Rattle.lists.specs.Words.{elem, upTo, zeros}
+use Rattle.lists.specs.Words.{elem, upTo}
 use Rattle.lists.proofs.Laws.{both, length-keep, length-countFrom, mem-keep, mem-upTo}
+use Rattle.lists.proofs.Members.{mem-flat}
 use Rattle.walk.proofs.Visits.{zeros-replicate}
-use Rattle.tables.specs.Project.{Project, missing}
+use Rattle.tables.specs.Project.{Project}
 use Rattle.tables.specs.Readings.{modules, isStatic, anyTarget, rowTargets, rowsOf, targetsOf}
 use Rattle.tables.specs.Refusal.{rowLimit}
 use Rattle.tables.specs.Accepted.{Accepted}
+use Rattle.tables.proofs.Accepted.{below-mem}
 use Rattle.sort_steps.proofs.Rows.{few, led-in}
-use Rattle.circle_search.specs.Circles.{circles}
 use Rattle.circle_search.specs.inner.Search.{Held, onceAfter, once}
 use Rattle.circle_search.proofs.Searches.{searches-room}
 use Rattle.circle_search.proofs.Once.{circles-once}
 use Rattle.circle_search.proofs.States.{add, circles-found}
-use Rattle.circle_rows.proofs.Rows.{flat-mem}
 use Rattle.circle_gathering.proofs.Leading.{distinct-once}
-use Rattle.circle_gathering.proofs.Roots.{roots-in}
 use Rattle.import_circles.specs.OfProject.{walked, rootsOf, circlesOf}
 
 once-few : (seen xs : List ℕ) → length (onceAfter seen xs) ≤ length xs
@@ -57,7 +55,7 @@ module _ (p : Project) (ok : Accepted p) where
   unfolding walked targetsOf rowsOf
   walked-inside m y h =
       let f = rowTargets (isStatic (p .dynamic)) anyTarget (p .normal) (p .recordKind) (p .recordTarget) in
-      let a = flat-mem f y (rowsOf (p .recordModule) m) h in
+      let a = mem-flat f (rowsOf (p .recordModule) m) h in
       let r = mem-upTo {n = length (p .recordModule)} (mem-keep (λ (row : ℕ). eqb (getD (p .recordModule) row 0) m) (upTo (length (p .recordModule))) (a .1) .0) in
       led-in (p .dynamic) (p .normal) (p .recordKind) (p .recordTarget) (a .0) (modules p) y (ok .values .recordTarget) (omega (arith, r, ok .sizes .recordTarget))
       (few (p .dynamic) (p .normal) (p .recordKind) (p .recordTarget) (a .0) (λ (l : List ℕ). List·Memᴰ y l → l ≡ y ∷ []) (λ z. absurd (List·Memᴰ·not-nil z)) (λ t z. ap (λ (x : ℕ). x ∷ []) (sym (List·Memᴰ·eq-of-singleton z))) (a .2))
@@ -65,7 +63,7 @@ module _ (p : Project) (ok : Accepted p) where
   -- each root is a module
   pub roots-inside : (y : ℕ) → List·Memᴰ y (rootsOf p) → y < modules p
   unfolding rootsOf
-  roots-inside y h = ⊎-elim (λ q. subst (λ (x : ℕ). x < modules p) (sym q) (ok .values .runtime)) (λ q. roots-in (modules p) (p .entry) (ok .values .entry) y q) (List·Memᴰ·cases-cons h)
+  roots-inside y h = ⊎-elim (λ q. subst (λ (x : ℕ). x < modules p) (sym q) (ok .values .runtime)) (λ q. below-mem (p .entry) (ok .values .entry) q) (List·Memᴰ·cases-cons h)
 
   roots-few : length (rootsOf p) ≤ rowLimit + 1
   unfolding rootsOf

@@ -1,32 +1,21 @@
-// The operations for C and Rust, on a project that is lent as a table. The answer is the count, or 2^32 plus the number of a refusal; of the check of a plan
-// 0, the number of a broken condition times 2^16 plus the module, or 2^32 plus the number of a refusal; of a step of a tried load its module times 2^16 plus
-// its host, 2^31 where none is left, or 2^32 plus the number of a refusal.
+// The operations for C and Rust, on a project that is lent as a table. The answers are numbers, as `answer_codes` says.
 ghost use mathlib.Core.Path.{_≡_};
 ghost use mathlib.Core.List.{[]};
-ghost use Rattle.table.specs.Table.{lent, answer};
+ghost use Rattle.table.specs.Table.{lent};
 ghost use Rattle.arrangement.specs.OfProject.{lentNamed};
-ghost use Rattle.jolmuqter.specs.Calls.{Sort, Circles, Expected, Entries, Actual, Labels, Reach, OrderRisk, CycleRisk, Plan, Whole, Grounds, Share, Line, Page, Arrange, Load, Refusal};
+ghost use Rattle.answer_codes.specs.Calls.{Sort, Circles, Expected, Entries, Actual, Labels, Reach, OrderRisk, CycleRisk, Plan, Takings, Whole, Grounds, Share, Line, Page, Arrange, Load, Refusal};
 ghost use Rattle.plan_check.specs.Promise.{judgement};
 ghost use Rattle.load_trial.specs.Promise.{loadStep};
-ghost use Rattle.jolmuqter.specs.Exported.{coded, codedJudgement, codedStep, Exported};
-use plan_conditions::Judgement;
-use planned_load::LoadStep;
+ghost use Rattle.answer_codes.specs.Exported.{codedJudgement, codedStep, Exported};
+use answer_codes::code;
+use answer_codes::judgement_code;
+use answer_codes::step_code;
+use answer_codes::tested;
 use refusal::refusal_number;
 use table::RECORD_KIND;
 use table::RECORD_MODULE;
 use table::RECORD_TARGET;
 use table::column;
-use tables::Answer;
-
-// An answer as a number.
-fn code(answer: Answer) -> u64
-    ensures { λ r. ⌜ r ≡ coded answer ⌝ }
-{
-    match answer {
-        Answer::Refused(n) => 4294967296 + n as u64,
-        Answer::Counted(c) => c as u64,
-    }
-}
 
 // The number of each module, and the sorted list.
 #[no_mangle]
@@ -203,15 +192,30 @@ pub extern "C" fn jolmuqter_plan_by_worklist<'a>(
     code(plan_by_worklist::plan_by_worklist(runtime, dynamic, bounds, columns, names, seeds, plan))
 }
 
-// What is said of a plan, as a number.
-fn judgement_code(judgement: Judgement) -> u64
-    ensures { λ r. ⌜ r ≡ codedJudgement judgement ⌝ }
+// That worklist: its modules in the order in which they are taken, and how many are listed after each number of takings.
+#[no_mangle]
+pub extern "C" fn jolmuqter_takings_from_seeds<'a>(
+    runtime: u32,
+    dynamic: u32,
+    bounds: &'a [u32],
+    columns: &'a [u32],
+    names: &'a [u8],
+    seeds: &[u32],
+    list: &mut [u32],
+    lengths: &mut [u32],
+) -> u64
+    ensures { λ r. ⌜ Exported (Takings (now (seeds .entry))) (lent runtime dynamic (now (bounds .entry)) (now (columns .entry)) (now (names .entry))) (now (list .entry)) (now (lengths .entry)) r (now (list .exit)) (now (lengths .exit)) ⌝ }
 {
-    match judgement {
-        Judgement::Accepted => 0,
-        Judgement::Broken(condition, module) => condition as u64 * 65536 + module as u64,
-        Judgement::Refused(n) => 4294967296 + n as u64,
-    }
+    code(takings_from_seeds::takings_from_seeds(
+        runtime,
+        dynamic,
+        bounds,
+        columns,
+        names,
+        seeds,
+        list,
+        lengths,
+    ))
 }
 
 // Whether a plan made elsewhere is accepted with these seeds, or what it breaks first.
@@ -335,17 +339,6 @@ pub extern "C" fn jolmuqter_sort_chunk_modules<'a>(
     code(sort_chunk_modules::sort_chunk_modules(runtime, dynamic, bounds, columns, names, members))
 }
 
-// A step of a tried load as a number.
-fn step_code(step: LoadStep) -> u64
-    ensures { λ r. ⌜ r ≡ codedStep step ⌝ }
-{
-    match step {
-        LoadStep::Step(module, host) => module as u64 * 65536 + host as u64,
-        LoadStep::Done => 2147483648,
-        LoadStep::Refused(n) => 4294967296 + n as u64,
-    }
-}
-
 // A step of an analysed entry's load with a plan, by its number from 0.
 #[no_mangle]
 pub extern "C" fn jolmuqter_load_step<'a>(
@@ -389,16 +382,6 @@ pub extern "C" fn jolmuqter_load_run<'a>(
         steps,
         hosts,
     ))
-}
-
-// The answer to the tests alone.
-fn tested(number: u32) -> Answer
-    ensures { λ r. ⌜ r ≡ answer number 0 ⌝ }
-{
-    if number == 0 {
-        return Answer::Counted(0);
-    }
-    Answer::Refused(number)
 }
 
 // The test of the tables alone: 0 if every operation would go on.

@@ -2,3 +2,4 @@
 pub mod Puts
 pub mod Printing
 pub mod Members
+pub mod Answered

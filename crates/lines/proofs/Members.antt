@@ -1,44 +1,30 @@
 -- The members of a set of marks, listed one by one.
 -- Assumes nothing.
-use Prim.Native.Nat.{ℕ, zero, suc, _+_, _-_, _≤_, _<_}
+use Prim.Native.Nat.{ℕ, _+_, _-_, _≤_, _<_}
 use native.Mathlib.Omega.{arith}
 use native.Mathlib.Numerals.{add-one}
-use mathlib.Core.Path.{_≡_, refl, sym, ap, ap₂, _∙_}
-use mathlib.Core.Bool.{Bool, true, false, cond, not}
-use mathlib.Core.List.{List, [], _∷_, _++_}
-use lib.ListN.{length, getD, drop, set}
+use mathlib.Core.Path.{_≡_, sym, ap, _∙_}
+use mathlib.Core.Bool.{Bool, true, false, cond}
+use mathlib.Core.List.{List, [], _∷_}
+use lib.ListN.{length, getD, set}
 use lib.Seq.{sets}
 use borrow.Author.Tests.{le-leb, lt-leb}
-use lib.Dec.{leb}
-use Rattle.lists.specs.Words.{isZero, countFrom, upTo, keep, has}
-use Rattle.tables.specs.Answers.{numberOf, countOf, counted, after}
-use Rattle.tables.specs.declared.Answer.{Answer}
-use Rattle.tables.specs.declared.Answer.the-variants.{Refused, Counted}
-use Rattle.form.proofs.Lists.{Left, left-more, left-none}
+use Rattle.lists.specs.Words.{countFrom, upTo, keep, has}
+use Rattle.lists.proofs.Laws.{count-step, count-end, has-not, has-yes}
 use Rattle.form.proofs.Runs.{sets-size}
 use Rattle.lines.specs.Lines.{members, membersNumber}
-
-has-not : (marks : List ℕ) (i : ℕ) → getD marks i 0 ≡ 0 → has marks i ≡ false
-has-not marks i e = ap (λ (n : ℕ). not (isZero n)) e
-
-has-yes : (marks : List ℕ) (i : ℕ) → (getD marks i 0 ≡ 0 → ⊥) → has marks i ≡ true
-has-yes marks i n = go (getD marks i 0) n
-  where
-    go : (m : ℕ) → (m ≡ 0 → ⊥) → not (isZero m) ≡ true
-    go zero n = absurd (n refl)
-    go (suc m) n = refl
 
 -- n members below i have been listed: what is left to do gives the whole
 pub record Listing (marks out₀ out : List ℕ) (n i : ℕ) : Type 0 where
   pub below : i ≤ length marks
   pub few : n ≤ i
-  pub put : sets out n (keep (has marks) (Left i (length marks))) ≡ sets out₀ 0 (members marks)
-  pub count : n + length (keep (has marks) (Left i (length marks))) ≡ length (members marks)
+  pub put : sets out n (keep (has marks) (countFrom i (length marks - i))) ≡ sets out₀ 0 (members marks)
+  pub count : n + length (keep (has marks) (countFrom i (length marks - i))) ≡ length (members marks)
 
 module _ (marks out₀ : List ℕ) where
   pub listing : Listing marks out₀ out₀ 0 0
   listing =
-      let e : Left 0 (length marks) ≡ upTo (length marks) = ap (countFrom 0) {x = length marks - 0} {y = length marks} (omega arith) in
+      let e : countFrom 0 (length marks - 0) ≡ upTo (length marks) = ap (countFrom 0) {x = length marks - 0} {y = length marks} (omega arith) in
       record {
         below = omega arith;
         few = omega arith;
@@ -48,14 +34,14 @@ module _ (marks out₀ : List ℕ) where
 
   module _ (out : List ℕ) (n i : ℕ) (g : Listing marks out₀ out n i) where
     pub listing-size : length out ≡ length out₀
-    listing-size = sets-size out out₀ n 0 (keep (has marks) (Left i (length marks))) (members marks) (g .put)
+    listing-size = sets-size out out₀ n 0 (keep (has marks) (countFrom i (length marks - i))) (members marks) (g .put)
 
     module _ (h : i < length marks) where
       next : (b : Bool) → has marks i ≡ b
-          → keep (has marks) (Left i (length marks)) ≡ cond b (i ∷ keep (has marks) (Left (i + 1) (length marks))) (keep (has marks) (Left (i + 1) (length marks)))
+          → keep (has marks) (countFrom i (length marks - i)) ≡ cond b (i ∷ keep (has marks) (countFrom (i + 1) (length marks - (i + 1)))) (keep (has marks) (countFrom (i + 1) (length marks - (i + 1))))
       next b e =
-          ap (keep (has marks)) (left-more i (length marks) h)
-          ∙ ap (λ (c : Bool). cond c (i ∷ keep (has marks) (Left (i + 1) (length marks))) (keep (has marks) (Left (i + 1) (length marks)))) e
+          ap (keep (has marks)) (count-step i (length marks) h)
+          ∙ ap (λ (c : Bool). cond c (i ∷ keep (has marks) (countFrom (i + 1) (length marks - (i + 1)))) (keep (has marks) (countFrom (i + 1) (length marks - (i + 1))))) e
 
       pub listing-passed : getD marks i 0 ≡ 0 → Listing marks out₀ out n (i + 1)
       listing-passed e =
@@ -73,13 +59,13 @@ module _ (marks out₀ : List ℕ) where
           record {
             below = omega arith;
             few = omega (arith, g .few);
-            put = ap (λ (k : ℕ). sets (set out n i) k (keep (has marks) (Left (i + 1) (length marks)))) (add-one n) ∙ ap (sets out n) (sym q) ∙ g .put;
+            put = ap (λ (k : ℕ). sets (set out n i) k (keep (has marks) (countFrom (i + 1) (length marks - (i + 1))))) (add-one n) ∙ ap (sets out n) (sym q) ∙ g .put;
             count = omega (arith, ap length q, g .count);
           }
 
     pub listing-end : length marks ≤ i → (n ≡ length (members marks)) × (out ≡ sets out₀ 0 (members marks))
     listing-end h =
-        let q : keep (has marks) (Left i (length marks)) ≡ [] = ap (keep (has marks)) (left-none i (length marks) h) in
+        let q : keep (has marks) (countFrom i (length marks - i)) ≡ [] = ap (keep (has marks)) (count-end i (length marks) h) in
         (omega (arith, ap length q, g .count), ap (sets out n) (sym q) ∙ g .put)
 
 -- the answers

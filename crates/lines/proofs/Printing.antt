@@ -3,18 +3,22 @@
 use Prim.Native.Nat.{ℕ, zero, suc, _+_, _/_, _%_, _≤_, _<_}
 use native.Mathlib.Omega.{arith}
 use native.Mathlib.Numerals.{add-one}
-use mathlib.Core.Path.{_≡_, refl, sym, ap, ap₂, _∙_}
+use mathlib.Core.Path.{_≡_, refl, sym, ap, _∙_}
 use mathlib.Core.Logic.{⊎-elim}
 use mathlib.Core.List.{List, [], _∷_, _++_, append-assoc, append-nil}
 use lib.ListN.{length, take, drop, getD, set, length-append, take-append-drop}
 use lib.Seq.{sets, take-suc, take-length}
 use borrow.Author.Tests.{lt-ltb, le-ltb, le-leb, lt-leb, eq-eqb, ne-eqb}
+use Rattle.lists.proofs.Fronts.{sets-front}
 use Rattle.tables.specs.Project.{missing}
 use Rattle.form.specs.Form.{spell, number, field, spaced, line}
 use Rattle.form.proofs.Fields.{split, number-short, number-long}
-use Rattle.form.proofs.Runs.{sets-append, sets-front}
-use Rattle.tables.specs.Answers.{counted, after}
+use Rattle.form.proofs.Runs.{sets-append}
+use Rattle.tables.specs.Answers.{after}
+use Rattle.tables.specs.declared.Answer.the-variants.{Refused, Counted}
+use Rattle.table.specs.Table.{answer}
 use Rattle.lines.specs.Lines.{lineOf, lineNumber, PutAt}
+use Rattle.lines.proofs.Answered.{refused-by, accepted-by}
 use Rattle.lines.proofs.Puts.{put-then}
 
 pub long-length : (n : ℕ) → 10 ≤ n → length (number n) ≡ length (number (n / 10)) + 1
@@ -120,13 +124,15 @@ put-whole d at word xs ys d₁ p d₂ q d₃ r d₄ t a b c e =
 
 -- the answers
 module _ (out word entry numbers : List ℕ) where
-  pub too-short : length out < length (lineOf word entry numbers) → 6 ≡ lineNumber out (lineOf word entry numbers)
+  too-short : length out < length (lineOf word entry numbers) → 6 ≡ lineNumber out (lineOf word entry numbers)
   too-short h = simp (lt-leb (length (lineOf word entry numbers)) (length out) h)
 
+  pub refused : length out < length (lineOf word entry numbers)
+      → (Refused 6 ≡ answer (lineNumber out (lineOf word entry numbers)) (length (lineOf word entry numbers))) × (out ≡ after (lineNumber out (lineOf word entry numbers)) out (lineOf word entry numbers))
+  refused h = refused-by (lineNumber out (lineOf word entry numbers)) (length (lineOf word entry numbers)) out (lineOf word entry numbers) 5 (too-short h)
+
   pub written : (out′ : List ℕ) (r : ℕ) → length (lineOf word entry numbers) ≤ length out → PutAt out 0 (lineOf word entry numbers) out′ r
-      → (0 ≡ lineNumber out (lineOf word entry numbers))
-      × ((r ≡ counted 0 (length (lineOf word entry numbers))) × (out′ ≡ after 0 out (lineOf word entry numbers)))
-  written out′ r h p = (
-    simp (le-leb (length (lineOf word entry numbers)) (length out) h),
-    (omega (arith, p .next), p .put ∙ sets-front out (lineOf word entry numbers) h),
-  )
+      → (Counted r ≡ answer (lineNumber out (lineOf word entry numbers)) (length (lineOf word entry numbers))) × (out′ ≡ after (lineNumber out (lineOf word entry numbers)) out (lineOf word entry numbers))
+  written out′ r h p =
+      accepted-by (lineNumber out (lineOf word entry numbers)) (length (lineOf word entry numbers)) out (lineOf word entry numbers) r out′
+      (simp (le-leb (length (lineOf word entry numbers)) (length out) h)) (omega (arith, p .next)) (p .put ∙ sets-front out (lineOf word entry numbers) h)

@@ -1,7 +1,8 @@
 // The writer of a result line, and the list of a set's members.
 ghost use mathlib.Core.Path.{_≡_};
 ghost use lib.ListN.{length};
-ghost use Rattle.tables.specs.Answers.{numberOf, countOf, counted, after};
+ghost use Rattle.tables.specs.Answers.{after};
+ghost use Rattle.table.specs.Table.{answer};
 ghost use Rattle.lines.specs.Lines.{lineOf, lineNumber, members, membersNumber};
 
 pub mod lines;
@@ -16,9 +17,8 @@ use tables::ModuleIdx;
 
 // Writes a result line from place 0: its word, the entry's number where it is an entry's line, the numbers.
 pub fn put_line(out: &mut [u8], word: &[u8], entry: &[u32], numbers: &[u32]) -> Answer
-    ensures { λ r. ⌜ numberOf r ≡ lineNumber (now (out .entry)) (lineOf (now (word .entry)) (now (entry .entry)) (now (numbers .entry))) ⌝ }
-    ensures { λ r. ⌜ countOf r ≡ counted (numberOf r) (length (lineOf (now (word .entry)) (now (entry .entry)) (now (numbers .entry)))) ⌝ }
-    ensures { λ r. ⌜ now (out .exit) ≡ after (numberOf r) (now (out .entry)) (lineOf (now (word .entry)) (now (entry .entry)) (now (numbers .entry))) ⌝ }
+    ensures { λ r. ⌜ r ≡ answer (lineNumber (now (out .entry)) (lineOf (now (word .entry)) (now (entry .entry)) (now (numbers .entry)))) (length (lineOf (now (word .entry)) (now (entry .entry)) (now (numbers .entry)))) ⌝ }
+    ensures { λ _. ⌜ now (out .exit) ≡ after (lineNumber (now (out .entry)) (lineOf (now (word .entry)) (now (entry .entry)) (now (numbers .entry)))) (now (out .entry)) (lineOf (now (word .entry)) (now (entry .entry)) (now (numbers .entry))) ⌝ }
 {
     if out.len() <= word.len() {
         return Answer::Refused(6);
@@ -39,9 +39,8 @@ pub fn put_line(out: &mut [u8], word: &[u8], entry: &[u32], numbers: &[u32]) -> 
 
 // Lists the members of a set of marks, rising, from place 0.
 pub fn rising(marks: &[u32], out: &mut [u32]) -> Answer
-    ensures { λ r. ⌜ numberOf r ≡ membersNumber (now (marks .entry)) (now (out .entry)) ⌝ }
-    ensures { λ r. ⌜ countOf r ≡ counted (numberOf r) (length (members (now (marks .entry)))) ⌝ }
-    ensures { λ r. ⌜ now (out .exit) ≡ after (numberOf r) (now (out .entry)) (members (now (marks .entry))) ⌝ }
+    ensures { λ r. ⌜ r ≡ answer (membersNumber (now (marks .entry)) (now (out .entry))) (length (members (now (marks .entry)))) ⌝ }
+    ensures { λ _. ⌜ now (out .exit) ≡ after (membersNumber (now (marks .entry)) (now (out .entry))) (now (out .entry)) (members (now (marks .entry))) ⌝ }
 {
     if ModuleIdx::LARGEST as usize + 1 < marks.len() {
         return Answer::Refused(1);

@@ -1,7 +1,7 @@
 // For crates above: a result line, written into a slice of bytes.
 ghost use mathlib.Core.Path.{_≡_};
 ghost use mathlib.Core.List.{[], _∷_};
-ghost use Prim.Native.Nat.{ℕ, _+_, _≤_, _<_};
+ghost use Prim.Native.Nat.{_+_, _≤_, _<_};
 ghost use lib.ListN.{length};
 ghost use Rattle.form.specs.Form.{number, field, spaced};
 ghost use Rattle.lines.specs.Lines.{RoomIs, PutAt};

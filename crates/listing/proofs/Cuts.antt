@@ -9,7 +9,7 @@ use mathlib.Core.List.{List, [], _∷_, _++_, append-assoc, flatten}
 use lib.ListN.{length, getD, drop, length-append, length-map}
 use lib.Seq.{sets, drop-cons}
 use Rattle.lists.specs.Words.{upTo}
-use Rattle.form.proofs.Lists.{count-length}
+use Rattle.lists.proofs.Laws.{length-countFrom}
 use Rattle.form.proofs.Runs.{sets-append, sets-size}
 use Rattle.text_rows.specs.inner.Cells.{widths}
 use Rattle.text_rows.proofs.Names.{narrow}
@@ -147,10 +147,10 @@ module _ (rows ends values₀ bounds₀ : List ℕ) where
           rest = cut (drop (l + 1) widths) (drop (l + 1) ends) e rows
 
           count : length now ≡ w
-          count = length-map (upTo w) (λ (k : ℕ). stripe w (first + k) ((e - first) / w) rows) ∙ count-length 0 w
+          count = length-map (upTo w) (λ (k : ℕ). stripe w (first + k) ((e - first) / w) rows) ∙ length-countFrom 0 w
 
           place : to′ ≡ to + length (flatten now)
-          place = et ∙ ap (λ (i : ℕ). to + i) (ap (λ (i : ℕ). (e - first) / w * i) (sym (count-length 0 w)) ∙ sym (stripes-size w first ((e - first) / w) rows (upTo w)))
+          place = et ∙ ap (λ (i : ℕ). to + i) (ap (λ (i : ℕ). (e - first) / w * i) (sym (length-countFrom 0 w)) ∙ sym (stripes-size w first ((e - first) / w) rows (upTo w)))
 
           whole : cut (drop l widths) (drop l ends) first rows ≡ now ++ rest
           whole =

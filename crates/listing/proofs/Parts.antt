@@ -10,11 +10,11 @@ use lib.ListN.{length, getD, take, length-append}
 use lib.Seq.{drop-at, take-append-seam}
 use borrow.Author.Tests.{eq-eqb, le-leb}
 use Rattle.lists.specs.Words.{upTo}
+use Rattle.lists.proofs.Maps.{map-upTo-cong, map-upTo-self}
 use Rattle.tables.specs.Project.{Project, project}
 use Rattle.tables.specs.Refusal.{rises}
 use Rattle.table.specs.Table.{part, columnAt, table, boundsFit}
 use Rattle.table.proofs.Laws.{column-part}
-use Rattle.form.proofs.Lists.{places, upTo-same}
 use Rattle.listing.specs.Reading.{columnsOf, valuesOf, boundsOf, tails}
 use Rattle.listing.proofs.Cuts.{tails-length}
 
@@ -58,9 +58,9 @@ module _ (p : Project) where
   columns-of : map (columnAt (boundsOf p) (valuesOf p)) (upTo 34) ≡ columnsOf p
   unfolding flatten
   columns-of =
-      upTo-same (columnAt (boundsOf p) (valuesOf p)) (λ (k : ℕ). getD (columnsOf p) k []) 34
+      map-upTo-cong (columnAt (boundsOf p) (valuesOf p)) (λ (k : ℕ). getD (columnsOf p) k []) 34
       (λ k h. ap (λ (v : List ℕ). columnAt (boundsOf p) v k) (sym (append-nil (valuesOf p))) ∙ column-of (columnsOf p) 0 [] [] k refl h)
-      ∙ places [] (columnsOf p)
+      ∙ map-upTo-self [] (columnsOf p)
 
   pub table-of : table (p .runtime) (p .dynamic) (boundsOf p) (valuesOf p) ≡ p
   unfolding table flatten

@@ -9,15 +9,17 @@ use mathlib.Core.List.{List, [], _∷_, _++_, append-nil, map, flatten}
 use lib.ListN.{length, getD, drop, length-append, length-drop, length-map}
 use lib.Seq.{sets, drop-length, drop-cons}
 use Rattle.lists.specs.Words.{upTo, every}
+use Rattle.lists.proofs.Tests.{every-head}
+use Rattle.lists.proofs.Maps.{map-upTo-self}
+use Rattle.lists.proofs.Fronts.{sets-front}
 use Rattle.tables.specs.Project.{Project}
 use Rattle.form.specs.Form.{transpose, rowCount, rowsOf, sections, names, lists, render, even, hasText}
-use Rattle.form.proofs.Lists.{every-head, places, transpose-length}
 use Rattle.form.proofs.Rows.{Rows, column-length, even-rows}
 use Rattle.form.proofs.Injective.{Alike, sections-once, projectOf}
 use Rattle.form.proofs.Injective as form
-use Rattle.form.proofs.Runs.{sets-front}
+use Rattle.form.proofs.Transposing.{transpose-length}
 use Rattle.named_form.specs.NamedForm.{NameList, nameSection, listFits, RendersNamed}
-use Rattle.name_list.specs.Lying.{LiesIn, NamesLie}
+use Rattle.name_list.specs.Lying.{NamesLie}
 use Rattle.name_list.specs.declared.Found.{Found}
 use Rattle.name_list.specs.declared.Found.the-variants.{Names, Broken}
 use Rattle.text_rows.specs.inner.Cells.{widths, heads, texts, Wholes, stops}
@@ -71,7 +73,7 @@ spelt-out : (i : ℕ) (ws : List ℕ) (cs ds : List (List (List ℕ))) → Shape
 spelt-out i [] cs [] no-list e = refl
 spelt-out i (w ∷ ws) cs (d ∷ ds) (a-list h l s) e =
     ap₂ (λ (x : List (List ℕ)) (xs : List (List (List ℕ))). x ∷ xs)
-    (ap₂ (λ (x : List (List ℕ)) (n : ℕ). map (λ (k : ℕ). getD x k []) (upTo n)) first (sym l) ∙ places [] d)
+    (ap₂ (λ (x : List (List ℕ)) (n : ℕ). map (λ (k : ℕ). getD x k []) (upTo n)) first (sym l) ∙ map-upTo-self [] d)
     (spelt-out (suc i) ws cs ds s others)
   where
     inside : i < length cs

@@ -9,7 +9,7 @@ use mathlib.Core.List.{List, [], _∷_, _++_, flatten}
 use lib.ListN.{length, getD, set}
 use lib.Seq.{sets}
 use Rattle.lists.specs.Words.{countFrom, upTo}
-use Rattle.form.proofs.Lists.{Left, left-more, left-none}
+use Rattle.lists.proofs.Laws.{count-step, count-end}
 use Rattle.form.proofs.Runs.{sets-append, store-more, sets-size}
 use Rattle.listing.specs.inner.Columns.{stripe, stripes}
 use Rattle.listing.specs.Reading.{tails}
@@ -49,13 +49,13 @@ stripe-inside first w n k r limit hk hr h =
 pub record Spreading (rows values₀ bounds₀ : List ℕ) (first w n to j : ℕ) (values bounds : List ℕ) (k at : ℕ) : Type 0 where
   pub below : k ≤ w
   pub place : at ≡ to + k * n
-  pub put : sets values at (flatten (stripes w first n rows (Left k w))) ≡ sets values₀ to (flatten (stripes w first n rows (upTo w)))
-  pub noted : sets bounds (j + k + 1) (tails at (stripes w first n rows (Left k w))) ≡ sets bounds₀ (j + 1) (tails to (stripes w first n rows (upTo w)))
+  pub put : sets values at (flatten (stripes w first n rows (countFrom k (w - k)))) ≡ sets values₀ to (flatten (stripes w first n rows (upTo w)))
+  pub noted : sets bounds (j + k + 1) (tails at (stripes w first n rows (countFrom k (w - k)))) ≡ sets bounds₀ (j + 1) (tails to (stripes w first n rows (upTo w)))
 
 module _ (rows values₀ bounds₀ : List ℕ) (first w n to j : ℕ) where
   pub spreading : Spreading rows values₀ bounds₀ first w n to j values₀ bounds₀ 0 to
   spreading =
-      let e : Left 0 w ≡ upTo w = ap (countFrom 0) {x = w - 0} {y = w} (omega arith) in
+      let e : countFrom 0 (w - 0) ≡ upTo w = ap (countFrom 0) {x = w - 0} {y = w} (omega arith) in
       record {
         below = omega arith;
         place = omega (arith, zero-mul n);
@@ -67,7 +67,7 @@ module _ (rows values₀ bounds₀ : List ℕ) (first w n to j : ℕ) where
     pub spread-sizes : (length values ≡ length values₀) × (length bounds ≡ length bounds₀)
     spread-sizes =
         let all : List (List ℕ) = stripes w first n rows (upTo w) in
-        let left : List (List ℕ) = stripes w first n rows (Left k w) in (
+        let left : List (List ℕ) = stripes w first n rows (countFrom k (w - k)) in (
           sets-size values values₀ at to (flatten left) (flatten all) (g .put),
           sets-size bounds bounds₀ (j + k + 1) (j + 1) (tails at left) (tails to all) (g .noted),
         )
@@ -83,9 +83,9 @@ module _ (rows values₀ bounds₀ : List ℕ) (first w n to j : ℕ) where
     unfolding stripes flatten tails
     spread-more values′ h e =
         let s : List ℕ = stripe w (first + k) n rows in
-        let ls : List (List ℕ) = stripes w first n rows (Left (k + 1) w) in
+        let ls : List (List ℕ) = stripes w first n rows (countFrom (k + 1) (w - (k + 1))) in
         let l : length s ≡ n = stripe-length w (first + k) n rows in
-        let q : stripes w first n rows (Left k w) ≡ s ∷ ls = ap (stripes w first n rows) (left-more k w h) in
+        let q : stripes w first n rows (countFrom k (w - k)) ≡ s ∷ ls = ap (stripes w first n rows) (count-step k w h) in
         record {
           below = omega arith;
           place = omega (arith, g .place, ap (λ (i : ℕ). i * n) (add-one k) ∙ suc-mul k n);
@@ -107,7 +107,7 @@ module _ (rows values₀ bounds₀ : List ℕ) (first w n to j : ℕ) where
         × (bounds ≡ sets bounds₀ (j + 1) (tails to (stripes w first n rows (upTo w))))
     unfolding stripes flatten tails
     spread-end h =
-        let e : Left k w ≡ [] = left-none k w h in
+        let e : countFrom k (w - k) ≡ [] = count-end k w h in
         let q : k ≡ w = omega (arith, g .below) in (
           g .place ∙ ap (λ (i : ℕ). to + i) (ap (λ (i : ℕ). i * n) q ∙ mul-comm w n),
           ap (λ (ks : List ℕ). sets values at (flatten (stripes w first n rows ks))) (sym e) ∙ g .put,

@@ -12,11 +12,12 @@ use lib.Seq.{getD-append-add}
 use lib.Dec.{eqb, leb}
 use borrow.Author.Tests.{eq-eqb, le-leb}
 use Rattle.lists.specs.Words.{upTo, every}
+use Rattle.lists.proofs.Tests.{every-head, every-cons}
+use Rattle.lists.proofs.Maps.{map-upTo-cong}
 use Rattle.tables.specs.Project.{missing}
 use Rattle.form.specs.Form.{bytes, transpose, rowCount, rowsOf, section, sections, even}
-use Rattle.form.specs.Parse.{Fit}
-use Rattle.form.proofs.Lists.{every-cons, every-head, upTo-same, transpose-length, transpose-twice}
-use Rattle.form.proofs.Rows.{Rows, no-row, a-row, even-rows, even-columns}
+use Rattle.form.proofs.Rows.{Rows, no-row, a-row, even-rows, even-columns, fit-at}
+use Rattle.form.proofs.Transposing.{transpose-length, transpose-twice}
 use Rattle.text_rows.specs.inner.Cells.{Whole, body, head, headsOf, listed, texts, Wholes, stops}
 use Rattle.text_rows.specs.inner.Cells as specs
 use Rattle.listing.specs.inner.Columns.{stripe, stripes, cut, Climbs, at-end, step}
@@ -61,13 +62,7 @@ module _ (w : ℕ) where
   rows-stripes : (t : List (List ℕ)) → Rows w t → (p : ℕ) (pre post : List ℕ) → p ≡ length pre
       → stripes w p (length t) (pre ++ (flatten t ++ post)) (upTo w) ≡ transpose w t
   unfolding stripes transpose
-  rows-stripes t s p pre post q = upTo-same _ _ w (λ k g. rows-stripe t s k (p + k) pre post g (omega (arith, q)))
-
--- what stands in a row
-fit-at : (r : List ℕ) (k : ℕ) → Fit r → getD r k 0 ≤ missing
-fit-at [] k f = omega arith
-fit-at (x ∷ xs) zero (Fit.more h f) = h
-fit-at (x ∷ xs) (suc k) (Fit.more h f) = fit-at xs k f
+  rows-stripes t s p pre post q = map-upTo-cong _ _ w (λ k g. rows-stripe t s k (p + k) pre post g (omega (arith, q)))
 
 -- the columns of rows
 column-fits : {w : ℕ} (k : ℕ) (t : List (List ℕ)) → Rows w t → every (λ (x : ℕ). leb x missing) (map (λ (r : List ℕ). getD r k 0) t) ≡ true

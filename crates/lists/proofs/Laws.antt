@@ -3,17 +3,17 @@
 use mathlib.Core.Path.{_≡_, refl, sym, ap, subst, fun-ext, _∙_}
 use mathlib.Core.Logic.{_⊎_, inl, inr, ⊎-elim}
 use mathlib.Core.Bool.{Bool, true, false, cond, not, _&&_, _||_, true≢false, false≢true}
-use mathlib.Core.List.{List, [], _∷_, _++_, map, List·Memᴰ, List·Memᴰ·append-cases, List·Memᴰ·head, List·Memᴰ·tail, List·Memᴰ·not-nil, List·Memᴰ·cases-cons, Memᴰ·append-left, Memᴰ·append-right}
+use mathlib.Core.List.{List, [], _∷_, _++_, map, List·Memᴰ, List·Memᴰ·append-cases, List·Memᴰ·head, List·Memᴰ·tail, List·Memᴰ·not-nil, List·Memᴰ·cases-cons}
 use Prim.Native.Nat.{ℕ, zero, suc, _+_, _-_, _≤_, _<_}
 use native.Mathlib.Nat.{not-suc-le-zero, eq-or-lt-of-le, zero-add, add-zero, add-suc, suc-add}
 use native.Mathlib.Numerals.{add-one}
 use native.Mathlib.Omega.{arith}
-use native.Mathlib.Decide.{ℕ-discrete, decLt}
-use lib.ListN.{length, getD, set, take, drop, replicate, replicate-append-replicate, length-append, length-map, List·getD-eq-default}
+use native.Mathlib.Decide.{decLt}
+use lib.ListN.{length, getD, set, take, drop, replicate, replicate-append-replicate, length-map, List·getD-eq-default}
 use lib.Seq.{ext-getD, drop-cons, set-at, append-snoc, take-suc}
-use lib.Dec.{eqb, ltb, leb}
-use borrow.Author.Tests.{eq-eqb, ne-eqb, eqb-true}
-use Rattle.lists.specs.Words.{isZero, countFrom, upTo, keep, any, every, twice, elem, has, zeros, ones, bit, marksFrom, marksOf, Distinct}
+use lib.Dec.{eqb}
+use borrow.Author.Tests.{eq-eqb, eqb-true}
+use Rattle.lists.specs.Words.{isZero, countFrom, upTo, keep, any, every, elem, has, zeros, ones, bit, marksFrom, marksOf, Distinct}
 
 -- tests
 
@@ -70,6 +70,17 @@ countFrom-append i zero b = ap (λ (j : ℕ). countFrom i j) (zero-add b) ∙ ap
 countFrom-append i (suc a) b =
     ap (λ (j : ℕ). countFrom i j) (suc-add a b) ∙ ap (λ (l : List ℕ). i ∷ l) (countFrom-append (suc i) a b ∙ ap (λ (j : ℕ). countFrom (suc i) a ++ countFrom j b) (suc-add i a ∙ sym (add-suc i a)))
 
+-- a run from i to the end, by its first
+pub count-step : (i end : ℕ) → i < end → countFrom i (end - i) ≡ i ∷ countFrom (i + 1) (end - (i + 1))
+count-step i end h =
+    let n : end - i ≡ suc (end - (i + 1)) = omega arith in
+    rw (n, add-one)
+
+pub count-end : (i end : ℕ) → end ≤ i → countFrom i (end - i) ≡ []
+count-end i end h =
+    let n : end - i ≡ zero = omega arith in
+    rw n
+
 pub mem-countFrom : {x : ℕ} (i n : ℕ) → List·Memᴰ x (countFrom i n) → (i ≤ x) × (x < i + n)
 mem-countFrom i zero h = absurd (List·Memᴰ·not-nil h)
 mem-countFrom i (suc n) h = ⊎-elim (λ e. (omega arith, omega arith)) (λ t. let r = mem-countFrom (suc i) n t in (omega arith, omega arith)) (List·Memᴰ·cases-cons h)
@@ -84,11 +95,6 @@ mem-upTo {x} {n} h = let r = mem-countFrom zero n h in omega arith
 
 pub upTo-mem : {x n : ℕ} → x < n → List·Memᴰ x (upTo n)
 upTo-mem {x} {n} l = countFrom-mem x zero n (omega arith) (omega arith)
-
-pub distinct-countFrom : (i n : ℕ) → Distinct (countFrom i n)
-unfolding Distinct
-distinct-countFrom i zero = tt
-distinct-countFrom i (suc n) = (λ h. let r = mem-countFrom (suc i) n h in omega arith, distinct-countFrom (suc i) n)
 
 module _ {A : Type 0} where
   -- those that pass
@@ -295,6 +301,14 @@ pub ones-out : (s : List ℕ) (i : ℕ) → i < length s → getD s i 0 ≡ 0 �
 ones-out s i l e =
     ap ones (drop-cons s i 0 l) ∙ ap (λ (x : ℕ). ones (x ∷ drop (suc i) s)) e ∙ ap (λ (j : ℕ). ones (drop j s)) (sym (add-one i))
 
+-- those that pass, from place i on
+
+pub length-keep-in : (f : ℕ → Bool) (xs : List ℕ) (i : ℕ) → i < length xs → f (getD xs i 0) ≡ true → length (keep f (drop i xs)) ≡ suc (length (keep f (drop (i + 1) xs)))
+length-keep-in f xs i l e = rw (add-one, drop-cons xs i 0, e)
+
+pub length-keep-out : (f : ℕ → Bool) (xs : List ℕ) (i : ℕ) → i < length xs → f (getD xs i 0) ≡ false → length (keep f (drop i xs)) ≡ length (keep f (drop (i + 1) xs))
+length-keep-out f xs i l e = rw (add-one, drop-cons xs i 0, e)
+
 -- a mark that is not 0 is in, and one that is 0 is out
 pub mark-in : (x : ℕ) → (x ≡ 0 → ⊥) → not (isZero x) ≡ true
 mark-in zero k = absurd (k refl)
@@ -302,6 +316,12 @@ mark-in (suc x) k = refl
 
 pub mark-out : (x : ℕ) → x ≡ 0 → not (isZero x) ≡ false
 mark-out x e = ap (λ (y : ℕ). not (isZero y)) e
+
+pub has-yes : (s : List ℕ) (i : ℕ) → (getD s i 0 ≡ 0 → ⊥) → has s i ≡ true
+has-yes s i n = mark-in (getD s i 0) n
+
+pub has-not : (s : List ℕ) (i : ℕ) → getD s i 0 ≡ 0 → has s i ≡ false
+has-not s i e = mark-out (getD s i 0) e
 
 -- a list by a function of its places
 getD-map-from : (f : ℕ → ℕ) (i n k d : ℕ) → k < n → getD (map f (countFrom i n)) k d ≡ f (i + k)

@@ -1,15 +1,15 @@
 -- What the operations promise, in each of their cases.
 -- Assumes nothing.
-use mathlib.Core.Path.{_≡_, refl, sym, ap, _∙_}
+use mathlib.Core.Path.{_≡_, sym, _∙_}
 use mathlib.Core.Bool.{Bool, true, false, cond, _&&_}
-use mathlib.Core.List.{List, _++_}
-use Prim.Native.Nat.{ℕ, zero, suc, _≤_, _<_}
+use mathlib.Core.List.{List}
+use Prim.Native.Nat.{ℕ, _≤_, _<_}
 use native.Mathlib.Omega.{arith}
-use lib.ListN.{length, drop}
+use lib.ListN.{length}
 use lib.Dec.{eqb, leb}
 use borrow.Author.Tests.{eqb-true, le-leb, lt-leb}
-use Rattle.lists.specs.Words.{isZero, every}
-use Rattle.lists.proofs.Laws.{and-join, and-parts}
+use Rattle.lists.specs.Words.{every}
+use Rattle.lists.proofs.Laws.{and-parts}
 use Rattle.tables.specs.Project.{Project}
 use Rattle.tables.specs.Readings.{modules, isAnalysed}
 use Rattle.tables.specs.declared.Answer.the-variants as answers

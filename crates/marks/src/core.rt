@@ -20,7 +20,7 @@ pub fn value_at(table: &[u32], at: u32, other: u32) -> u32
     table[i]
 }
 
-// Raises the mark at a place to no less than `mark`. With no branch on the mark, which can't be foretold.
+// Raises the mark at a place to no less than `mark`. With no branch on the mark, which can't be predicted.
 pub fn raise(marks: &mut [u32], at: u32, mark: u32)
     requires { ⌜ at < length (now marks) ⌝ }
     ensures { λ _. ⌜ Raised at mark (now (marks .entry)) (now (marks .exit)) ⌝ }

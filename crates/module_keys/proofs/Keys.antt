@@ -1,8 +1,8 @@
 -- The groups case by case, and the keys that slices hold.
 -- Assumes nothing.
-use mathlib.Core.Path.{_≡_, refl, sym, ap, subst, _∙_}
-use mathlib.Core.Logic.{_⊎_, ⊎-elim}
-use mathlib.Core.Bool.{Bool, true, false, cond, not, _&&_}
+use mathlib.Core.Path.{_≡_, refl, sym, ap, _∙_}
+use mathlib.Core.Logic.{⊎-elim}
+use mathlib.Core.Bool.{true, false, cond, not}
 use mathlib.Core.List.{List, [], _∷_, List·Memᴰ, List·Memᴰ·not-nil}
 use Prim.Native.Nat.{ℕ, _≤_, _<_}
 use native.Mathlib.Omega.{arith}
@@ -14,12 +14,12 @@ use Rattle.lists.specs.Words.{isZero, upTo}
 use Rattle.lists.proofs.Laws.{both, keep-mem, upTo-mem}
 use Rattle.tables.specs.Lookups.{Rising, FirstRow}
 use Rattle.tables.specs.Readings.{rowsOf}
-use Rattle.load_order.proofs.Arranging.{rows-none}
-use Rattle.names.specs.Names.{linesOf, namesFit, turned, nameOf}
+use Rattle.tables.proofs.OwnerRows.{rows-none}
+use Rattle.names.specs.Names.{turned, nameOf}
 use Rattle.name_order.specs.Runtime.{isRuntime}
 use Rattle.name_order.specs.inner.Lines.{lineAt, Starts}
 use Rattle.merge_sort.specs.inner.Held.{heldKey}
-use Rattle.module_keys.specs.Keys.{recordless, isLeaf, groupBy, keyBy, keyOf}
+use Rattle.module_keys.specs.Keys.{recordless, groupBy, keyBy, keyOf}
 use Rattle.module_keys.specs.inner.Filling.{Filled, placeBy}
 
 -- the first row that is at least m tells whether m has a record

@@ -8,13 +8,14 @@ use native.Mathlib.Omega.{arith}
 use lib.ListN.{length, getD, length-append}
 use Rattle.lists.specs.Words.{keep, countFrom}
 use Rattle.lists.proofs.Laws.{mem-keep, mem-countFrom}
+use Rattle.lists.proofs.Members.{mem-flat}
+use Rattle.lists.proofs.Maps.{keep-flat}
 use Rattle.walk.specs.Walk.{St}
 use Rattle.walk.proofs.Going.{column-rows}
 use Rattle.tables.specs.Accepted.{Below}
 use Rattle.visit_steps.specs.declared.core.ActualOrderTraversal.{ActualOrderTraversal}
 use Rattle.visit_steps.specs.declared.core.Pending.{Pending}
 use Rattle.visit_steps.specs.inner.Steps.{leads, Filling, pending, inWay, chosen, Left}
-use Rattle.visit_steps.proofs.Leading.{mem-flat, keep-flat}
 use Rattle.module_visits.specs.inner.Visits.{Ready, executing, hosted}
 use Rattle.module_visits.proofs.Hosting.{Kept, host-visited, turns-kept, met-hosts}
 use Rattle.module_visits.proofs.Lending.{pending-more, pending-none}

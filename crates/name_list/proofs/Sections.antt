@@ -1,6 +1,6 @@
 -- What stands behind the other lists is the list `name`, nothing, or neither.
 -- Assumes nothing.
-use mathlib.Core.Path.{_≡_, refl, sym, ap, ap₂, _∙_}
+use mathlib.Core.Path.{_≡_, refl, sym, ap, _∙_}
 use mathlib.Core.Bool.{true, false, true≢false}
 use mathlib.Core.List.{List, [], _∷_, _++_, foldl}
 use Prim.Native.Nat.{ℕ, zero, suc, _+_, _-_, _≤_, _<_}
@@ -12,23 +12,19 @@ use borrow.Author.Tests.{eqb-true, ne-eqb}
 use Rattle.form.specs.Form.{bytes}
 use Rattle.names.specs.Names.{linesOf, ended, namesFit, namesIn, lineEnds}
 use Rattle.names.specs.inner.Lines.{widthAfter}
-use Rattle.names.proofs.Lines.{not-zero, in-broken, in-counted}
+use Rattle.names.proofs.Lines.{in-broken, in-counted, in-fit}
 use Rattle.named_form.specs.NamedForm.{NameList, without, list, nameSection, listFits}
 use Rattle.text_rows.specs.inner.Steps.{LineIs}
 use Rattle.text_rows.specs.declared.core.Place.the-variants.{At, Differs}
 use Rattle.name_list.specs.Lying.{NamesLie}
 use Rattle.name_list.specs.declared.Found.the-variants.{Names, Broken}
 
--- the form of no names, and of some
+-- the form of no names
 pub none-fit : (n : ℕ) (s : List ℕ) → length s ≡ 0 → eqb n 0 ≡ namesFit n s
 unfolding namesFit ended linesOf
 none-fit zero [] e = refl
 none-fit (suc n) [] e = rw (ne-eqb (suc n) 0 (λ q. omega arith), ne-eqb 0 (suc n) (λ q. omega arith))
 none-fit n (b ∷ s) e = absurd (omega arith)
-
-pub some-fit : (n : ℕ) (s : List ℕ) → (length s ≡ 0 → ⊥) → namesIn n s ≡ namesFit n s
-unfolding namesIn
-some-fit n s e = rw (not-zero (length s) (omega arith))
 
 -- names of the form are as many lines
 pub fit-lines : (n : ℕ) (s : List ℕ) → namesFit n s ≡ true → lineEnds s ≡ n
@@ -37,7 +33,7 @@ fit-lines n [] f = sym (eqb-true n 0 (none-fit n [] refl ∙ f))
 fit-lines n (b ∷ s) f = go (foldl widthAfter 0 (b ∷ s)) refl
   where
     all : namesIn n (b ∷ s) ≡ true
-    all = some-fit n (b ∷ s) (λ e. omega arith) ∙ f
+    all = in-fit n (b ∷ s) (λ e. omega arith) ∙ f
 
     go : (w : ℕ) → foldl widthAfter 0 (b ∷ s) ≡ w → lineEnds (b ∷ s) ≡ n
     go zero e = eqb-true (lineEnds (b ∷ s)) n (in-counted n (b ∷ s) (λ q. omega arith) e ∙ all)

@@ -1,20 +1,21 @@
 -- Lines by where they start.
 -- Assumes nothing.
-use mathlib.Core.Path.{_≡_, refl, sym, ap, subst, _∙_}
-use mathlib.Core.Logic.{_⊎_, ⊎-elim}
-use mathlib.Core.Bool.{Bool, true, false, cond, not, _&&_, _||_, true≢false, false≢true}
+use mathlib.Core.Path.{_≡_, refl, sym, ap, _∙_}
+use mathlib.Core.Logic.{⊎-elim}
+use mathlib.Core.Bool.{true, false, not, _&&_}
 use mathlib.Core.List.{List, [], _∷_}
 use Prim.Native.Nat.{ℕ, zero, suc, _+_, _≤_, _<_}
 use native.Mathlib.Nat.{add-zero, add-assoc}
 use native.Mathlib.Numerals.{add-one}
 use native.Mathlib.Omega.{arith}
 use native.Mathlib.Decide.{ℕ-discrete, decLt}
-use lib.ListN.{length, getD, set, drop, length-set, length-drop, drop-of-length-le, List·getD-eq-default}
+use lib.ListN.{length, getD, set, drop, length-drop, drop-of-length-le, List·getD-eq-default}
 use lib.Seq.{drop-cons, drop-drop, getD-drop, getD-set-same, getD-set-other}
 use lib.Dec.{eqb, ltb}
 use borrow.Author.Tests.{eqb-true, eqb-false, eq-eqb, ne-eqb}
 use Rattle.lists.specs.Words.{every}
 use Rattle.lists.proofs.Laws.{both, and-parts}
+use Rattle.lists.proofs.Tests.{or-false}
 use Rattle.names.specs.Names.{onto, linesOf, ended, isName, namesFit, startByte, turned}
 use Rattle.names.proofs.Lines.{some-lines}
 use Rattle.form.specs.Form.{bytes}
@@ -212,8 +213,4 @@ module _ (s : List ℕ) (i : ℕ) where
 
     pub runtime-prefix : (startByte (getD s i 10) ≡ 0 → ⊥) → begins (bytes "rolldown:") (lineAt s i) ≡ isRuntime (turned (lineAt s i))
     unfolding begins
-    runtime-prefix e = rw (line-more s i n, same-byte (getD s i 10) e, ne-eqb 0 (getD s i 10) (λ q. e (same-byte (getD s i 10) e ∙ sym q))) (sym (or-none (begins (bytes "rolldown:") (getD s i 10 ∷ lineAt s (i + 1)))))
-      where
-        or-none : (a : Bool) → (a || false) ≡ a
-        or-none true = refl
-        or-none false = refl
+    runtime-prefix e = rw (line-more s i n, same-byte (getD s i 10) e, ne-eqb 0 (getD s i 10) (λ q. e (same-byte (getD s i 10) e ∙ sym q))) (sym (or-false (begins (bytes "rolldown:") (getD s i 10 ∷ lineAt s (i + 1)))))

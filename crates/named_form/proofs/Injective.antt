@@ -1,14 +1,13 @@
 -- A text tells its table, whether it has a list of names, and the list.
 -- Assumes nothing.
 use mathlib.Core.Path.{_≡_, refl, sym, ap, _∙_}
-use mathlib.Core.Bool.{true}
 use mathlib.Core.List.{List, [], _∷_, _++_, append-nil}
 use Prim.Native.Nat.{ℕ}
 use native.Mathlib.Omega.{arith}
 use lib.ListN.{length, take, drop, length-append}
 use lib.Seq.{take-at}
 use Rattle.tables.specs.Project.{Project}
-use Rattle.form.specs.Form.{bytes, render, Renders}
+use Rattle.form.specs.Form.{render, Renders}
 use Rattle.form.proofs.Injective.{render-once}
 use Rattle.named_form.specs.NamedForm.{NameList, without, list, nameSection, RendersNamed}
 

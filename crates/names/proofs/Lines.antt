@@ -1,8 +1,8 @@
 -- The lines of a text: their form as a loop over the bytes finds it.
 -- Assumes nothing.
-use mathlib.Core.Path.{_≡_, refl, sym, ap, subst, _∙_}
-use mathlib.Core.Logic.{_⊎_, ⊎-elim}
-use mathlib.Core.Bool.{Bool, true, false, cond, _&&_, true≢false, false≢true}
+use mathlib.Core.Path.{_≡_, refl, sym, ap, _∙_}
+use mathlib.Core.Logic.{⊎-elim}
+use mathlib.Core.Bool.{Bool, true, false, cond, _&&_, false≢true}
 use mathlib.Core.List.{List, [], _∷_, _++_, foldl, append-assoc, append-nil}
 use Prim.Native.Nat.{ℕ, zero, suc, _+_, _≤_, _<_}
 use native.Mathlib.Numerals.{add-one}
@@ -10,10 +10,11 @@ use native.Mathlib.Omega.{arith}
 use native.Mathlib.Decide.{decLt}
 use lib.ListN.{length, getD, drop, length-append, drop-of-length-le}
 use lib.Seq.{drop-cons}
-use lib.Dec.{eqb, ltb, leb}
+use lib.Dec.{eqb, leb}
 use borrow.Author.Tests.{eqb-true, ne-eqb, leb-true, le-leb, lt-leb, le-ltb, lt-ltb}
-use Rattle.lists.specs.Words.{isZero, keep, every}
+use Rattle.lists.specs.Words.{isZero, every}
 use Rattle.lists.proofs.Laws.{both, and-parts, and-join, and-out, every-append}
+use Rattle.lists.proofs.Tests.{and-true}
 use Rattle.names.specs.Names.{onto, linesOf, ended, printable, isName, namesFit, namesIn, lineEnds}
 use Rattle.names.specs.inner.Lines.{widthAfter}
 
@@ -187,7 +188,7 @@ unfolding namesIn
 in-none n s e = rw e
 
 -- the test without its first case
-in-fit : (n : ℕ) (s : List ℕ) → (length s ≡ 0 → ⊥) → namesIn n s ≡ namesFit n s
+pub in-fit : (n : ℕ) (s : List ℕ) → (length s ≡ 0 → ⊥) → namesIn n s ≡ namesFit n s
 unfolding namesIn
 in-fit n s e = rw (not-zero (length s) (omega arith))
 
@@ -209,10 +210,6 @@ in-counted n s e w =
     sym
     (in-fit n s e
     ∙ rw (p .0, p .1) (and-true (eqb (length (linesOf s)) n) ∙ ap (λ (k : ℕ). eqb k n) (sym (lines-count s (p .0)))))
-  where
-    and-true : (a : Bool) → (a && true) ≡ a
-    and-true true = refl
-    and-true false = refl
 
 -- a fold over the bytes, one byte on
 pub fold-more : (f : ℕ → ℕ → ℕ) (w : ℕ) (s : List ℕ) (i : ℕ) → i < length s → foldl f w (drop i s) ≡ foldl f (f w (getD s i 0)) (drop (i + 1) s)

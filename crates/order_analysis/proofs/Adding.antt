@@ -1,19 +1,20 @@
 -- A root is an analysed entry, and a loop over roots adds what each puts.
 -- Assumes nothing.
 use mathlib.Core.Path.{_≡_, refl, sym, ap, subst, _∙_}
-use mathlib.Core.Bool.{Bool, true, false, cond, _||_}
+use mathlib.Core.Bool.{Bool, true, _||_}
 use mathlib.Core.List.{List, [], _∷_, List·Memᴰ, Memᴰ·of-map}
 use Prim.Native.Nat.{ℕ, _+_, _<_, _≤_}
 use lib.ListN.{length, getD, take}
 use lib.Seq.{take-all}
 use Rattle.lists.specs.Words.{upTo, keep, any}
 use Rattle.lists.proofs.Laws.{any-append, take-more, mem-keep, mem-upTo, mem-any}
+use Rattle.lists.proofs.Tests.{cond-id}
 use Rattle.tables.specs.Project.{Project}
 use Rattle.tables.specs.Readings.{rowsOf, analysed, analysedRow, isAnalysed}
+use Rattle.tables.proofs.OwnerRows.{rows-mem}
 use Rattle.risk_of_orders.specs.inner.Steps.{join}
 use Rattle.risk_of_orders.proofs.Joins.{join-none, join-cong, join-join}
 use Rattle.wrap_rules.specs.Plan.{roots}
-use Rattle.wrap_rules.proofs.Rows.{rows-mem}
 
 -- a root is an analysed entry
 pub root-analysed : (p : Project) (r : ℕ) → List·Memᴰ r (roots p) → isAnalysed p r ≡ true
@@ -33,11 +34,7 @@ module _ (put : ℕ → ℕ → Bool) (rootList old : List ℕ) where
   one-more k m l =
       ap (any (λ (root : ℕ). put root m)) (sym (take-more rootList k l))
       ∙ any-append (λ (root : ℕ). put root m) (take k rootList) (getD rootList k 0 ∷ [])
-      ∙ ap (λ (b : Bool). ofFirst k m || b) (last (put (getD rootList k 0) m))
-    where
-      last : (b : Bool) → cond b true false ≡ b
-      last true = refl
-      last false = refl
+      ∙ ap (λ (b : Bool). ofFirst k m || b) (cond-id (put (getD rootList k 0) m))
 
   pub roots-start : old ≡ join old (ofFirst 0)
   roots-start = join-none old (ofFirst 0) (λ i l. refl)

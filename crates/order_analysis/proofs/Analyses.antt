@@ -9,27 +9,26 @@ use native.Mathlib.Omega.{arith}
 use lib.ListN.{length, getD}
 use Rattle.lists.specs.Words.{elem, has, marksOf}
 use Rattle.lists.proofs.Laws.{iff-eq, and-parts, and-join, or-parts, or-left, or-right, any-mem, elem-mem, mem-elem, length-marksOf, has-marksOf, marksOf-has, marksOf-cong}
+use Rattle.lists.proofs.Members.{mem-at, getD-mem}
 use Rattle.walk.specs.Close.{close, Within, Bits}
+use Rattle.walk.proofs.Closes.{marksOf-bits}
 use Rattle.tables.specs.Project.{Project}
 use Rattle.tables.specs.Readings.{modules, entryChunkOf}
-use Rattle.tables.proofs.Accepted.{getD-mem}
 use Rattle.expected_order.specs.OfProject.{expectedOf}
-use Rattle.actual_order.specs.Actual.{actualOf, hostsOf}
+use Rattle.entry_run.specs.Actual.{actualOf, hostsOf}
 use Rattle.chunk_cycles.specs.Cycles.{labelsOf, reachesCycleOf}
 use Rattle.sensitivity.specs.Marks.{sensitive}
 use Rattle.eligibility.specs.Eligible.{eligible, eligibleMarks}
 use Rattle.risk_of_orders.proofs.Risks.{risk-eligible as of-orders}
-use Rattle.at_risk.specs.Entry.{riskOfEntry}
+use Rattle.at_risk.specs.Promise.{riskOfEntry}
 use Rattle.marks.specs.Steps.{looked, Owners}
 use Rattle.marks.proofs.Steps.{looked-has, has-looked, looked-bits}
 use Rattle.wrap_rules.specs.Plan.{roots, ordersOf, start, planFrom, asked}
 use Rattle.wrap_rules.specs.inner.Passes.{Marked}
-use Rattle.wrap_rules.proofs.Lists.{marksOf-bits}
-use Rattle.wrap_rules.proofs.Rows.{mem-at}
 use Rattle.wrap_rules.proofs.Sets.{eligible-has}
 use Rattle.plan_rounds.specs.inner.Rounds.{closed}
-use Rattle.wrap_plan.specs.Planned.{planOf}
-use Rattle.order_analysis.specs.Whole.{seedsOf, wholePlan}
+use Rattle.wrap_plan.specs.Promise.{planOf}
+use Rattle.order_analysis.specs.Promise.{seedsOf, wholePlan}
 use Rattle.order_analysis.specs.inner.Analysis.{risksOf}
 use Rattle.order_analysis.proofs.Seeds.{seed-test}
 

@@ -16,7 +16,7 @@ use Rattle.tables.proofs.Answering.{verdict-project, verdict-short, verdict-non
 use Rattle.table.specs.Table.{Lent}
 use Rattle.table.proofs.Laws.{answer-refused, answer-accepted}
 use Rattle.wrap_plan.proofs.Promise.{length-plan}
-use Rattle.order_analysis.specs.Whole.{seedsOf, wholePlan, wholeVerdict, WholeAnalysis}
+use Rattle.order_analysis.specs.Promise.{seedsOf, wholePlan, wholeVerdict, WholeAnalysis}
 
 -- a plan has a mark for each module
 pub length-whole : (p : Project) → length (wholePlan p) ≡ modules p

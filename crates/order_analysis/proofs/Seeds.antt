@@ -8,11 +8,11 @@ use Prim.Native.Nat.{ℕ}
 use lib.ListN.{length}
 use Rattle.lists.specs.Words.{upTo, any, elem, has}
 use Rattle.lists.proofs.Laws.{iff-eq, or-parts, or-left, or-right, any-mem, mem-any, elem-mem, mem-elem, mem-keep, keep-mem, upTo-mem, has-in}
+use Rattle.lists.proofs.Members.{mem-flat, flat-mem}
 use Rattle.tables.specs.Project.{Project}
-use Rattle.at_risk.specs.Entry.{riskOfEntry}
+use Rattle.at_risk.specs.Promise.{riskOfEntry}
 use Rattle.wrap_rules.specs.Plan.{roots}
-use Rattle.wrap_rules.proofs.Rows.{mem-flat, flat-mem}
-use Rattle.order_analysis.specs.Whole.{membersOfSet, seedsOf}
+use Rattle.order_analysis.specs.Promise.{membersOfSet, seedsOf}
 
 module _ (p : Project) where
   -- the members of an entry's risk are seeds

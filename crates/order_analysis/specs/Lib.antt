@@ -1,3 +1,3 @@
 -- The whole analysis at a project.
-pub mod Whole
+pub mod Promise
 pub mod inner

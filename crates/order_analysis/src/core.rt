@@ -11,7 +11,7 @@ ghost use Rattle.arrangement.specs.OfProject.{named};
 ghost use Rattle.table.specs.Places.{Places};
 ghost use Rattle.risk_of_orders.specs.inner.Steps.{join};
 ghost use Rattle.wrap_rules.specs.Plan.{roots as rootsOf};
-ghost use Rattle.order_analysis.specs.Whole.{wholePlan};
+ghost use Rattle.order_analysis.specs.Promise.{wholePlan};
 ghost use Rattle.order_analysis.specs.inner.Analysis.{risksOf, Made};
 use analysed_entries::core::find_entry;
 use arrangement::core::read_members;

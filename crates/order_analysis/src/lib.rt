@@ -1,6 +1,6 @@
 // The whole analysis.
 ghost use Rattle.arrangement.specs.OfProject.{lentNamed, lentNamedWith};
-ghost use Rattle.order_analysis.specs.Whole.{WholeAnalysis};
+ghost use Rattle.order_analysis.specs.Promise.{WholeAnalysis};
 use core::analyze_named;
 use current_columns::core::read_current;
 use refusal::refusal_number;

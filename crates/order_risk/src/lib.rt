@@ -1,9 +1,9 @@
 // The order risk of an entry.
 ghost use Rattle.arrangement.specs.OfProject.{lentNamed, lentNamedWith};
-ghost use Rattle.at_risk.specs.Entry.{EntryOrderRisk};
+ghost use Rattle.at_risk.specs.Promise.{EntryOrderRisk};
 use analysed_entries::core::find_entry;
-use core::mark_named_order_risk;
 use current_columns::core::read_current;
+use order_risk_marks::core::mark_named_order_risk;
 use refusal::refusal_number;
 use table::DEPENDENCY;
 use table::MEMBER;
@@ -16,8 +16,6 @@ use table::column;
 use table::rows;
 use tables::Answer;
 use tables::ModuleIdx;
-
-pub mod core;
 
 // The order risk of an analysed entry: 0 or 1 for each module, written to `marks` from place 0, of a table whose import records are lent beside it. The count
 // is that of the ones.

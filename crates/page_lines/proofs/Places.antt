@@ -1,14 +1,13 @@
 -- The difference of two numbers below 4096 is an i32, and the machine's bits of it say it back.
 -- Assumes nothing.
-use mathlib.Core.Path.{_≡_, refl, sym, _∙_, ap, subst}
+use mathlib.Core.Path.{_≡_, refl, ap}
 use mathlib.Core.Bool.{Bool, true, false, cond}
-use mathlib.Core.Logic.{⊎-elim}
-use Prim.Native.Nat.{ℕ, zero, suc, _+_, _-_, _<_, _≤_, _^_}
+use Prim.Native.Nat.{ℕ, zero, suc, _-_, _<_}
 use native.Mathlib.Omega.{arith}
-use lib.Dec.{lit<, ltb}
-use lib.IntN.{ℤ, natAbs, pos, negsuc, _-ℤ_, _+ℤ_, negℤ, subℕ}
+use lib.Dec.{ltb}
+use lib.IntN.{ℤ, natAbs, pos, negsuc, _-ℤ_}
 use lib.Signed.{mag, ltZ}
-use borrow.Author.Tests.{le-ltb, ltb-true}
+use borrow.Author.Tests.{ltb-true}
 use mir.Syntax.{w32}
 use mir.Val.{SFits, toZ, ofZ}
 use mir.ValLaws.{toZ-pos, toZ-ofZ}

@@ -1,15 +1,15 @@
 -- Members of an order that pass a test, listed one by one, and places of all of them.
 -- Assumes nothing.
-use mathlib.Core.Path.{_≡_, refl, sym, ap, subst, _∙_}
+use mathlib.Core.Path.{_≡_, refl, sym, ap, _∙_}
 use mathlib.Core.Bool.{Bool, true, false}
-use mathlib.Core.List.{List, [], _∷_, _++_, append-assoc}
-use Prim.Native.Nat.{ℕ, zero, suc, _+_, _≤_, _<_}
+use mathlib.Core.List.{List, [], _∷_, _++_}
+use Prim.Native.Nat.{ℕ, suc, _+_, _≤_, _<_}
 use native.Mathlib.Numerals.{add-one}
 use native.Mathlib.Omega.{arith}
 use lib.ListN.{length, getD, set, take, drop, take-append-drop, length-append, length-drop}
 use lib.Seq.{take-all, length-take-le}
 use Rattle.lists.specs.Words.{keep}
-use Rattle.lists.proofs.Laws.{keep-append, keep-all, length-keep, front-more}
+use Rattle.lists.proofs.Laws.{keep-append, length-keep, front-more}
 use Rattle.risk_of_orders.proofs.Running.{keep-in, keep-out}
 use Rattle.page_rows.specs.inner.Steps.{Listed}
 

@@ -1,31 +1,33 @@
 -- The written places are the places in the two orders.
 -- Assumes nothing.
-use mathlib.Core.Path.{_≡_, refl, sym, ap, ap₂, subst, _∙_}
+use mathlib.Core.Path.{_≡_, sym, ap, ap₂, subst, _∙_}
 use mathlib.Core.Logic.{⊎-elim}
 use mathlib.Core.Bool.{Bool, true, false, cond}
 use mathlib.Core.List.{List, [], _∷_, _++_, map, flatMap, List·Memᴰ, List·Memᴰ·append-cases}
-use Prim.Native.Nat.{ℕ, zero, suc, _+_, _*_, _≤_, _<_}
+use Prim.Native.Nat.{ℕ, _+_, _*_, _≤_, _<_}
 use native.Mathlib.Omega.{arith}
 use lib.ListN.{length, getD, take, replicate, List·getD-eq-default, length-append}
 use lib.Seq.{length-take-le, take-at}
 use lib.Dec.{eqb}
 use Rattle.lists.specs.Words.{has, elem}
 use Rattle.lists.proofs.Laws.{both, mem-keep}
+use Rattle.lists.proofs.Members.{getD-mem}
+use Rattle.lists.proofs.Distinct.{few-distinct}
+use Rattle.lists.proofs.Fronts.{take-zeros}
+use Rattle.lists.proofs.Maps.{flat-cong, map-cong}
 use Rattle.tables.specs.Refusal.{moduleLimit}
 use Rattle.tables.specs.Accepted.{Below}
-use Rattle.tables.proofs.Accepted.{getD-mem}
-use Rattle.risk_of_orders.specs.Risk.{place}
+use Rattle.tables.proofs.Accepted.{below-mem}
 use Rattle.risk_of_orders.specs.inner.Early.{rank}
 use Rattle.risk_of_orders.specs.inner.Steps.{Ranked, Order}
 use Rattle.form.proofs.Fields.{split}
 use Rattle.page_lines.specs.Line.{lineBy}
 use Rattle.page_rows.specs.Rows.{othersOf, modulesOf}
 use Rattle.page_rows.specs.inner.Steps.{Laid}
-use Rattle.page_rows.proofs.Places.{below-mem}
-use Rattle.page_rows.proofs.Once.{few-distinct, each-once, line-listed}
+use Rattle.page_rows.proofs.Once.{each-once}
 use Rattle.page_text.specs.Page.{placeIn, lineOf, lineAt, pageBy}
 use Rattle.page_text.specs.inner.Sheets.{lineWith, pageWith, numberedWith, Sheet, Orders}
-use Rattle.page_text.proofs.Lines.{lines-append, lines-cong, map-cong}
+use Rattle.page_text.proofs.Lines.{lines-append}
 
 -- a place, from 1, is at most the length
 pub place-within : (order : List ℕ) (m : ℕ) → placeIn order m ≤ length order
@@ -70,13 +72,13 @@ module _ (expected actual plan expectedPlaces actualPlaces : List ℕ) (o : Orde
 
     other-in : {x : ℕ} → List·Memᴰ x (othersOf expected actual) → x < length plan
     unfolding othersOf
-    other-in h = below-mem (length plan) actual (o .actualOrder .members) (mem-keep _ actual h .0)
+    other-in h = below-mem actual (o .actualOrder .members) (mem-keep _ actual h .0)
 
     pub other-rows : Below (length plan) others
     other-rows i l = other-in (subst (List·Memᴰ (getD others i 0)) is (getD-mem others i l))
 
     row-in : (x : ℕ) → List·Memᴰ x (expected ++ othersOf expected actual) → x < length plan
-    row-in x h = ⊎-elim (λ t. below-mem (length plan) expected expected-rows t) other-in (List·Memᴰ·append-cases expected h)
+    row-in x h = ⊎-elim (λ t. below-mem expected expected-rows t) other-in (List·Memᴰ·append-cases expected h)
 
     -- the lines fit where each module has room for one
     pub lines-fit : length expected + length others ≤ length plan
@@ -94,7 +96,7 @@ module _ (expected actual plan expectedPlaces actualPlaces : List ℕ) (o : Orde
     page-same =
         sym (lines-append (lineWith expectedPlaces actualPlaces plan) expected others)
         ∙ ap (λ (xs : List ℕ). flatMap (lineWith expectedPlaces actualPlaces plan) (expected ++ xs)) is
-        ∙ lines-cong (lineWith expectedPlaces actualPlaces plan) (lineOf expected actual (has plan)) (expected ++ othersOf expected actual) (λ x h. line-same x (row-in x h))
+        ∙ flat-cong (lineWith expectedPlaces actualPlaces plan) (lineOf expected actual (has plan)) (expected ++ othersOf expected actual) (λ x h. line-same x (row-in x h))
 
     pub numbered-same : (number : ℕ) → numberedWith expectedPlaces actualPlaces plan expected others number ≡ lineAt expected actual (has plan) number
     unfolding lineAt modulesOf
@@ -106,17 +108,12 @@ module _ (expected actual plan expectedPlaces actualPlaces : List ℕ) (o : Orde
 abbrev pub fresh : List ℕ
 fresh = replicate moduleLimit 0
 
-zeroed : (n k : ℕ) → n ≤ k → take {A = ℕ} n (replicate k 0) ≡ replicate n 0
-zeroed zero k h = refl
-zeroed (suc n) zero h = absurd (omega arith)
-zeroed (suc n) (suc k) h = ap (λ (l : List ℕ). 0 ∷ l) (zeroed n k (omega arith))
-
 module _ (expected actual : List ℕ) (n : ℕ) (o : Orders expected actual n) where
   pub fresh-length : length (take n fresh) ≡ n
   fresh-length = length-take-le n fresh (o .few)
 
   fresh-zeros : take n fresh ≡ replicate (length (take n fresh)) 0
-  fresh-zeros = zeroed n moduleLimit (o .few) ∙ ap (λ (k : ℕ). replicate k 0) (sym fresh-length)
+  fresh-zeros = take-zeros n moduleLimit (o .few) ∙ ap (λ (k : ℕ). replicate k 0) (sym fresh-length)
 
   pub lay-ready : (Order expected (length (take n fresh)) × Order actual (length (take n fresh)))
       × (((take n fresh ≡ replicate (length (take n fresh)) 0) × (take n fresh ≡ replicate (length (take n fresh)) 0))

@@ -1,6 +1,6 @@
 -- Lines in turn, each of 41 bytes, and a line by its number.
 -- Assumes nothing.
-use mathlib.Core.Path.{_≡_, refl, sym, ap, ap₂, _∙_}
+use mathlib.Core.Path.{_≡_, refl, sym, ap, _∙_}
 use mathlib.Core.List.{List, [], _∷_, _++_, map, flatMap, append-assoc, append-nil, List·Memᴰ, List·Memᴰ·head, List·Memᴰ·tail}
 use Prim.Native.Nat.{ℕ, zero, suc, _+_, _*_, _-_, _≤_, _<_}
 use native.Mathlib.Nat.{not-suc-le-zero}
@@ -12,7 +12,7 @@ use lib.Dec.{eqb}
 use borrow.Author.Tests.{eq-eqb, ne-eqb}
 use Rattle.lists.specs.Words.{isZero}
 use Rattle.tables.specs.Accepted.{Below}
-use Rattle.page_rows.proofs.Places.{below-mem}
+use Rattle.tables.proofs.Accepted.{below-mem}
 use Rattle.page_lines.proofs.Texts.{line-length}
 use Rattle.page_text.specs.inner.Sheets.{lineWith, Sheet}
 
@@ -57,16 +57,6 @@ module _ (line : ℕ → List ℕ) where
   pub line-past : (xs : List ℕ) (k : ℕ) → length xs ≤ k → getD (map line xs) k [] ≡ []
   line-past xs k l = List·getD-eq-default (map line xs) [] (omega (arith, length-map xs line))
 
--- lines that agree for every member
-pub lines-cong : (f g : ℕ → List ℕ) (xs : List ℕ) → ((x : ℕ) → List·Memᴰ x xs → f x ≡ g x) → flatMap f xs ≡ flatMap g xs
-unfolding flatMap
-lines-cong f g [] h = refl
-lines-cong f g (x ∷ xs) h = ap₂ (λ (a b : List ℕ). a ++ b) (h x (List·Memᴰ·head refl)) (lines-cong f g xs (λ y t. h y (List·Memᴰ·tail t)))
-
-pub map-cong : (f g : ℕ → List ℕ) (xs : List ℕ) → ((x : ℕ) → List·Memᴰ x xs → f x ≡ g x) → map f xs ≡ map g xs
-map-cong f g [] h = refl
-map-cong f g (x ∷ xs) h = ap₂ (λ (a : List ℕ) (b : List (List ℕ)). a ∷ b) (h x (List·Memᴰ·head refl)) (map-cong f g xs (λ y t. h y (List·Memᴰ·tail t)))
-
 module _ (expectedPlaces actualPlaces plan : List ℕ) (s : Sheet expectedPlaces actualPlaces plan) where
   -- a line by the written places has 41 bytes
   pub row-length : (m : ℕ) → m < length plan → length (lineWith expectedPlaces actualPlaces plan m) ≡ 41
@@ -83,12 +73,12 @@ module _ (expectedPlaces actualPlaces plan : List ℕ) (s : Sheet expectedPlaces
   line = lineWith expectedPlaces actualPlaces plan
 
   pub all-length : length (flatMap line rows) ≡ 41 * length rows
-  all-length = lines-length line rows (λ x h. row-length expectedPlaces actualPlaces plan s x (below-mem (length plan) rows b h))
+  all-length = lines-length line rows (λ x h. row-length expectedPlaces actualPlaces plan s x (below-mem rows b h))
 
   pub first-length : (k : ℕ) → k ≤ length rows → length (flatMap line (take k rows)) ≡ 41 * k
   first-length k l =
       lines-length line (take k rows)
-      (λ x h. row-length expectedPlaces actualPlaces plan s x (below-mem (length plan) (take k rows) (λ i j. rw (getD-take k rows i 0 (omega (arith, length-take-le k rows l))) (b i (omega (arith, length-take-le k rows l)))) h))
+      (λ x h. row-length expectedPlaces actualPlaces plan s x (below-mem (take k rows) (λ i j. rw (getD-take k rows i 0 (omega (arith, length-take-le k rows l))) (b i (omega (arith, length-take-le k rows l)))) h))
       ∙ ap (λ (n : ℕ). 41 * n) (length-take-le k rows l)
 
 -- the line of a number, among the first, the rest, and past both

@@ -1,8 +1,8 @@
 // For crates above: an entry's page, and one line of it, by its two sensitive orders and a plan, a mark a module.
 ghost use mathlib.Core.Bool.{cond};
 ghost use mathlib.Core.List.{flatMap};
-ghost use Prim.Native.Nat.{ℕ, _+_, _*_, _≤_, _<_};
-ghost use lib.ListN.{length, getD};
+ghost use Prim.Native.Nat.{_+_, _*_, _≤_, _<_};
+ghost use lib.ListN.{length};
 ghost use Rattle.lists.specs.Words.{has};
 ghost use Rattle.lines.specs.Lines.{PutAt};
 ghost use Rattle.tables.specs.Accepted.{Below};

@@ -1,6 +1,6 @@
 // The plan from seeds by a worklist: modules are taken one by one from a list, and what the four rules ask for with each is listed.
 ghost use Rattle.table.specs.Table.{lent, lentWith};
-ghost use Rattle.wrap_plan.specs.Planned.{PlanFromSeeds};
+ghost use Rattle.wrap_plan.specs.Promise.{PlanFromSeeds};
 use current_columns::core::read_current;
 use refusal::refusal_number;
 use seeds::core::seeds_fit;

@@ -1,7 +1,7 @@
 -- What the operation promises, in each of its cases.
 -- Assumes nothing.
 use mathlib.Core.Path.{_≡_, refl, sym, ap, _∙_}
-use mathlib.Core.Bool.{Bool, true, false, cond}
+use mathlib.Core.Bool.{true, false, cond}
 use mathlib.Core.List.{List}
 use Prim.Native.Nat.{ℕ, zero, suc, _≤_, _<_}
 use native.Mathlib.Omega.{arith}
@@ -11,12 +11,12 @@ use native.Mathlib.Decide.{decLt}
 use borrow.Author.Tests.{eqb-true, leb-true, ltb-true}
 use Rattle.lists.specs.Words.{isZero, every}
 use Rattle.lists.proofs.Laws.{and-parts, every-mem}
+use Rattle.lists.proofs.Members.{getD-mem}
 use Rattle.walk.specs.Close.{Bits}
 use Rattle.tables.specs.Project.{Project}
 use Rattle.tables.specs.Readings.{modules}
 use Rattle.tables.specs.Refusal.{rowLimit, below}
 use Rattle.tables.specs.Accepted.{Below}
-use Rattle.tables.proofs.Accepted.{getD-mem}
 use Rattle.table.specs.Table.{Lent}
 use Rattle.wrap_rules.specs.inner.Passes.{Marked}
 use Rattle.seeds.specs.Seeds.{seedsFit}

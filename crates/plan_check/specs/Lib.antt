@@ -1,3 +1,2 @@
 -- What is said of a plan that was made elsewhere.
 pub mod Promise
-pub mod inner

@@ -1,11 +1,11 @@
 // Plans made elsewhere: whether one is accepted, or what it breaks first.
 ghost use mathlib.Core.Path.{_≡_};
 ghost use Rattle.table.specs.Table.{lent, lentWith};
-ghost use Rattle.plan_check.specs.Promise.{judgement, countedJudgement};
-use core::judge_plan;
+ghost use Rattle.plan_check.specs.Promise.{judgement};
 use current_columns::core::read_current;
 use plan_conditions::Judgement;
 use plan_conditions::core::plan_fits;
+use plan_judgement::core::judge_plan;
 use refusal::refusal_number;
 use seeds::core::seeds_fit;
 use table::DEPENDENCY;
@@ -17,9 +17,6 @@ use table::RECORD_TARGET;
 use table::ROW_LIMIT;
 use table::column;
 use table::rows;
-use tables::Answer;
-
-pub mod core;
 
 // Whether a plan, 0 or 1 for each module, has only eligible modules, holds the eligible seeds and is closed under the four rules, of a table whose import
 // records are lent beside it.
@@ -111,17 +108,4 @@ pub fn check_plan<'a>(
         seeds,
         plan,
     )
-}
-
-// What is said of a plan as an answer with a count.
-pub fn counted_judgement(judgement: Judgement) -> Answer
-    ensures { λ r. ⌜ r ≡ countedJudgement judgement ⌝ }
-{
-    match judgement {
-        Judgement::Accepted => Answer::Counted(0),
-        Judgement::Broken(condition, module) => {
-            Answer::Counted(condition as usize * 65536 + module as usize)
-        }
-        Judgement::Refused(n) => Answer::Refused(n),
-    }
 }

@@ -8,7 +8,7 @@ use Prim.Native.Nat.{ℕ, suc, _+_}
 use native.Mathlib.Omega.{arith}
 use lib.ListN.{length}
 use lib.Dec.{eqb}
-use borrow.Author.Tests.{eq-eqb, ne-eqb, eqb-true, eqb-false}
+use borrow.Author.Tests.{eq-eqb, eqb-true, eqb-false}
 use Rattle.lists.proofs.Laws.{both}
 use Rattle.tables.specs.Project.{missing}
 use Rattle.wrap_rules.specs.Plan.{suffixRule, componentRule, importRule, readRule}

@@ -1,3 +1,2 @@
--- `Fronts`: a list written place by place. `Stepping`: a step by its number, and the hosts of the steps.
-pub mod Fronts
+-- A step by its number, and the hosts of the steps.
 pub mod Stepping

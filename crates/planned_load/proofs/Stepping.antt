@@ -1,4 +1,4 @@
--- A step by its number, and the host of a module by the noted ones.
+-- A step by its number, and the hosts of the steps.
 -- Assumes nothing.
 use mathlib.Core.Path.{_≡_, refl, sym, ap, subst, _∙_}
 use mathlib.Core.List.{List, [], _∷_, _++_, map}
@@ -6,31 +6,17 @@ use Prim.Native.Nat.{ℕ, zero, suc, _≤_, _<_}
 use native.Mathlib.Omega.{arith}
 use lib.ListN.{length, getD, take, drop, length-append, length-map, List·getD-append}
 use lib.Seq.{take-at}
-use lib.Dec.{eqb}
-use borrow.Author.Tests.{eq-eqb, ne-eqb}
-use Rattle.lists.proofs.Laws.{getD-in}
-use Rattle.tables.specs.Project.{Project, missing}
+use Rattle.lists.proofs.Members.{getD-mem}
+use Rattle.tables.specs.Project.{Project}
 use Rattle.tables.specs.Readings.{modules}
 use Rattle.tables.specs.Accepted.{Below}
-use Rattle.tables.proofs.Accepted.{getD-mem}
-use Rattle.actual_order.specs.Actual.{readAsTwo}
-use Rattle.actual_order.specs.inner.Cores.{Listed}
-use Rattle.actual_order.proofs.OfProject.{run-of-length, run-of-member, run-of-hosts-length}
-use Rattle.planned_load.specs.declared.LoadStep.{LoadStep}
+use Rattle.entry_run.specs.Actual.{readAsTwo}
+use Rattle.entry_run.specs.inner.Cores.{Listed}
+use Rattle.entry_run.proofs.OfProject.{run-of-length, run-of-member}
+use Rattle.wraps_and_hosts.specs.Hosts.{hostBy}
 use Rattle.planned_load.specs.declared.LoadStep.the-variants.{Step, Done}
-use Rattle.planned_load.specs.Steps.{plannedRun, hostBy, stepAt, stepOf, stepModules, stepHosts}
+use Rattle.planned_load.specs.Steps.{plannedRun, stepAt, stepOf, stepModules, stepHosts}
 use Rattle.planned_load.specs.inner.Stepping.{Stepped}
-
--- the host of a module that has a place
-module _ (noted : List ℕ) (m : ℕ) (h : m < length noted) where
-  abbrev same : getD noted m 0 ≡ getD noted m missing
-  same = getD-in noted m 0 missing h
-
-  pub host-own : getD noted m 0 ≡ missing → m ≡ hostBy noted m
-  host-own e = rw (eq-eqb (getD noted m missing) missing (sym same ∙ e))
-
-  pub host-other : (getD noted m 0 ≡ missing → ⊥) → getD noted m 0 ≡ hostBy noted m
-  host-other e = rw (ne-eqb (getD noted m missing) missing (λ z. e (same ∙ z))) same
 
 -- a step by its number
 pub step-done : (noted listed : List ℕ) (n : ℕ) → length listed ≤ n → stepAt noted listed n ≡ Done
@@ -48,10 +34,6 @@ module _ (p : Project) (plan : List ℕ) (root : ℕ) where
   pub planned-length : length (plannedRun p plan root .listed) ≤ modules p
   unfolding plannedRun
   planned-length = run-of-length p (readAsTwo plan (p .wrap)) root
-
-  pub planned-hosts : length (plannedRun p plan root .hosts) ≡ modules p
-  unfolding plannedRun
-  planned-hosts = run-of-hosts-length p (readAsTwo plan (p .wrap)) root
 
   -- each listed module has a row
   pub planned-below : Below (modules p) (plannedRun p plan root .listed)

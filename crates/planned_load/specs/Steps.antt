@@ -1,22 +1,16 @@
 -- "Simulate the actual order of an analysed entry with every planned module's wrap read as 2 and other wraps as written": the run, and its steps.
 -- Assumes nothing.
-use mathlib.Core.Bool.{cond}
 use mathlib.Core.List.{List, [], _∷_, map}
 use Prim.Native.Nat.{ℕ, zero, suc}
-use lib.ListN.{getD}
-use lib.Dec.{eqb}
-use Rattle.tables.specs.Project.{Project, missing}
-use Rattle.actual_order.specs.Actual.{Executed, runOf, readAsTwo}
+use Rattle.tables.specs.Project.{Project}
+use Rattle.entry_run.specs.Actual.{Executed, runOf, readAsTwo}
+use Rattle.wraps_and_hosts.specs.Hosts.{hostBy}
 use Rattle.planned_load.specs.declared.LoadStep.{LoadStep}
 use Rattle.planned_load.specs.declared.LoadStep.the-variants.{Step, Done}
 
 -- the run of a root, a plan carried out
 unfoldable pub plannedRun : Project → List ℕ → ℕ → Executed
 plannedRun p plan root = runOf p (readAsTwo plan (p .wrap)) root
-
--- a module's "host, itself where it is its own": the noted one, else the module
-abbrev pub hostBy : List ℕ → ℕ → ℕ
-hostBy noted m = cond (eqb (getD noted m missing) missing) m (getD noted m missing)
 
 -- "One step lists exactly the next module of that order and its host": step n of a list, done "when none is left"
 abbrev pub stepAt : List ℕ → List ℕ → ℕ → LoadStep

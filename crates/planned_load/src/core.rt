@@ -1,82 +1,33 @@
 // For crates above, on tested tables.
 ghost use mathlib.Core.Path.{_≡_};
 ghost use mathlib.Core.Bool.{true};
-ghost use mathlib.Core.List.{map, _++_};
-ghost use Prim.Native.Nat.{_≤_, _<_};
-ghost use lib.ListN.{length, getD, drop};
+ghost use Prim.Native.Nat.{_≤_};
+ghost use lib.ListN.{length};
 ghost use Rattle.tables.specs.Project.{Project};
 ghost use Rattle.tables.specs.Readings.{modules};
-ghost use Rattle.tables.specs.Accepted.{Below};
 ghost use Rattle.names.specs.Names.{namesIn};
 ghost use Rattle.table.specs.Table.{table, read};
 ghost use Rattle.table.specs.Places.{Places};
 ghost use Rattle.arrangement.specs.OfProject.{named};
 ghost use Rattle.visit_columns.specs.inner.Prepared.{places};
 ghost use Rattle.visit_columns.specs.inner.OverTable.{PreparedAs};
-ghost use Rattle.actual_order.specs.Actual.{readAsTwo};
-ghost use Rattle.actual_order.specs.inner.Cores.{Listed};
-ghost use Rattle.actual_order.specs.inner.OverTable.{Listing};
-ghost use Rattle.planned_load.specs.Steps.{plannedRun, hostBy, stepOf};
+ghost use Rattle.entry_run.specs.Actual.{readAsTwo};
+ghost use Rattle.entry_run.specs.inner.Cores.{Listed};
+ghost use Rattle.entry_run.specs.inner.OverTable.{Listing};
+ghost use Rattle.planned_load.specs.Steps.{plannedRun, stepOf};
 ghost use Rattle.planned_load.specs.inner.Stepping.{Entered, Stepped};
 use crate::LoadStep;
-use actual_order::core::list_prepared;
 use arrangement::core::read_members;
+use entry_run::core::list_prepared;
 use table::MODULE_LIMIT;
 use table::ROW_LIMIT;
 use table::WRAP;
 use table::column;
-use tables::ModuleIdx;
 use visit_columns::core::PREPARED;
 use visit_columns::core::prepare_wrapped;
-
-// A module's wrap, 2 where it is in a plan.
-fn wrap_with<'a>(plan: &'a [u32], wraps: &'a [u32], m: usize) -> u32
-    requires { ⌜ (m < length (now plan)) × (m < length (now wraps)) ⌝ }
-    ensures { λ r. ⌜ r ≡ getD (readAsTwo (now (plan .entry)) (now (wraps .entry))) m 0 ⌝ }
-{
-    if plan[m] == 0 {
-        return wraps[m];
-    }
-    2
-}
-
-// The wraps, with 2 for each module of a plan.
-fn read_as_two<'a>(plan: &'a [u32], wraps: &'a [u32], out: &mut [u32])
-    requires plan { ⌜ length (now plan) ≡ length (now out) ⌝ }
-    requires wraps { ⌜ length (now wraps) ≡ length (now out) ⌝ }
-    ensures { λ _. ⌜ now (out .exit) ≡ readAsTwo (now (plan .entry)) (now (wraps .entry)) ⌝ }
-{
-    let mut m = 0;
-    while m < out.len() {
-        out[m] = wrap_with(plan, wraps, m);
-        m += 1;
-    }
-}
-
-// The host of a module: the noted one, else itself.
-fn own_host(noted: &[u32], m: u32) -> u32
-    requires { ⌜ m < length (now noted) ⌝ }
-    ensures { λ r. ⌜ r ≡ hostBy (now (noted .entry)) m ⌝ }
-{
-    let host = noted[m as usize];
-    if host == ModuleIdx::MISSING {
-        return m;
-    }
-    host
-}
-
-// The hosts of some modules, written from place 0.
-fn name_hosts<'a>(listed: &'a [u32], noted: &'a [u32], hosts: &mut [u32])
-    requires inside { ⌜ Below (length (now noted)) (now listed) ⌝ }
-    requires room { ⌜ length (now listed) ≤ length (now hosts) ⌝ }
-    ensures { λ _. ⌜ now (hosts .exit) ≡ map (hostBy (now (noted .entry))) (now (listed .entry)) ++ drop (length (now (listed .entry))) (now (hosts .entry)) ⌝ }
-{
-    let mut i = 0;
-    while i < listed.len() {
-        hosts[i] = own_host(noted, listed[i]);
-        i += 1;
-    }
-}
+use wraps_and_hosts::core::name_hosts;
+use wraps_and_hosts::core::own_host;
+use wraps_and_hosts::core::read_as_two;
 
 // Makes the columns that the visits read, of a table with a plan's modules wrapped.
 fn prepare_planned<'a>(

@@ -16,7 +16,7 @@ use Rattle.sort_modules.specs.OfProject.{numbersOf, sortedOf}
 use Rattle.expected_order.specs.OfProject.{expectedOf}
 use Rattle.chunk_cycles.specs.Cycles.{labelsOf, reachesCycleOf}
 use Rattle.eligibility.specs.Eligible.{eligible}
-use Rattle.at_risk.specs.Entry.{cycleRiskOfEntry}
+use Rattle.at_risk.specs.Promise.{cycleRiskOfEntry}
 use Rattle.arrangement.specs.OfProject.{keyIn, arrangedOf, named}
 use Rattle.arrangement.proofs.Laws.{arranged-size, arranged-times, arranged-order}
 use Rattle.arrangement.proofs.OfProject.{members-fit, named-none}

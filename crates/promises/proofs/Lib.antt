@@ -1,22 +1,8 @@
 -- The promises, proved.
 pub mod Same
 pub mod Theorems
-pub mod Computing
-pub mod Cases
-pub mod Witnesses
-pub mod Needed
-pub mod Checked
-pub mod LateWitnesses
-pub mod Late
-pub mod LoadWalks
-pub mod LoadRows
-pub mod Load
-pub mod LoadNeeded
-pub mod LoadEvaluation
 pub mod Arranged
 pub mod Risks
 pub mod Grounds
-pub mod OwnTerms
-pub mod OfCalls
 pub mod Together
 pub mod AsRead

@@ -15,7 +15,7 @@ use Rattle.tables.specs.declared.Answer.{Answer}
 use Rattle.table.specs.Table.{Lent}
 use Rattle.arrangement.specs.OfProject.{named, namedLent}
 use Rattle.arrangement.proofs.OfProject.{named-modules}
-use Rattle.at_risk.specs.Entry.{orderRiskOfEntry, cycleRiskOfEntry, riskVerdict, EntryMarks}
+use Rattle.at_risk.specs.Promise.{orderRiskOfEntry, cycleRiskOfEntry, riskVerdict, EntryMarks}
 use Rattle.at_risk.proofs.Joined.{length-order-risk, length-cycle-risk, risk-is-the-join}
 use Rattle.promises.specs.Risks.{inEither, RiskIsTheJoin, JoinedCallsGiveTheRisk}
 use Rattle.promises.proofs.Theorems.{leaves}

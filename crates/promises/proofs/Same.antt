@@ -7,13 +7,13 @@ use Rattle.tables.specs.Project.{Project}
 use Rattle.tables.specs.Readings.{analysed, entryChunkOf}
 use Rattle.chunk_cycles.specs.Cycles.{labelsOf, reachesCycleOf}
 use Rattle.expected_order.specs.OfProject.{expectedOf}
-use Rattle.actual_order.specs.Actual.{runOf, actualOf, hostsOf}
+use Rattle.entry_run.specs.Actual.{runOf, actualOf, hostsOf}
 use Rattle.sensitivity.specs.Marks.{usesWrapped, ground, sensitive}
 use Rattle.eligibility.specs.Eligible.{eligible}
 use Rattle.wrap_rules.specs.Plan.{expectedSensitiveOf, Rule, suffixRule, componentRule, importRule, readRule, roots, reached, asks, asked, start, planFrom, ordersOf}
-use Rattle.at_risk.specs.Entry.{riskOfEntry}
+use Rattle.at_risk.specs.Promise.{riskOfEntry}
 use Rattle.wrap_rules.specs.Rules.{componentAsks, leads, importAsks, symbolTouches, referenceTouches, readAsks}
-use Rattle.wrap_plan.specs.Planned.{planOf}
+use Rattle.wrap_plan.specs.Promise.{planOf}
 use Rattle.promises.specs.Changes.{withSeed, withImports}
 
 module _ (p : Project) (rows : List ℕ) where

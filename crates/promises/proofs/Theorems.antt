@@ -17,6 +17,7 @@ use Rattle.tables.specs.Answers.{numberOf, countOf, after}
 use Rattle.tables.specs.declared.Answer.{Answer}
 use Rattle.tables.specs.Accepted.{Accepted}
 use Rattle.tables.proofs.Accepted.{accepted}
+use Rattle.tables.proofs.OwnerRows.{mem-rows}
 use Rattle.table.specs.Table.{Lent, answer}
 use Rattle.chunk_cycles.specs.Cycles.{labelsOf, reachesCycleOf}
 use Rattle.chunk_cycles.specs.Paths.{MoreImports}
@@ -24,22 +25,21 @@ use Rattle.chunk_cycles.proofs.OverTable.{accepted-fit}
 use Rattle.chunk_cycles.proofs.Paths.{component-grows}
 use Rattle.expected_order.specs.OfProject.{expectedOf}
 use Rattle.expected_order.proofs.Laws.{expected-distinct}
-use Rattle.actual_order.specs.Actual.{actualOf, hostsOf}
-use Rattle.actual_order.proofs.OfProject.{actual-distinct}
+use Rattle.entry_run.specs.Actual.{actualOf, hostsOf}
+use Rattle.entry_run.proofs.OfProject.{actual-distinct}
 use Rattle.sensitivity.specs.Marks.{sensitive}
 use Rattle.eligibility.specs.Eligible.{eligible}
 use Rattle.risk_of_orders.specs.Risk.{isFlagged}
 use Rattle.wrap_rules.specs.Plan.{expectedSensitiveOf, suffixRule, roots, asks, ordersOf}
-use Rattle.at_risk.specs.Entry.{actualSensitiveOf, riskOfEntry}
+use Rattle.at_risk.specs.Promise.{actualSensitiveOf, riskOfEntry}
 use Rattle.eligibility.proofs.Eligible.{eligible-in}
 use Rattle.risk_of_orders.proofs.Risks.{struck-same, flagged-risk}
 use Rattle.wrap_rules.specs.Rules.{fromFirst}
-use Rattle.wrap_plan.specs.Planned.{planOf, planVerdict}
+use Rattle.wrap_plan.specs.Promise.{planOf, planVerdict}
 use Rattle.wrap_rules.proofs.Monotone.{mem-fromFirst, asks-labels}
-use Rattle.wrap_rules.proofs.Rows.{mem-rows}
 use Rattle.wrap_rules.proofs.Suffix.{suffix-split, suffix-planned}
 use Rattle.wrap_rules.proofs.Plans.{plan-length, plan-bits, plan-seeds, plan-closed, plan-least, plan-eligible, plan-rises, plan-more-seeds}
-use Rattle.order_analysis.specs.Whole.{seedsOf, wholePlan, wholeVerdict}
+use Rattle.order_analysis.specs.Promise.{seedsOf, wholePlan, wholeVerdict}
 use Rattle.order_analysis.proofs.Seeds.{risk-seed, row-seed, seed-cases}
 use Rattle.promises.specs.Changes.{withSeed, withImports}
 use Rattle.promises.specs.Statements.{PlanIsLeast, WholePlanIsLeast, MoreSeedsKeepThePlan, MoreSeedRowsKeepTheWholePlan, MoreImportsKeepThePlan, unplanned, AllEligible, WholePlanKeepsTheOrder, LeavesPlan, PlanCallLeavesThePlan, WholeCallLeavesThePlan}

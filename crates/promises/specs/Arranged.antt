@@ -16,7 +16,7 @@ use Rattle.arrangement.specs.OfProject.{keyIn, arrangedOf, named}
 use Rattle.sort_modules.specs.OfProject.{numbersOf, sortedOf}
 use Rattle.expected_order.specs.OfProject.{expectedOf}
 use Rattle.chunk_cycles.specs.Cycles.{labelsOf}
-use Rattle.at_risk.specs.Entry.{cycleRiskOfEntry}
+use Rattle.at_risk.specs.Promise.{cycleRiskOfEntry}
 
 -- "each chunk's result stands at its member rows", no module before one whose key goes ahead, "and holds the same modules as often as before"
 pub record ChunkArranged (p : Project) (names : List ℕ) (c : ℕ) : Type 0 where

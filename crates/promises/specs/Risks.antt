@@ -12,7 +12,7 @@ use Rattle.tables.specs.Answers.{numberOf}
 use Rattle.tables.specs.declared.Answer.{Answer}
 use Rattle.table.specs.Table.{Lent}
 use Rattle.arrangement.specs.OfProject.{named, namedLent}
-use Rattle.at_risk.specs.Entry.{orderRiskOfEntry, cycleRiskOfEntry, riskOfEntry, EntryOrderRisk, EntryCycleRisk}
+use Rattle.at_risk.specs.Promise.{orderRiskOfEntry, cycleRiskOfEntry, riskOfEntry, EntryOrderRisk, EntryCycleRisk}
 
 -- a module is in one set or in the other
 abbrev pub inEither : List ℕ → List ℕ → ℕ → Bool

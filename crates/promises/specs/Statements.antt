@@ -17,9 +17,9 @@ use Rattle.chunk_cycles.specs.Cycles.{labelsOf}
 use Rattle.chunk_cycles.specs.Paths.{MoreImports}
 use Rattle.eligibility.specs.Eligible.{eligible}
 use Rattle.wrap_rules.specs.Plan.{expectedSensitiveOf, Rule, asks, ordersOf}
-use Rattle.at_risk.specs.Entry.{actualSensitiveOf}
-use Rattle.wrap_plan.specs.Planned.{planOf, PlanFromSeeds}
-use Rattle.order_analysis.specs.Whole.{seedsOf, wholePlan, WholeAnalysis}
+use Rattle.at_risk.specs.Promise.{actualSensitiveOf}
+use Rattle.wrap_plan.specs.Promise.{planOf, PlanFromSeeds}
+use Rattle.order_analysis.specs.Promise.{seedsOf, wholePlan, WholeAnalysis}
 use Rattle.promises.specs.Changes.{withSeed, withImports}
 
 -- a set of modules, as many marks as modules, that holds every eligible seed and every module that one of the four rules then asks for

@@ -1,1 +1,1 @@
-// No code: what a buyer is told of the plans, each statement a named type in specs/ that proofs/ inhabits, and document 01's marked cases.
+// No code: what a buyer is told of the plans, each statement a named type in specs/ that proofs/ inhabits.

@@ -1,7 +1,7 @@
 -- The modules that the analysed entries reach, by marks closed along the records, and the candidates among them.
 -- Assumes nothing.
 use mathlib.Core.Path.{_≡_, refl, sym, ap, subst, _∙_}
-use mathlib.Core.Logic.{_⊎_, ⊎-elim}
+use mathlib.Core.Logic.{⊎-elim}
 use mathlib.Core.Bool.{Bool, true, not, _&&_, _||_}
 use mathlib.Core.List.{List, List·Memᴰ, List·Memᴰ·not-nil}
 use Prim.Native.Nat.{ℕ, _<_}
@@ -10,6 +10,7 @@ use lib.ListN.{length, getD}
 use borrow.Author.Tests.{lt-ltb, ltb-true, eqb-true, eq-eqb, ne-eqb}
 use Rattle.lists.specs.Words.{has, marksOf}
 use Rattle.lists.proofs.Laws.{both, and-parts, and-join, or-parts, or-left, or-right, iff-eq, has-in, mem-keep, keep-mem, elem-mem, mem-elem, length-marksOf, has-marksOf, marksOf-has, marksOf-cong, mark-in}
+use Rattle.lists.proofs.Members.{mem-at, mem-flat, flat-mem, getD-mem}
 use Rattle.walk.specs.Walk.{everywhere, postOrder}
 use Rattle.walk.specs.Reach.{Reach, here, step, ReachAny, passing, through}
 use Rattle.walk.specs.Close.{Within, Bits}
@@ -19,7 +20,7 @@ use Rattle.tables.specs.Readings.{modules, isNormal, isImport, resolved, anyTar
 use Rattle.tables.specs.declared.Target.{Target}
 use Rattle.tables.specs.declared.Target.the-variants.{Missing, External, Normal}
 use Rattle.tables.specs.Accepted.{Accepted}
-use Rattle.tables.proofs.Accepted.{getD-mem}
+use Rattle.tables.proofs.OwnerRows.{rows-mem}
 use Rattle.eligibility.specs.Eligible.{eligible, eligibleMarks}
 use Rattle.eligibility.proofs.Eligible.{eligible-normal}
 use Rattle.wrap_rules.specs.Rules.{importsOf}
@@ -27,7 +28,7 @@ use Rattle.wrap_rules.specs.Plan.{roots, reached}
 use Rattle.import_edges.specs.inner.Spread.{Along, Under, recordTargets}
 use Rattle.reached_modules.specs.inner.Roots.{rootsOver, Reaching, Chosen}
 use Rattle.wrap_rules.specs.inner.Passes.{candidateMarks}
-use Rattle.wrap_rules.proofs.Rows.{mem-at, mem-flat, flat-mem, rows-mem, import-row}
+use Rattle.wrap_rules.proofs.Rows.{import-row}
 use Rattle.wrap_rules.proofs.Sets.{eligible-has}
 use Rattle.import_edges.proofs.OfProject.{target-row, row-target}
 use Rattle.import_edges.proofs.Edging.{RowsIn, spreads-rows}

@@ -45,14 +45,14 @@ module _ (p : Project) (ok : Accepted p) where
     candidate = length-candidates p;
   }
 
-  reads-flag : (m : ℕ) → has (p .reads) m ≡ true → flagged (p .reads) m ≡ true
+  pub reads-flag : (m : ℕ) → has (p .reads) m ≡ true → flagged (p .reads) m ≡ true
   reads-flag m e = eq-eqb (getD (p .reads) m 0) 1 (one (getD (p .reads) m 0) (ok .values .reads m (has-in (p .reads) m e)) e)
     where
       one : (x : ℕ) → x < 2 → not (isZero x) ≡ true → x ≡ 1
       one zero l h = absurd (mathlib.Core.Bool.false≢true h)
       one (suc x) l h = omega arith
 
-  flag-reads : (m : ℕ) → flagged (p .reads) m ≡ true → has (p .reads) m ≡ true
+  pub flag-reads : (m : ℕ) → flagged (p .reads) m ≡ true → has (p .reads) m ≡ true
   flag-reads m e = mark-in (getD (p .reads) m 0) (λ z. omega (arith, eqb-true (getD (p .reads) m 0) 1 e))
 
   module _ (s : List ℕ) where

@@ -1,2 +1,3 @@
--- `Lent`: the walk of a function that lends its rows to a record form.
+-- `Lent`: the walk of a function that lends its rows to a record form. `Loans`: for each of the own parameters that forms have.
 mod Lent
+mod Loans

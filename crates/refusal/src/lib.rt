@@ -2,27 +2,23 @@
 ghost use mathlib.Core.Path.{_≡_};
 ghost use Rattle.table.specs.Table.{table, boundsFit, withRecords, tableNumber, testedToo, lentWith};
 ghost use Rattle.tables.specs.Refusal.{refusal};
-use agree::rows_agree;
-use agree::rows_rise;
 use column_tests::core::is_rising;
 use column_tests::core::newer_fits;
 use names::names_in;
 use names::names_sized;
-use sizes::chunks_sized;
-use sizes::code_sized;
-use sizes::symbols_sized;
+use size_tests::core::chunks_sized;
+use size_tests::core::code_sized;
+use size_tests::core::symbols_sized;
 use table::COLUMNS;
 use table::NEWER;
 use table::NORMAL;
 use table::column;
 use table::rows;
-use values::chunks_in;
-use values::code_in;
-use values::symbols_in;
-
-mod agree;
-mod sizes;
-mod values;
+use value_tests::agree::rows_agree;
+use value_tests::agree::rows_rise;
+use value_tests::core::chunks_in;
+use value_tests::core::code_in;
+use value_tests::core::symbols_in;
 
 // Whether the columns' bounds fit: 35 that rise from 0 to the end.
 fn bounds_fit(bounds: &[u32], columns: &[u32]) -> bool

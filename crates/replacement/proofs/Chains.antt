@@ -2,19 +2,19 @@
 -- Assumes nothing.
 use mathlib.Core.Path.{_≡_, refl, sym, ap, ap₂, subst, _∙_}
 use mathlib.Core.Logic.{_⊎_, inl, inr, ⊎-elim}
-use mathlib.Core.Bool.{Bool, true, false, cond, _&&_, _||_}
+use mathlib.Core.Bool.{true, false, _&&_}
 use mathlib.Core.List.{List, [], _∷_, _++_, map, map-append}
-use Prim.Native.Nat.{ℕ, zero, suc, _+_, _-_, _≤_, _<_}
+use Prim.Native.Nat.{ℕ, zero, suc, _+_, _≤_, _<_}
 use native.Mathlib.Omega.{arith}
 use native.Mathlib.Decide.{decLt}
 use lib.ListN.{length, getD, take, set, length-set, List·getD-eq-default}
 use lib.Seq.{ext-getD, getD-set-same, getD-set-other}
 use lib.Dec.{eqb, ltb}
 use borrow.Author.Tests.{eqb-true, eqb-false, eq-eqb, ne-eqb, ltb-true, lt-ltb, le-ltb}
-use Rattle.lists.specs.Words.{upTo, every}
+use Rattle.lists.specs.Words.{upTo}
 use Rattle.lists.proofs.Laws.{both, and-parts, or-parts, every-mem, upTo-mem, getD-in, getD-map-upTo, length-map-upTo, take-more}
 use Rattle.tables.specs.Project.{missing}
-use Rattle.tables.specs.Refusal.{moduleLimit, fitsAt, newerFits}
+use Rattle.tables.specs.Refusal.{fitsAt, newerFits}
 use Rattle.replacement.specs.Replacement.{through, latest, asRead}
 use Rattle.replacement.specs.inner.Passes.{Found, foundAt}
 

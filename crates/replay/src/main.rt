@@ -8,6 +8,7 @@
 // 8 8 9 9 10 10; and `5.` for the five values that stand there in the case before. Without names a case has a 0 for them.
 use libc::STDIN_FILENO;
 use libc::STDOUT_FILENO;
+use plan_conditions::Judgement;
 use table::RECORD_KIND;
 use table::RECORD_MODULE;
 use table::RECORD_TARGET;
@@ -560,6 +561,17 @@ fn ask_two<'a>(
     }
 }
 
+// What is said of a plan as an answer: counted 0 where it is accepted, the number of the broken condition times 2^16 plus the module, or the refusal.
+fn said_of_plan(judgement: Judgement) -> Answer {
+    match judgement {
+        Judgement::Accepted => Answer::Counted(0),
+        Judgement::Broken(condition, module) => {
+            Answer::Counted(condition as usize * 65536 + module as usize)
+        }
+        Judgement::Refused(number) => Answer::Refused(number),
+    }
+}
+
 // The operation of this number in the list.
 fn ask<'a>(
     runtime: u32,
@@ -615,7 +627,7 @@ fn ask<'a>(
             first,
             argument,
         ),
-        14 => plan_check::counted_judgement(plan_check::check_plan(
+        14 => said_of_plan(plan_check::check_plan(
             runtime,
             dynamic,
             bounds,

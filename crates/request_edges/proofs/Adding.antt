@@ -9,7 +9,7 @@ use native.Mathlib.Omega.{arith}
 use lib.ListN.{length, getD, set, length-set}
 use lib.Seq.{getD-set-same, getD-set-other}
 use Rattle.tables.specs.Refusal.{rowLimit}
-use Rattle.request_edges.specs.inner.Edges.{RowsBelow, Rows, Adds}
+use Rattle.request_edges.specs.inner.Edges.{RowsBelow, Adds}
 
 module _ (from to : List ℕ) (count : ℕ) where
   -- no edges

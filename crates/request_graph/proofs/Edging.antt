@@ -1,13 +1,12 @@
 -- The edges of the import records are the records themselves.
 -- Assumes nothing.
-use mathlib.Core.Path.{_≡_, refl, sym, ap, subst, _∙_}
+use mathlib.Core.Path.{_≡_, sym, ap, subst, _∙_}
 use mathlib.Core.List.{List}
-use Prim.Native.Nat.{ℕ, _+_, _≤_, _<_}
+use Prim.Native.Nat.{ℕ, _+_, _<_}
 use native.Mathlib.Omega.{arith}
 use lib.ListN.{length, getD}
 use Rattle.lists.proofs.Laws.{getD-map-upTo, length-map-upTo}
-use Rattle.tables.specs.Project.{Project, missing}
-use Rattle.tables.specs.Readings.{modules}
+use Rattle.tables.specs.Project.{Project}
 use Rattle.tables.specs.Accepted.{Accepted}
 use Rattle.tables.specs.Refusal.{rowLimit}
 use Rattle.import_edges.specs.inner.Spread.{recordTargets}

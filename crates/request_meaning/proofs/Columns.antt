@@ -2,17 +2,16 @@
 -- Assumes nothing.
 use mathlib.Core.Path.{_≡_, refl, sym, ap, subst, _∙_}
 use mathlib.Core.Logic.{⊎-elim}
-use mathlib.Core.Bool.{Bool, true, false, cond, not, _&&_}
+use mathlib.Core.Bool.{Bool, true, cond, not}
 use mathlib.Core.List.{List}
-use Prim.Native.Nat.{ℕ, zero, suc, _+_, _≤_, _<_}
+use Prim.Native.Nat.{ℕ, zero, suc, _<_}
 use native.Mathlib.Omega.{arith}
 use native.Mathlib.Decide.{decLt}
 use lib.ListN.{length, getD, List·getD-eq-default}
-use borrow.Author.Tests.{eq-eqb, eqb-true}
 use Rattle.lists.specs.Words.{isZero, has}
-use Rattle.lists.proofs.Laws.{both, and-parts, and-join, has-in, mark-in, getD-in, getD-map-upTo, length-map-upTo}
+use Rattle.lists.proofs.Laws.{both, has-in, getD-in, getD-map-upTo, length-map-upTo}
 use Rattle.tables.specs.Project.{Project, missing}
-use Rattle.tables.specs.Readings.{modules, chunks, flagged, isImport}
+use Rattle.tables.specs.Readings.{modules, chunks, isImport}
 use Rattle.tables.specs.Accepted.{Accepted}
 use Rattle.tables.specs.Refusal.{rowLimit}
 use Rattle.strong_connection.specs.Cycles.{label, labels, cyclic}
@@ -23,9 +22,8 @@ use Rattle.chunk_cycles.proofs.OverTable.{accepted-fit, length-labels}
 use Rattle.marks.specs.Steps.{looked}
 use Rattle.marks.proofs.Steps.{looked-at, length-looked}
 use Rattle.wrap_rules.specs.inner.Passes.{candidateMarks}
-use Rattle.wrap_rules.proofs.Sets.{length-candidates}
 use Rattle.import_edges.specs.inner.Spread.{recordTargets}
-use Rattle.import_edges.proofs.Edging.{target-at, length-targets}
+use Rattle.import_edges.proofs.Edging.{target-at}
 use Rattle.request_edges.specs.inner.Edges.{choice, chosen}
 use Rattle.request_graph.specs.inner.Requests.{readersOf}
 
@@ -64,16 +62,6 @@ module _ (first second : List ℕ) where
   is-chosen m e f = chosen-at m (has-in first m e) ∙ choice-in (getD first m 0) (getD second m 0) m e f
 
 module _ (p : Project) (ok : Accepted p) where
-  pub reads-flag : (m : ℕ) → has (p .reads) m ≡ true → flagged (p .reads) m ≡ true
-  reads-flag m e = eq-eqb (getD (p .reads) m 0) 1 (one (getD (p .reads) m 0) (ok .values .reads m (has-in (p .reads) m e)) e)
-    where
-      one : (x : ℕ) → x < 2 → not (isZero x) ≡ true → x ≡ 1
-      one zero l h = absurd (mathlib.Core.Bool.false≢true h)
-      one (suc x) l h = omega arith
-
-  pub flag-reads : (m : ℕ) → flagged (p .reads) m ≡ true → has (p .reads) m ≡ true
-  flag-reads m e = mark-in (getD (p .reads) m 0) (λ z. omega (arith, eqb-true (getD (p .reads) m 0) 1 e))
-
   -- a label that isn't the mark is a row number
   pub label-in : (c : ℕ) → (getD (labelsOf p) c missing ≡ missing → ⊥) → getD (labelsOf p) c missing < rowLimit
   unfolding labelsOf labels

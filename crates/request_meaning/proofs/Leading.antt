@@ -1,12 +1,11 @@
 -- What leads to a planned module, by paths along the import records.
 -- Assumes nothing.
-use mathlib.Core.Path.{_≡_, refl, sym, ap, subst, _∙_}
+use mathlib.Core.Path.{_≡_, refl, sym, subst, _∙_}
 use mathlib.Core.Logic.{⊎-elim}
 use mathlib.Core.Bool.{true}
 use mathlib.Core.List.{List, [], _∷_, List·Memᴰ, List·Memᴰ·head, List·Memᴰ·eq-of-singleton}
 use Prim.Native.Nat.{ℕ, _<_}
 use native.Mathlib.Omega.{arith}
-use lib.ListN.{length, getD}
 use Rattle.lists.specs.Words.{has}
 use Rattle.lists.proofs.Laws.{any-mem, mem-any}
 use Rattle.walk.specs.Walk.{everywhere, postOrder}

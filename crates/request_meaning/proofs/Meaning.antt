@@ -2,7 +2,7 @@
 -- Assumes nothing.
 use mathlib.Core.Path.{_≡_, refl, sym, ap, subst, _∙_}
 use mathlib.Core.Logic.{_⊎_, inl, inr, ⊎-elim}
-use mathlib.Core.Bool.{Bool, true, not}
+use mathlib.Core.Bool.{true, not}
 use mathlib.Core.List.{List, List·Memᴰ}
 use Prim.Native.Nat.{ℕ, _+_, _≤_, _<_}
 use native.Mathlib.Omega.{arith}
@@ -31,10 +31,11 @@ use Rattle.import_edges.specs.inner.Spread.{recordTargets}
 use Rattle.import_edges.proofs.Edging.{length-targets}
 use Rattle.import_edges.proofs.OfProject.{target-row}
 use Rattle.read_rule.proofs.Touches.{chain-owner, chain-link, reference-symbol, reference-depended}
+use Rattle.read_rule.proofs.OfProject.{reads-flag}
 use Rattle.request_edges.specs.inner.Edges.{numbered, chosen, Rows}
 use Rattle.request_graph.specs.inner.Requests.{atRequest, atLead, atDependent, atLabel, atChain, readersOf, RequestEdge}
 use Rattle.request_graph.proofs.Edging.{length-numbered, numbered-at}
-use Rattle.request_meaning.proofs.Columns.{chosen-is, reads-flag, target-in, Reader, reader-is}
+use Rattle.request_meaning.proofs.Columns.{chosen-is, target-in, Reader, reader-is}
 use Rattle.request_meaning.proofs.Leading.{leads-reach, reach-leads}
 
 module _ (p : Project) (ok : Accepted p) (S : List ℕ) (size : length S ≡ modules p) where
@@ -217,9 +218,6 @@ module _ (p : Project) (ok : Accepted p) (S : List ℕ) (size : length S ≡ mod
 
   abbrev readers : List ℕ
   readers = readersOf p (candidateMarks p)
-
-  readers-length : length readers ≡ length (p .referenceStatement)
-  readers-length = length-looked missing (chosen (candidateMarks p) (p .reads)) (looked missing (p .statementModule) (p .referenceStatement)) ∙ length-looked missing (p .statementModule) (p .referenceStatement)
 
   symbol-own : (y : ℕ) → chainTouches p S y ≡ true → symbolTouches p S y ≡ true
   unfolding symbolTouches

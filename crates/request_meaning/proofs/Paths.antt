@@ -2,7 +2,7 @@
 -- Assumes nothing.
 use mathlib.Core.Path.{_≡_, refl, sym, ap, subst, _∙_}
 use mathlib.Core.Logic.{_⊎_, inl, inr, ⊎-elim}
-use mathlib.Core.Bool.{Bool, true, not}
+use mathlib.Core.Bool.{true, not}
 use mathlib.Core.List.{List, List·Memᴰ}
 use Prim.Native.Nat.{ℕ, _+_, _≤_, _<_}
 use native.Mathlib.Omega.{arith}
@@ -23,7 +23,7 @@ use Rattle.sensitivity.specs.Marks.{sensitive, sensitiveMarks}
 use Rattle.eligibility.specs.Eligible.{eligible, eligibleMarks}
 use Rattle.marks.specs.Steps.{looked}
 use Rattle.marks.proofs.Steps.{looked-at, length-looked}
-use Rattle.wrap_rules.specs.Rules.{componentAsks, importsOf, leads, readAsks, chainTouches, symbolTouches, referenceTouches}
+use Rattle.wrap_rules.specs.Rules.{componentAsks, importsOf, leads, readAsks, chainTouches, symbolTouches}
 use Rattle.wrap_rules.specs.Plan.{reached}
 use Rattle.wrap_rules.specs.inner.Passes.{candidateMarks}
 use Rattle.wrap_rules.proofs.Rows.{component-rows, read-rows, import-row}
@@ -32,10 +32,11 @@ use Rattle.import_edges.specs.inner.Spread.{recordTargets}
 use Rattle.import_edges.proofs.Edging.{length-targets}
 use Rattle.import_edges.proofs.OfProject.{row-target}
 use Rattle.read_rule.proofs.Touches.{chain-rows, reference-rows}
+use Rattle.read_rule.proofs.OfProject.{flag-reads}
 use Rattle.request_edges.specs.inner.Edges.{numbered, chosen, Rows}
 use Rattle.request_graph.specs.inner.Requests.{atRequest, atLead, atDependent, atLabel, atChain, readersOf, RequestEdge}
 use Rattle.request_graph.proofs.Edging.{length-numbered, numbered-at}
-use Rattle.request_meaning.proofs.Columns.{is-chosen, flag-reads, label-in, is-reader}
+use Rattle.request_meaning.proofs.Columns.{is-chosen, label-in, is-reader}
 use Rattle.request_meaning.proofs.Leading.{import-in, leads-reach}
 
 -- each kind of edge

@@ -1,17 +1,18 @@
 -- What the three passes over an entry's orders put at risk is the order risk.
 -- Assumes nothing.
-use mathlib.Core.Path.{_≡_, refl, sym, ap, subst, _∙_}
+use mathlib.Core.Path.{_≡_, refl, sym, ap, _∙_}
 use mathlib.Core.Logic.{_⊎_, inl, inr, ⊎-elim}
 use mathlib.Core.Bool.{Bool, true, false, cond, not, _&&_, _||_}
-use mathlib.Core.List.{List, [], _∷_, _++_, foldl, List·Memᴰ, List·Memᴰ·head, List·Memᴰ·tail, List·Memᴰ·not-nil, List·Memᴰ·cases-cons, Memᴰ·append-left, Memᴰ·append-right}
-use Prim.Native.Nat.{ℕ, zero, suc, _<_}
+use mathlib.Core.List.{List, [], _∷_, _++_, foldl, List·Memᴰ, List·Memᴰ·head, List·Memᴰ·tail, Memᴰ·append-left, Memᴰ·append-right}
+use Prim.Native.Nat.{ℕ, zero, _<_}
 use native.Mathlib.Omega.{arith}
 use lib.ListN.{length, getD, replicate, length-replicate, getD-replicate}
 use lib.Dec.{eqb, ltb}
 use Rattle.lists.specs.Words.{isZero, keep, any, elem, has}
-use Rattle.lists.proofs.Laws.{both, not-true, and-parts, and-join, or-parts, or-left, or-right, iff-eq, any-mem, mem-any, mem-keep, keep-mem, elem-mem, mem-elem}
+use Rattle.lists.proofs.Laws.{both, not-true, and-parts, and-join, or-parts, or-left, or-right, iff-eq, any-mem, mem-any, mem-keep, keep-mem, elem-mem, mem-elem, has-not}
 use Rattle.tables.specs.Accepted.{Below}
 use Rattle.tables.specs.Lookups.{greaterOf}
+use Rattle.tables.proofs.Accepted.{below-mem}
 use Rattle.risk_of_orders.specs.Risk.{before, justOne, early, isFlagged, orderRisk}
 use Rattle.risk_of_orders.specs.inner.Early.{rank, highest}
 use Rattle.risk_of_orders.specs.inner.Steps.{join, listed, puts, putsOf, unmet, overtaken, Ranked}
@@ -20,13 +21,6 @@ use Rattle.risk_of_orders.proofs.Risks.{one-flagged}
 use Rattle.risk_of_orders.proofs.Blame.{blames, risk-blamed}
 use Rattle.risk_of_orders.proofs.Early.{early-highest}
 use Rattle.risk_of_orders.proofs.Joins.{has-join, join-join, join-cong}
-use Rattle.risk_of_orders.proofs.Puts.{has-not}
-
--- a member of a column is below the column's bound
-below-mem : {x n : ℕ} (xs : List ℕ) → Below n xs → List·Memᴰ x xs → x < n
-below-mem [] b h = absurd (List·Memᴰ·not-nil h)
-below-mem {x} {n} (y ∷ xs) b h =
-    ⊎-elim (λ e. subst (λ (z : ℕ). z < n) (sym e) (b zero (omega arith))) (below-mem xs (λ i l. b (suc i) (omega arith))) (List·Memᴰ·cases-cons h)
 
 -- the greatest of a list depends on its members alone
 highest-same : (f g : ℕ → ℕ) (xs : List ℕ) → ((x : ℕ) → List·Memᴰ x xs → f x ≡ g x) → highest f xs ≡ highest g xs

@@ -15,7 +15,7 @@ use lib.Dec.{eqb}
 use borrow.Author.Tests.{eq-eqb, ne-eqb}
 use Rattle.lists.specs.Words.{keep, elem, Distinct}
 use Rattle.lists.proofs.Laws.{both, mem-keep, elem-mem, length-keep}
-use Rattle.tables.proofs.Accepted.{getD-mem}
+use Rattle.lists.proofs.Members.{getD-mem}
 use Rattle.risk_of_orders.specs.inner.Early.{rank}
 use Rattle.risk_of_orders.specs.inner.Steps.{Ranked}
 use Rattle.risk_of_orders.proofs.Early.{rank-snoc}

@@ -2,40 +2,20 @@
 -- Assumes nothing.
 use mathlib.Core.Path.{_≡_, refl, sym, ap, _∙_}
 use mathlib.Core.Logic.{⊎-elim}
-use mathlib.Core.Bool.{Bool, true, false, not, _&&_, true≢false}
-use mathlib.Core.List.{List, [], _∷_}
-use Prim.Native.Nat.{ℕ, zero, suc, _≤_, _<_}
-use native.Mathlib.Nat.{not-suc-le-zero}
-use native.Mathlib.Omega.{arith}
+use mathlib.Core.Bool.{Bool, true, false, _&&_, true≢false}
+use mathlib.Core.List.{List}
+use Prim.Native.Nat.{ℕ, _≤_}
 use lib.ListN.{length, getD, List·getD-eq-default}
 use lib.Dec.{eqb}
 use borrow.Author.Tests.{eq-eqb, eqb-true}
-use Rattle.lists.specs.Words.{isZero, has}
-use Rattle.lists.proofs.Laws.{both}
+use Rattle.lists.specs.Words.{has}
+use Rattle.lists.proofs.Laws.{both, has-not}
 use Rattle.tables.specs.Project.{missing}
 use Rattle.risk_of_orders.specs.inner.Blame.{blamed}
 use Rattle.risk_of_orders.specs.inner.Steps.{puts}
 
--- a mark that is 0, and one that isn't
-
-pub has-not : (s : List ℕ) (i : ℕ) → getD s i 0 ≡ 0 → has s i ≡ false
-has-not s i e = ap (λ (x : ℕ). not (isZero x)) e
-
-pub has-yes : (s : List ℕ) (i : ℕ) → (getD s i 0 ≡ 0 → ⊥) → has s i ≡ true
-has-yes s i n = go (getD s i 0) n
-  where
-    go : (x : ℕ) → (x ≡ 0 → ⊥) → not (isZero x) ≡ true
-    go zero d = absurd (d refl)
-    go (suc x) d = refl
-
 pub has-past : (s : List ℕ) (i : ℕ) → length s ≤ i → has s i ≡ false
 has-past s i l = has-not s i (List·getD-eq-default s 0 l)
-
--- a row that is there is the same whatever stands for one that isn't
-pub row-there : (xs : List ℕ) (i d : ℕ) → i < length xs → getD xs i d ≡ getD xs i 0
-row-there [] i d l = absurd (not-suc-le-zero l)
-row-there (x ∷ xs) zero d l = refl
-row-there (x ∷ xs) (suc i) d l = row-there xs i d (omega arith)
 
 eqb-turned : (x y : ℕ) → eqb x y ≡ eqb y x
 eqb-turned x y =

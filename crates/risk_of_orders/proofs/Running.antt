@@ -14,7 +14,7 @@ use lib.Dec.{eqb, ltb}
 use borrow.Author.Tests.{eq-eqb, ne-eqb}
 use Rattle.lists.specs.Words.{keep, has, Distinct}
 use Rattle.lists.proofs.Laws.{both, keep-append}
-use Rattle.tables.proofs.Accepted.{getD-mem}
+use Rattle.lists.proofs.Members.{getD-mem}
 use Rattle.tables.specs.Lookups.{greaterOf}
 use Rattle.risk_of_orders.specs.Risk.{before}
 use Rattle.risk_of_orders.specs.inner.Early.{highest}

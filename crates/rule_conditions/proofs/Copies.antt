@@ -1,10 +1,10 @@
 -- A copy of a plan to which just what a rule asks for was added has more than the plan exactly what breaks the rule's condition.
 -- Assumes nothing.
-use mathlib.Core.Path.{_≡_, sym, ap, subst, _∙_}
+use mathlib.Core.Path.{_≡_, sym, ap, _∙_}
 use mathlib.Core.Logic.{⊎-elim}
 use mathlib.Core.Bool.{Bool, true, not, _&&_, true≢false}
 use mathlib.Core.List.{List, [], _++_, append-nil}
-use Prim.Native.Nat.{ℕ, _<_}
+use Prim.Native.Nat.{ℕ}
 use native.Mathlib.Omega.{arith}
 use lib.ListN.{length, drop}
 use lib.Seq.{drop-length}
@@ -15,7 +15,6 @@ use Rattle.tables.specs.Readings.{modules}
 use Rattle.chunk_cycles.specs.Cycles.{labelsOf}
 use Rattle.marks.specs.Steps.{Added}
 use Rattle.wrap_rules.specs.Plan.{Rule, asks, ordersOf}
-use Rattle.wrap_rules.specs.inner.Passes.{Marked}
 use Rattle.plan_conditions.specs.Conditions.{closedUnder, broken, lowest}
 use Rattle.plan_conditions.proofs.Lowest.{lowest-cong}
 

@@ -4,7 +4,7 @@ use mathlib.Core.Path.{_≡_, ap, _∙_}
 use mathlib.Core.Bool.{Bool, true, false, cond}
 use Prim.Native.Nat.{ℕ, _+_, _-_, _≤_, _<_}
 use Rattle.lists.specs.Words.{any, countFrom}
-use Rattle.tables.proofs.Rows.{count-step, count-end}
+use Rattle.lists.proofs.Laws.{count-step, count-end}
 
 -- a run of rows, by its first
 module _ (f : ℕ → Bool) (row end : ℕ) where

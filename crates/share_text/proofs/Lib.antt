@@ -1,3 +1,2 @@
--- `Texts`: the outcome of a text that was read, and that it fits the totals. `Reports`: the report over no name.
+-- The outcome of a text that was read, and that it fits the totals.
 pub mod Texts
-pub mod Reports

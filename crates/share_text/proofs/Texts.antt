@@ -16,7 +16,7 @@ use Rattle.listing.proofs.Answered.{text-lent, reads-lent}
 use Rattle.share_totals.specs.declared.Outcome.{Outcome}
 use Rattle.share_totals.specs.declared.Outcome.the-variants.{Refused}
 use Rattle.share_totals.specs.Within.{Fits}
-use Rattle.shares.specs.Share.{outcomeOf}
+use Rattle.shares.specs.Promise.{outcomeOf}
 use Rattle.shares.proofs.Promise.{project-fits}
 use Rattle.share_text.specs.Texts.{TextOutcome}
 

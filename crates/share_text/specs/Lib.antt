@@ -1,3 +1,2 @@
--- `Texts`: the outcome of a text. `Report`: the lines of a report, and the report.
+-- The outcome of a text.
 pub mod Texts
-pub mod Report

@@ -12,7 +12,7 @@ use Rattle.named_form.specs.NamedForm.{NameList, lentNames}
 use Rattle.listing.specs.Reading.{IsText}
 use Rattle.share_totals.specs.declared.Outcome.{Outcome}
 use Rattle.share_totals.specs.declared.Outcome.the-variants.{Refused}
-use Rattle.shares.specs.Share.{outcomeOf}
+use Rattle.shares.specs.Promise.{outcomeOf}
 
 -- that of the project whose text it is, as it is read with its names, or 7 where it is no project's
 abbrev pub TextOutcome : List ℕ → Outcome → Type 0

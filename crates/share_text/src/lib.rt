@@ -1,20 +1,15 @@
-// The share of a project's text, and the lines of a season's report.
+// The share of a project's text.
 ghost use mathlib.Core.Path.{_≡_};
 ghost use Prim.Native.Nat.{_-_, _≤_};
 ghost use lib.ListN.{length, getD, take, drop};
 ghost use Rattle.arrangement.specs.OfProject.{lentNamed};
-ghost use Rattle.shares.specs.Share.{outcomeOf};
+ghost use Rattle.shares.specs.Promise.{outcomeOf};
 ghost use Rattle.share_text.specs.Texts.{TextOutcome};
-ghost use Rattle.share_text.specs.Report.{outcomeLine, Put};
-use lines::put_line;
 use listing::Reading;
 use listing::read;
 use share_totals::Outcome;
 use shares::share;
 use table::COLUMNS;
-use tables::Answer;
-
-pub mod core;
 
 // The first n values.
 fn first_of(values: &[u32], n: usize) -> &[u32]
@@ -65,20 +60,5 @@ pub fn share_of_text(text: &[u8]) -> Outcome
         Reading::Read(n, from, to) => {
             share_of_columns(settings, &bounds, &columns, n, part_of(text, from, to))
         }
-    }
-}
-
-// Writes the line of an outcome from place 0.
-pub fn put_outcome(out: &mut [u8], outcome: Outcome) -> Answer
-    ensures { λ r. ⌜ Put (outcomeLine outcome) (now (out .entry)) r (now (out .exit)) ⌝ }
-{
-    match outcome {
-        Outcome::Share(eligible, planned, quotient, remainder) => put_line(
-            out,
-            b"share",
-            &[],
-            &[eligible, planned, quotient, remainder],
-        ),
-        Outcome::Refused(number) => put_line(out, b"refused", &[], &[number]),
     }
 }

@@ -1,15 +1,15 @@
 -- Totals by one step a project are the sums over the projects, and no sum overflows.
 -- Assumes nothing.
-use mathlib.Core.Path.{_≡_, refl, sym, ap, _∙_}
+use mathlib.Core.Path.{_≡_, refl, _∙_}
 use mathlib.Core.List.{List, [], _∷_, foldl, List·Memᴰ, List·Memᴰ·head, List·Memᴰ·tail}
-use Prim.Native.Nat.{ℕ, zero, suc, _+_, _*_, _^_, _≤_, _<_}
+use Prim.Native.Nat.{ℕ, suc, _+_, _≤_}
 use native.Mathlib.Omega.{arith}
 use lib.ListN.{length}
 use Rattle.share_totals.specs.declared.Outcome.{Outcome}
 use Rattle.share_totals.specs.declared.Outcome.the-variants.{Share, Refused}
 use Rattle.share_totals.specs.declared.Totals.{Totals}
 use Rattle.share_totals.specs.Sums.{eligibleIn, plannedIn, refusedIn, sum, none, added, totalsOf}
-use Rattle.share_totals.specs.Within.{Fits, Within, StepsGiveTheSums, Small, SumsFit}
+use Rattle.share_totals.specs.Within.{Fits, Within, StepsGiveTheSums, SumsFit}
 
 -- a project more
 pub within-more : (n : ℕ) (t : Totals) (o : Outcome) → Within n t → Fits o → Within (suc n) (added t o)

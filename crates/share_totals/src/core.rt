@@ -1,6 +1,5 @@
 // For crates above: shares of counted modules, and totals by one step a project.
 ghost use mathlib.Core.Path.{_≡_};
-ghost use mathlib.Core.List.{[], _∷_};
 ghost use Prim.Native.Nat.{_≤_};
 ghost use Rattle.share_totals.specs.Shares.{quotientOf, remainderOf, shareOf};
 ghost use Rattle.share_totals.specs.Sums.{none, added, totalNumbers};

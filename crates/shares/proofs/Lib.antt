@@ -1,3 +1,2 @@
--- `Counts`: no more modules are planned than are eligible. `Promise`: what the operations promise, in each of their cases.
-pub mod Counts
+-- What the operations promise, in each of their cases.
 pub mod Promise

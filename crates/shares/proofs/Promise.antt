@@ -1,6 +1,6 @@
 -- What the operations promise, in each of their cases.
 -- Assumes nothing.
-use mathlib.Core.Path.{_≡_, refl, sym, ap, subst, _∙_}
+use mathlib.Core.Path.{_≡_, refl, sym, ap, _∙_}
 use mathlib.Core.Bool.{Bool, true}
 use mathlib.Core.List.{List, [], _∷_, _++_}
 use Prim.Native.Nat.{ℕ, zero, suc, _≤_, _<_}
@@ -9,19 +9,18 @@ use lib.ListN.{length, drop, set}
 use lib.Dec.{leb}
 use borrow.Author.Tests.{le-leb, lt-leb}
 use Rattle.tables.specs.Project.{Project}
-use Rattle.tables.specs.Accepted.{Accepted}
 use Rattle.tables.specs.declared.Answer.the-variants as A
 use Rattle.tables.proofs.Answering.{verdict-project, verdict-short, verdict-none, after-refused, after-accepted}
 use Rattle.table.specs.Table.{current, Lent, lentAs}
 use Rattle.table.proofs.Laws.{answer-refused, answer-accepted}
 use Rattle.arrangement.specs.OfProject.{named, namedLent}
 use Rattle.arrangement.proofs.OfProject.{lent-named}
-use Rattle.share_totals.specs.declared.Outcome.{Outcome}
 use Rattle.share_totals.specs.declared.Outcome.the-variants.{Share, Refused}
 use Rattle.share_totals.specs.Shares.{quotientOf, remainderOf, shareOf, outcome}
 use Rattle.share_totals.specs.Within.{Fits}
-use Rattle.shares.specs.Share.{eligibleCount, plannedCount, outcomeOf, shareNumbers, shareVerdict, WrittenShare}
-use Rattle.shares.proofs.Counts.{planned-eligible, eligible-few}
+use Rattle.shares.specs.Promise.{outcomeOf, shareNumbers, shareVerdict, WrittenShare}
+use Rattle.table_share.specs.Counts.{eligibleCount, plannedCount}
+use Rattle.table_share.proofs.Counts.{planned-eligible, eligible-few}
 
 -- four numbers from place 0
 pub four-set : (out : List ℕ) (a b c d : ℕ) → 4 ≤ length out → set (set (set (set out 0 a) 1 b) 2 c) 3 d ≡ a ∷ b ∷ c ∷ d ∷ drop 4 out

@@ -1,2 +1,2 @@
 -- The share of a project.
-pub mod Share
+pub mod Promise

@@ -1,9 +1,10 @@
 // The share of a project's eligible modules that are planned.
 ghost use mathlib.Core.Path.{_≡_};
+ghost use mathlib.Core.List.{_∷_};
+ghost use Prim.Native.Nat.{_≤_};
+ghost use lib.ListN.{length, drop};
 ghost use Rattle.arrangement.specs.OfProject.{lentNamed, lentNamedWith};
-ghost use Rattle.shares.specs.Share.{outcomeOf, WrittenShare};
-use core::put_four;
-use core::share_of_named;
+ghost use Rattle.shares.specs.Promise.{outcomeOf, WrittenShare};
 use current_columns::core::read_current;
 use refusal::refusal_number;
 use share_totals::Outcome;
@@ -17,9 +18,8 @@ use table::RECORD_TARGET;
 use table::ROW_LIMIT;
 use table::column;
 use table::rows;
+use table_share::core::share_of_named;
 use tables::Answer;
-
-pub mod core;
 
 // The counts of eligible modules and of those that the whole analysis plans, with the quotient and the remainder of 1,000 times the second by the
 // first, or a refusal, of a table whose import records are lent beside it.
@@ -100,6 +100,17 @@ pub fn share<'a>(
         column(bounds, columns, RECORD_KIND),
         column(bounds, columns, RECORD_TARGET),
     )
+}
+
+// Writes four numbers from place 0.
+fn put_four(out: &mut [u32], a: u32, b: u32, c: u32, d: u32)
+    requires { ⌜ 4 ≤ length (now out) ⌝ }
+    ensures { λ _. ⌜ now (out .exit) ≡ a ∷ b ∷ c ∷ d ∷ drop 4 (now (out .entry)) ⌝ }
+{
+    out[0] = a;
+    out[1] = b;
+    out[2] = c;
+    out[3] = d;
 }
 
 // Writes the four numbers of a share to `out` from place 0, of a table whose import records are lent beside it. The count is 4.

@@ -16,7 +16,7 @@ use Rattle.walk.specs.Reach.{Reach, here, step, Reach⁺, ReachAny}
 use Rattle.walk.proofs.Orders.{reach-trans, all-reach, reach-all}
 use Rattle.tables.specs.Project.{missing}
 use Rattle.tables.specs.Readings.{firstOf}
-use Rattle.strong_connection.specs.Cycles.{reached, connected, component, cyclic, label, reachesCycle}
+use Rattle.strong_connection.specs.Cycles.{reachedFrom, connected, component, cyclic, label, reachesCycle}
 use Rattle.strong_connection.proofs.Firsts.{first-keep}
 
 module _ (n : ℕ) (succ : ℕ → List ℕ) (inside : (m y : ℕ) → m < n → List·Memᴰ y (succ m) → y < n) where
@@ -30,14 +30,14 @@ module _ (n : ℕ) (succ : ℕ → List ℕ) (inside : (m y : ℕ) → m < n →
 
   -- the reached places are those that paths lead to
 
-  pub reached-reach : (c d : ℕ) → c < n → elem d (reached n succ c) ≡ true → Reach succ c d
-  unfolding reached ReachAny
+  pub reached-reach : (c d : ℕ) → c < n → elem d (reachedFrom n succ c) ≡ true → Reach succ c d
+  unfolding reachedFrom ReachAny
   reached-reach c d l e =
       let a = all-reach succ n inside (c ∷ []) (root-in c l) d (elem-mem d (postOrder succ everywhere n (c ∷ [])) e) in
       subst (λ (r : ℕ). Reach succ r d) (List·Memᴰ·eq-of-singleton (a .1)) (a .2)
 
-  pub reach-reached : (c d : ℕ) → c < n → Reach succ c d → elem d (reached n succ c) ≡ true
-  unfolding reached ReachAny
+  pub reach-reached : (c d : ℕ) → c < n → Reach succ c d → elem d (reachedFrom n succ c) ≡ true
+  unfolding reachedFrom ReachAny
   reach-reached c d l p = mem-elem d (postOrder succ everywhere n (c ∷ [])) (reach-all succ n inside (c ∷ []) (root-in c l) d (c, List·Memᴰ·head refl, p))
 
   -- connection is paths both ways
@@ -45,14 +45,14 @@ module _ (n : ℕ) (succ : ℕ → List ℕ) (inside : (m y : ℕ) → m < n →
   pub connected-reach : (c d : ℕ) → c < n → connected n succ c d ≡ true → Reach succ c d × Reach succ d c
   unfolding connected
   connected-reach c d l e =
-      let b = and-parts (elem d (reached n succ c)) (elem c (reached n succ d)) e in
+      let b = and-parts (elem d (reachedFrom n succ c)) (elem c (reachedFrom n succ d)) e in
       let p = reached-reach c d l (b .0) in
       (p, reached-reach d c (reach-in l p) (b .1))
 
   pub reach-connected : (c d : ℕ) → c < n → Reach succ c d → Reach succ d c → connected n succ c d ≡ true
   unfolding connected
   reach-connected c d l p q =
-      and-join (elem d (reached n succ c)) (elem c (reached n succ d)) (reach-reached c d l p) (reach-reached d c (reach-in l p) q)
+      and-join (elem d (reachedFrom n succ c)) (elem c (reachedFrom n succ d)) (reach-reached c d l p) (reach-reached d c (reach-in l p) q)
 
   pub connected-in : (c d : ℕ) → c < n → connected n succ c d ≡ true → d < n
   connected-in c d l e = reach-in l (connected-reach c d l e .0)
@@ -200,11 +200,11 @@ module _ (n : ℕ) (succ : ℕ → List ℕ) (inside : (m y : ℕ) → m < n →
   pub cycle-reach : (c : ℕ) → c < n → reachesCycle n succ c ≡ true → (d : ℕ) × Reach succ c d × Reach⁺ succ d d
   unfolding reachesCycle
   cycle-reach c l e =
-      let r = any-mem (cyclic n succ) (reached n succ c) e in
-      let p = reached-reach c (r .0) l (mem-elem (r .0) (reached n succ c) (r .1)) in
+      let r = any-mem (cyclic n succ) (reachedFrom n succ c) e in
+      let p = reached-reach c (r .0) l (mem-elem (r .0) (reachedFrom n succ c) (r .1)) in
       (r .0, p, cyclic-reach (r .0) (reach-in l p) (r .2))
 
   pub reach-cycle : (c d : ℕ) → c < n → Reach succ c d → Reach⁺ succ d d → reachesCycle n succ c ≡ true
   unfolding reachesCycle
   reach-cycle c d l p q =
-      mem-any (cyclic n succ) (reached n succ c) (elem-mem d (reached n succ c) (reach-reached c d l p)) (reach-cyclic d (reach-in l p) q)
+      mem-any (cyclic n succ) (reachedFrom n succ c) (elem-mem d (reachedFrom n succ c) (reach-reached c d l p)) (reach-cyclic d (reach-in l p) q)

@@ -14,7 +14,7 @@ use Rattle.walk.proofs.Going.{none-visited, met-visited, left-visited, visited-
 use Rattle.tables.specs.Readings.{valuesOf}
 use Rattle.tables.specs.Threads.{NextRow}
 use Rattle.tables.proofs.Threads.{At, at-next, passed, passed-first, passed-next, passed-all}
-use Rattle.strong_connection.specs.Cycles.{reached}
+use Rattle.strong_connection.specs.Cycles.{reachedFrom}
 use Rattle.strong_connection.specs.inner.Marking.{marking, nothing, Marked, reachMarks}
 
 pub marked-old : (succ : ℕ → List ℕ) (marks : List ℕ) (m : ℕ) → isZero (getD marks m 1) ≡ false → Marked succ marks m marks
@@ -25,7 +25,7 @@ marked-grown succ marks m marks′ v = visited-grown succ everywhere nothing v
 
 -- from nothing met, the marks are those of what is reached
 pub marked-reached : (succ : ℕ → List ℕ) (n c : ℕ) (marks : List ℕ) → Marked succ (replicate n 0) c marks → marks ≡ reachMarks n succ c
-unfolding reached
+unfolding reachedFrom
 marked-reached succ n c marks v =
     sym (ap (λ (s : St (Unit {0})). s .marks) (visited-walk succ everywhere nothing v))
     ∙ ap (λ (s : St (Unit {0})). s .marks) (walk-fold succ everywhere nothing tt (unmet n) (c ∷ []))

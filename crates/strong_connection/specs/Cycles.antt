@@ -11,12 +11,12 @@ use Rattle.tables.specs.Readings.{firstOf}
 
 module _ (n : ℕ) (imported : ℕ → List ℕ) where
   -- the chunks that c reaches, itself counted
-  unfoldable pub reached : ℕ → List ℕ
-  reached c = postOrder imported everywhere n (c ∷ [])
+  unfoldable pub reachedFrom : ℕ → List ℕ
+  reachedFrom c = postOrder imported everywhere n (c ∷ [])
 
   -- c and d reach each other: they are in one component
   unfoldable pub connected : ℕ → ℕ → Bool
-  connected c d = elem d (reached c) && elem c (reached d)
+  connected c d = elem d (reachedFrom c) && elem c (reachedFrom d)
 
   -- the component of c, by rising row
   unfoldable pub component : ℕ → List ℕ
@@ -35,4 +35,4 @@ module _ (n : ℕ) (imported : ℕ → List ℕ) where
 
   -- "`reachable_from` says whether a chunk reaches a cyclic one, itself counted."
   unfoldable pub reachesCycle : ℕ → Bool
-  reachesCycle c = any cyclic (reached c)
+  reachesCycle c = any cyclic (reachedFrom c)

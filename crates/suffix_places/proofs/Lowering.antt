@@ -2,7 +2,7 @@
 -- Assumes nothing.
 use mathlib.Core.Path.{_≡_, refl, sym, ap, subst, _∙_}
 use mathlib.Core.Logic.{_⊎_, inl, inr, ⊎-elim}
-use mathlib.Core.Bool.{Bool, true, false, true≢false}
+use mathlib.Core.Bool.{Bool, true, true≢false}
 use mathlib.Core.List.{List, List·Memᴰ}
 use Prim.Native.Nat.{ℕ, _+_, _≤_, _<_}
 use native.Mathlib.Omega.{arith}
@@ -10,14 +10,12 @@ use native.Mathlib.Decide.{ℕ-discrete}
 use lib.ListN.{length, getD, set, length-set}
 use lib.Seq.{getD-set-same, getD-set-other}
 use Rattle.lists.specs.Words.{has}
-use Rattle.lists.proofs.Laws.{mark-in, has-in}
+use Rattle.lists.proofs.Laws.{mark-in}
+use Rattle.lists.proofs.Members.{mem-at, getD-mem}
 use Rattle.tables.specs.Project.{Project}
-use Rattle.tables.proofs.Accepted.{getD-mem}
 use Rattle.expected_order.specs.OfProject.{expectedOf}
-use Rattle.marks.proofs.Steps.{set-has}
-use Rattle.wrap_rules.proofs.Rows.{mem-at}
 use Rattle.suffix_rule.specs.inner.Suffix.{AllPlanned, Settled}
-use Rattle.suffix_places.specs.inner.Places.{never, Earlier, Small, StandsBelow, Stands, Lowered, LoweredEntry, LowestBelow}
+use Rattle.suffix_places.specs.inner.Places.{never, Earlier, Small, StandsBelow, Stands, Lowered, LowestBelow}
 
 wider : {order sensitive : List ℕ} {k x m : ℕ} → StandsBelow order sensitive k x m → StandsBelow order sensitive (k + 1) x m
 wider s = record { from = s .from; at = s .at; after = s .after; there = omega (arith, s .there); first = s .first; named = s .named; early = s .early; late = s .late }

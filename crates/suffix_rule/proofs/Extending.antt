@@ -1,7 +1,7 @@
 -- Rule (i) by orders: the suffix of one order, of several in turn, and orders that need no second look.
 -- Assumes nothing.
 use mathlib.Core.Path.{_≡_, refl, sym, ap, subst, _∙_, fun-ext}
-use mathlib.Core.Logic.{_⊎_, inl, inr, ⊎-elim}
+use mathlib.Core.Logic.{inl, inr, ⊎-elim}
 use mathlib.Core.Bool.{Bool, true, false, not, _&&_, _||_, false≢true}
 use mathlib.Core.List.{List, [], _∷_, _++_, map, map-append, List·Memᴰ, List·Memᴰ·head, Memᴰ·of-map}
 use Prim.Native.Nat.{ℕ, _+_, _-_, _≤_, _<_}
@@ -11,10 +11,11 @@ use lib.ListN.{length, getD, take, drop, length-drop, length-set}
 use lib.Seq.{getD-drop, take-length}
 use Rattle.lists.specs.Words.{isZero, keep, any, elem, has, ones}
 use Rattle.lists.proofs.Laws.{both, and-parts, and-join, any-append, mem-keep, keep-mem, elem-mem, mem-elem, any-mem, mem-any, take-more, ones-zeros, getD-in}
+use Rattle.lists.proofs.Members.{mem-at, getD-mem}
+use Rattle.lists.proofs.Tests.{or-false}
 use Rattle.walk.specs.Close.{Within, Closed, Monotone, Bits}
 use Rattle.walk.proofs.Visits.{none-fresh}
 use Rattle.tables.specs.Accepted.{Below}
-use Rattle.tables.proofs.Accepted.{getD-mem}
 use Rattle.tables.specs.Project.{Project}
 use Rattle.expected_order.specs.OfProject.{expectedOf}
 use Rattle.wrap_rules.specs.Rules.{fromFirst, suffixAsks}
@@ -24,7 +25,7 @@ use Rattle.marks.proofs.Steps.{set-has, looked-has}
 use Rattle.suffix_rule.specs.inner.Suffix.{FirstIn, InSuffix, Joined, WholeSuffix, AllPlanned, Extended, sensitiveOrders, Settled, Candidates}
 use Rattle.wrap_rules.proofs.Monotone.{suffix-more}
 use Rattle.wrap_rules.proofs.Passes.{passed-added, passed-closed, join, pass-then}
-use Rattle.wrap_rules.proofs.Rows.{mem-at, fromFirst-places, places-fromFirst}
+use Rattle.wrap_rules.proofs.Rows.{fromFirst-places, places-fromFirst}
 
 -- the first planned member stands no later than the first eligible one
 pub whole-suffix : (order sensitive eligible S : List ℕ) (first from : ℕ) → FirstIn sensitive eligible order first → FirstIn sensitive S order from → from ≤ first → WholeSuffix order sensitive eligible S
@@ -249,13 +250,9 @@ module _ (p : Project) (roots sensitive eligible plan₀ : List ℕ) where
     walked-skip h = record {
       len = w .len;
       settles = w .settles;
-      passed = subst (Passed (suffixAsks (has eligible) (sensitiveOrders p sensitive (take (k + 1) roots))) plan₀ plan) (or-none changed)
+      passed = subst (Passed (suffixAsks (has eligible) (sensitiveOrders p sensitive (take (k + 1) roots))) plan₀ plan) (or-false changed)
           (more (planned-passed sensitive eligible (order (getD roots k 0)) (w .passed .bits) (w .settles k l h)));
     }
-      where
-        or-none : (b : Bool) → (b || false) ≡ b
-        or-none true = refl
-        or-none false = refl
 
     pub walked-step : {settled′ plan′ : List ℕ} {r : Bool} → Extended (order (getD roots k 0)) sensitive eligible k settled settled′ plan plan′ r → Walked (k + 1) settled′ plan′ (changed || r)
     unfolding Settled

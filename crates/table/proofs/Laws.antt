@@ -15,7 +15,7 @@ use Rattle.tables.specs.Accepted.{Accepted}
 use Rattle.tables.specs.declared.Answer.the-variants.{Refused, Counted}
 use Rattle.tables.proofs.Accepted.{accepted}
 use Rattle.tables.proofs.Answering.{not-zero}
-use Rattle.table.specs.Table.{part, columnAt, table, read, withRecords, current, boundsFit, tableNumber, testedToo, Lent, lentAs, lent, lentWith, answer}
+use Rattle.table.specs.Table.{part, columnAt, table, read, withRecords, current, boundsFit, tableNumber, testedToo, lentAs, lent, lentWith, answer}
 use Rattle.names.specs.Names.{namesSized, namesIn}
 use Rattle.table.proofs.Current.{current-accepted}
 
@@ -41,14 +41,6 @@ column-none bounds columns k l = column-part bounds columns k 0 0 (sym (List·ge
 pub read-own : (p : Project) → read p (p .recordModule) (p .recordKind) (p .recordTarget) (p .dependency) (p .member) ≡ p
 unfolding read
 read-own p = refl
-
--- and so is a table read with what was cut from it
-pub read-cut : (runtime dynamic : ℕ) (bounds columns : List ℕ) {importers kinds targets dependencies members : List ℕ}
-    → importers ≡ columnAt bounds columns 8 → kinds ≡ columnAt bounds columns 9 → targets ≡ columnAt bounds columns 10
-    → dependencies ≡ columnAt bounds columns 12 → members ≡ columnAt bounds columns 28
-    → read (table runtime dynamic bounds columns) importers kinds targets dependencies members ≡ table runtime dynamic bounds columns
-unfolding table
-read-cut runtime dynamic bounds columns e1 e2 e3 e4 e5 = rw (e1, e2, e3, e4, e5) (read-own (table runtime dynamic bounds columns))
 
 -- with its dependencies and members cut from it, only its records are others
 pub records-cut : (runtime dynamic : ℕ) (bounds columns importers kinds targets : List ℕ) {dependencies members : List ℕ}

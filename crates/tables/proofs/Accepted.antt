@@ -11,21 +11,17 @@ use lib.Dec.{eqb, ltb, leb}
 use borrow.Author.Tests.{ltb-true, leb-true, eqb-true, eqb-false, eq-eqb}
 use Rattle.lists.specs.Words.{isZero, upTo, any, every, twice, Distinct}
 use Rattle.lists.proofs.Laws.{and-parts, and-join, or-parts, not-true, every-mem, upTo-mem, mem-elem, mem-any}
+use Rattle.lists.proofs.Members.{mem-at}
+use Rattle.lists.proofs.Tests.{every-at}
 use Rattle.tables.specs.Project.{Project, missing}
 use Rattle.tables.specs.Readings.{modules, isNormal}
 use Rattle.tables.specs.Refusal.{moduleLimit, chunkLimit, rowLimit, sized, codeSized, symbolsSized, chunksSized, sizesFit, below, belowOrMissing, codeIn, symbolsIn, chunksIn, valuesFit, rowsRise, samePair, allNormal, usesOwn, dependedResolved, plainSymbols, entriesOnce, importsOnce, rowsAgree, newerFits, refusal}
 use Rattle.tables.specs.Accepted.{Below, BelowOrMissing, Sizes, Values, Rises, Agrees, Accepted}
 use Rattle.tables.proofs.Rise.{rises-rising}
 
--- the row of a list stands in it
-pub getD-mem : (xs : List ℕ) (i : ℕ) → i < length xs → List·Memᴰ (getD xs i 0) xs
-getD-mem [] i h = absurd (omega arith)
-getD-mem (x ∷ xs) zero h = List·Memᴰ·head refl
-getD-mem (x ∷ xs) (suc i) h = List·Memᴰ·tail (getD-mem xs i (omega arith))
-
--- what every row passes, each row passes
-pub every-at : (f : ℕ → Bool) (xs : List ℕ) → every f xs ≡ true → (i : ℕ) → i < length xs → f (getD xs i 0) ≡ true
-every-at f xs e i h = every-mem f xs e (getD-mem xs i h)
+-- a member of a column is below the column's bound
+pub below-mem : {x n : ℕ} (xs : List ℕ) → Below n xs → List·Memᴰ x xs → x < n
+below-mem xs b h = let r = mem-at xs h in omega (arith, b (r .0) (r .1), r .2)
 
 -- 1
 
@@ -122,12 +118,12 @@ sizes-fit p e =
 
 below-rows : (n : ℕ) (column : List ℕ) → below n column ≡ true → Below n column
 unfolding below
-below-rows n column e i h = ltb-true _ _ (every-at (λ (x : ℕ). ltb x n) column e i h)
+below-rows n column e i h = ltb-true _ _ (every-at (λ (x : ℕ). ltb x n) column 0 e i h)
 
 below-or-missing-rows : (n : ℕ) (column : List ℕ) → belowOrMissing n column ≡ true → BelowOrMissing n column
 unfolding belowOrMissing
 below-or-missing-rows n column e i h =
-    ⊎-map (ltb-true _ _) (eqb-true _ _) (or-parts _ _ (every-at (λ (x : ℕ). ltb x n || eqb x missing) column e i h))
+    ⊎-map (ltb-true _ _) (eqb-true _ _) (or-parts _ _ (every-at (λ (x : ℕ). ltb x n || eqb x missing) column 0 e i h))
 
 pub values-fit : (p : Project) → valuesFit p ≡ true → Values p
 unfolding valuesFit
@@ -257,7 +253,7 @@ pairs-once (x ∷ xs) (y ∷ ys) e (suc i) (suc j) l h k u v =
 module _ (normal column : List ℕ) where
   normal-rows : allNormal normal column ≡ true → (i : ℕ) → i < length column → isNormal normal (getD column i 0) ≡ true
   unfolding allNormal
-  normal-rows e = every-at (isNormal normal) column e
+  normal-rows e = every-at (isNormal normal) column 0 e
 
 module _ (p : Project) where
   own-rows : usesOwn (p .statementModule) (p .recordModule) (p .useStatement) (p .useRecord) ≡ true
@@ -268,7 +264,7 @@ module _ (p : Project) where
   depended-rows : dependedResolved (p .referenceForm) (p .dependedReference) ≡ true
       → (i : ℕ) → i < length (p .dependedReference) → getD (p .referenceForm) (getD (p .dependedReference) i 0) 0 ≡ 2
   unfolding dependedResolved
-  depended-rows e i h = eqb-true _ _ (every-at (λ (reference : ℕ). eqb (getD (p .referenceForm) reference 0) 2) (p .dependedReference) e i h)
+  depended-rows e i h = eqb-true _ _ (every-at (λ (reference : ℕ). eqb (getD (p .referenceForm) reference 0) 2) (p .dependedReference) 0 e i h)
 
   symbol-rows : plainSymbols (p .referenceForm) (p .referenceSymbol) ≡ true
       → (i : ℕ) → i < length (p .referenceForm) → (getD (p .referenceForm) i 0 ≡ 2) ⊎ (getD (p .referenceSymbol) i 0 ≡ missing → ⊥)

@@ -6,7 +6,7 @@ use mathlib.Core.List.{List, _++_}
 use Prim.Native.Nat.{ℕ, zero, suc}
 use lib.ListN.{length, drop}
 use Rattle.lists.specs.Words.{isZero}
-use Rattle.tables.specs.Answers.{verdict, counted, after}
+use Rattle.tables.specs.Answers.{verdict, after}
 
 pub not-zero : (n : ℕ) → (n ≡ 0 → ⊥) → isZero n ≡ false
 not-zero zero h = absurd (h refl)
@@ -28,18 +28,12 @@ module _ (number : ℕ) (fits room : Bool) where
   pub verdict-none : number ≡ 0 → fits ≡ true → room ≡ true → verdict number fits room ≡ 0
   verdict-none e f r = rw (e, f, r)
 
--- a refusal counts nothing and leaves a slice as it was
-
-pub counted-refused : (v n : ℕ) → (v ≡ 0 → ⊥) → counted v n ≡ 0
-counted-refused v n h = rw (not-zero v h)
+-- a refusal leaves a slice as it was
 
 pub after-refused : (v : ℕ) (old new : List ℕ) → (v ≡ 0 → ⊥) → after v old new ≡ old
 after-refused v old new h = rw (not-zero v h)
 
--- an accepted call counts, and writes from place 0
-
-pub counted-accepted : (v n : ℕ) → v ≡ 0 → counted v n ≡ n
-counted-accepted v n e = rw e
+-- an accepted call writes from place 0
 
 pub after-accepted : (v : ℕ) (old new : List ℕ) → v ≡ 0 → after v old new ≡ new ++ drop (length new) old
 after-accepted v old new e = rw e

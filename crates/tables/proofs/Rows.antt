@@ -5,7 +5,6 @@ use mathlib.Core.Bool.{Bool}
 use mathlib.Core.List.{List, [], _∷_, _++_, append-nil, map, flatMap}
 use Prim.Native.Nat.{ℕ, zero, suc, _+_, _-_, _≤_, _<_}
 use native.Mathlib.Nat.{zero-add}
-use native.Mathlib.Numerals.{add-one}
 use native.Mathlib.Decide.{decLe}
 use native.Mathlib.Omega.{arith}
 use lib.ListN.{length, getD, take, drop}
@@ -13,22 +12,10 @@ use lib.Seq.{drop-cons}
 use lib.Dec.{eqb}
 use borrow.Author.Tests.{eq-eqb, ne-eqb}
 use Rattle.lists.specs.Words.{countFrom, keep}
-use Rattle.lists.proofs.Laws.{countFrom-append, mem-countFrom, keep-append, keep-none, keep-all}
+use Rattle.lists.proofs.Laws.{countFrom-append, mem-countFrom, keep-append, keep-none, keep-all, count-step, count-end}
 use Rattle.tables.specs.declared.Target.{Target}
 use Rattle.tables.specs.Lookups.{FirstRow}
 use Rattle.tables.specs.Readings.{rowsOf, rowTargets, targetsOf, valuesOf}
-
--- a run of rows, by its first
-pub count-step : (row end : ℕ) → row < end → countFrom row (end - row) ≡ row ∷ countFrom (row + 1) (end - (row + 1))
-count-step row end h =
-    let n : end - row ≡ suc (end - (row + 1)) = omega arith in
-    rw (n, add-one)
-
--- a run of no rows
-pub count-end : (row end : ℕ) → end ≤ row → countFrom row (end - row) ≡ []
-count-end row end h =
-    let n : end - row ≡ zero = omega arith in
-    rw n
 
 module _ {A : Type 0} (f : ℕ → List A) (row end : ℕ) where
   -- what a run of rows gives, by its first row

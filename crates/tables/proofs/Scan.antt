@@ -9,7 +9,7 @@ use native.Mathlib.Omega.{arith}
 use lib.ListN.{length, getD}
 use Rattle.lists.specs.Words.{every}
 use Rattle.lists.proofs.Laws.{both}
-use Rattle.tables.proofs.Accepted.{every-at}
+use Rattle.lists.proofs.Tests.{every-at}
 
 -- one that fails
 fails : (a : Bool) → (a ≡ true → ⊥) → false ≡ a
@@ -26,4 +26,4 @@ module _ (f : ℕ → Bool) (xs : List ℕ) (i : ℕ) where
 
   -- a row of a column failed
   pub row-fails : i < length xs → f (getD xs i 0) ≡ false → false ≡ every f xs
-  row-fails l e = fails (every f xs) (λ t. true≢false (sym (every-at f xs t i l) ∙ e))
+  row-fails l e = fails (every f xs) (λ t. true≢false (sym (every-at f xs 0 t i l) ∙ e))

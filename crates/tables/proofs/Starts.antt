@@ -7,23 +7,17 @@ use Prim.Native.Nat.{ℕ, _+_, _-_, _≤_, _<_}
 use native.Mathlib.Nat.{le-refl}
 use native.Mathlib.Decide.{ℕ-discrete, decLt}
 use native.Mathlib.Omega.{arith}
-use lib.ListN.{length, getD, set, replicate, length-set, length-replicate, getD-replicate, List·getD-eq-default}
+use lib.ListN.{length, getD, set, replicate, length-set}
 use lib.Seq.{getD-set-same, getD-set-other}
+use Rattle.lists.proofs.Fronts.{zeros-at}
 use Rattle.tables.specs.Lookups.{Rising, FirstRows, greaterOf, RowEnds}
 use Rattle.tables.proofs.Greater.{greater-first, greater-second, greater-one}
-
-zero-at : (n x : ℕ) → _≡_ {A = ℕ} (getD (replicate n 0) x 0) 0
-zero-at n x = go (decLt x n)
-  where
-    go : Dec (x < n) → _≡_ {A = ℕ} (getD (replicate n 0) x 0) 0
-    go (yes h) = getD-replicate n x 0 0 h
-    go (no h) = List·getD-eq-default (replicate n 0) 0 (rw length-replicate (omega arith))
 
 pub ends-none : (xs : List ℕ) (n : ℕ) → RowEnds xs (replicate n 0) 0
 ends-none xs n =
     record {
-      within = λ x. omega (arith, zero-at n x);
-      below = λ x i h. absurd (omega (arith, zero-at n x));
+      within = λ x. omega (arith, zeros-at n x);
+      below = λ x i h. absurd (omega (arith, zeros-at n x));
       behind = λ i h l. absurd (omega arith);
     }
 

@@ -1,9 +1,9 @@
 -- What a record row leads to by imports to normal modules.
 -- Assumes nothing.
-use mathlib.Core.Path.{_≡_, refl, sym, ap, _∙_}
-use mathlib.Core.Bool.{Bool, true, false, cond}
+use mathlib.Core.Path.{_≡_, refl}
+use mathlib.Core.Bool.{true, false}
 use mathlib.Core.Logic.{_⊎_, ⊎-elim}
-use mathlib.Core.List.{List, [], _∷_}
+use mathlib.Core.List.{List, []}
 use Prim.Native.Nat.{ℕ, _<_}
 use native.Mathlib.Omega.{arith}
 use native.Mathlib.Decide.{decLt}
@@ -12,7 +12,7 @@ use lib.Dec.{eqb}
 use borrow.Author.Tests.{eqb-true}
 use Rattle.lists.proofs.Laws.{both}
 use Rattle.tables.specs.Project.{missing}
-use Rattle.tables.specs.Readings.{isNormal, isImport, pickTarget, resolved, normalTarget, rowTargets}
+use Rattle.tables.specs.Readings.{isNormal, isImport, resolved, normalTarget, rowTargets}
 use denote.Enum.Declared.{tagOf}
 use Rattle.tables.proofs.Target.{the-type}
 use Rattle.tables.specs.declared.Target.{Target}

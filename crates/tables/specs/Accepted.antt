@@ -7,7 +7,7 @@ use mathlib.Core.List.{List}
 use Prim.Native.Nat.{ℕ, _≤_, _<_}
 use lib.ListN.{length, getD}
 use Rattle.lists.specs.Words.{Distinct}
-use Rattle.tables.specs.Project.{Project, missing, largest}
+use Rattle.tables.specs.Project.{Project, missing}
 use Rattle.tables.specs.Readings.{modules, chunks, isNormal}
 use Rattle.tables.specs.Refusal.{moduleLimit, chunkLimit, rowLimit, newerFits}
 use Rattle.tables.specs.Lookups.{Rising}

@@ -1,8 +1,8 @@
 -- What an operation answers, and what it leaves in a lent slice.
 -- Assumes nothing.
-use mathlib.Core.Bool.{Bool, true, false, cond}
+use mathlib.Core.Bool.{Bool, cond}
 use mathlib.Core.List.{List, _++_}
-use Prim.Native.Nat.{ℕ, zero, suc}
+use Prim.Native.Nat.{ℕ, zero}
 use lib.ListN.{length, drop}
 use Rattle.lists.specs.Words.{isZero}
 use Rattle.tables.specs.declared.Answer.{Answer}

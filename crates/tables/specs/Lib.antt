@@ -1,4 +1,4 @@
--- The project as document 01 has it: its columns, its derived readings, the tests 1 to 4, and what an operation answers.
+-- The project as document 01 has it: its columns, its derived readings, the tests 1 to 4 and 10, and what an operation answers.
 pub mod Project
 pub mod Readings
 pub mod Refusal

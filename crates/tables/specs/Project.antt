@@ -1,6 +1,5 @@
 -- The project: two settings and fourteen row lists, as 34 columns in 01's order and under 01's words (`newer` is 02's).
 -- Assumes nothing.
-use mathlib.Core.Path.{_≡_}
 use mathlib.Core.List.{List}
 use Prim.Native.Nat.{ℕ}
 

@@ -2,9 +2,9 @@
 -- Assumes nothing.
 use mathlib.Core.Bool.{Bool, true, false, cond, not, _&&_, _||_}
 use mathlib.Core.List.{List, [], _∷_, map, flatMap}
-use Prim.Native.Nat.{ℕ, zero, suc}
+use Prim.Native.Nat.{ℕ}
 use lib.ListN.{length, getD}
-use lib.Dec.{eqb, ltb, leb}
+use lib.Dec.{eqb, ltb}
 use Rattle.lists.specs.Words.{upTo, keep, any}
 use Rattle.tables.specs.Project.{Project, missing}
 use Rattle.tables.specs.declared.Target.{Target}

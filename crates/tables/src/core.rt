@@ -1,6 +1,6 @@
 // Row look-ups, for crates above, on tested tables.
 ghost use mathlib.Core.Path.{_≡_};
-ghost use Prim.Native.Nat.{ℕ, _<_, _≤_};
+ghost use Prim.Native.Nat.{_<_, _≤_};
 ghost use lib.ListN.{length};
 ghost use Rattle.tables.specs.Lookups.{Rising, FirstRow, FirstRows, greaterOf, RowEnds};
 ghost use Rattle.tables.specs.Readings.{isStatic, resolved};

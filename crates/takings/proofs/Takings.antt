@@ -35,6 +35,11 @@ set-in n xs i e =
     let l : i < n = subst (λ (k : ℕ). i < k) (length-marksOf (λ (x : ℕ). elem x xs) n) (has-in (setOf n xs) i e) in
     elem-mem i xs (sym (has-marksOf (λ (x : ℕ). elem x xs) n i l) ∙ e)
 
+-- what holds after the last taking of a chain
+pub last : {rule : List ℕ → ℕ → Bool} {s list : List ℕ} {k : ℕ} → Takes rule s list k → Taking rule s list k
+last (start t) = t
+last (next b f p t) = t
+
 module _ (rule : List ℕ → ℕ → Bool) (mono : Monotone rule) (s : List ℕ) where
   -- every closed set that holds the start holds the list
   within : {list : List ℕ} {k : ℕ} → Takes rule s list k → (u : List ℕ) → length u ≡ length s → Closed rule u → Within s u → (m : ℕ) → List·Memᴰ m list → has u m ≡ true
@@ -52,10 +57,6 @@ module _ (rule : List ℕ → ℕ → Bool) (mono : Monotone rule) (s : List ℕ
       (mono (setOf (length s) (take (suc k) list′)) u (length-marksOf (λ (x : ℕ). elem x (take (suc k) list′)) (length s) ∙ sym l)
       (λ j e. within b u l c w j (take-mem (suc k) list (subst (List·Memᴰ j) earlier (set-in (length s) (take (suc k) list′) j e)))) m r))
       (or-parts (has s m) (rule (setOf (length s) (take (suc k) list′)) m) (sym (t .holds m i) ∙ mem-elem m list′ h))
-
-  last : {list : List ℕ} {k : ℕ} → Takes rule s list k → Taking rule s list k
-  last (start t) = t
-  last (next b f p t) = t
 
   -- with all taken, the list is the least closed set
   pub taken-closes : {list : List ℕ} → Bits s → Takes rule s list (length list) → setOf (length s) list ≡ close rule s

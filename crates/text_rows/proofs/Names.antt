@@ -11,8 +11,9 @@ use lib.ListN.{length, getD, take, drop, length-append}
 use lib.Seq.{drop-cons, take-at, drop-at}
 use lib.Dec.{ltb}
 use borrow.Author.Tests.{ltb-true}
+use Rattle.lists.proofs.Laws.{and-parts}
+use Rattle.lists.proofs.Tests.{every-at}
 use Rattle.form.specs.Form.{names}
-use Rattle.form.proofs.Lists.{and-true, every-at}
 use Rattle.text_rows.specs.inner.Cells.{Head, head, headsOf, widths, heads, nameLines, startsOf}
 use Rattle.text_rows.specs.inner.Steps.{Room, Step, Steps}
 use Rattle.text_rows.specs.declared.core.Cursor.{Cursor}
@@ -22,7 +23,7 @@ use Rattle.text_rows.proofs.Listed.{steps-none, steps-more}
 -- every list has a column, and eight at most
 pub narrow : (l : ℕ) → l < 15 → (0 < getD widths l 0) × (getD widths l 0 < 9)
 narrow l h =
-    let t = and-true _ _ (every-at (λ (w : ℕ). ltb 0 w && ltb w 9) widths 0 l refl h) in
+    let t = and-parts _ _ (every-at (λ (w : ℕ). ltb 0 w && ltb w 9) widths 0 refl l h) in
     (ltb-true 0 (getD widths l 0) (t .0), ltb-true (getD widths l 0) 9 (t .1))
 
 -- the l-th of some heads

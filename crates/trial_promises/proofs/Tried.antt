@@ -1,34 +1,31 @@
 -- The statements on tried loads.
 -- Assumes nothing.
-use mathlib.Core.Path.{_≡_, refl, sym, ap, subst, _∙_}
-use mathlib.Core.Logic.{⊎-elim}
-use mathlib.Core.Bool.{Bool, true, false, cond}
+use mathlib.Core.Path.{_≡_, refl, sym, ap, _∙_}
 use mathlib.Core.List.{List, [], _∷_, _++_, map}
 use Prim.Native.Nat.{ℕ, zero, suc, _+_, _≤_, _<_}
 use native.Mathlib.Omega.{arith}
 use native.Mathlib.Decide.{decLt}
 use lib.ListN.{length, getD, take, drop, replicate, length-map, List·getD-append}
-use lib.Dec.{eqb}
 use borrow.Author.Tests.{eq-eqb, ne-eqb}
-use Rattle.lists.specs.Words.{isZero, countFrom, upTo, keep}
+use Rattle.lists.specs.Words.{countFrom}
 use Rattle.tables.specs.Project.{Project, missing}
-use Rattle.tables.specs.Readings.{modules, isAnalysed}
+use Rattle.tables.specs.Readings.{modules}
 use Rattle.tables.specs.Answers.{after}
 use Rattle.tables.specs.declared.Answer.{Answer}
 use Rattle.tables.specs.declared.Answer.the-variants as answers
-use Rattle.table.specs.Table.{Lent, answer}
-use Rattle.actual_order.specs.Actual.{Executed, runOf, readAsTwo, actualOf, hostsOf}
-use Rattle.plan_conditions.specs.Form.{planFits}
-use Rattle.promises.specs.Load.{PlannedLoadKeepsTheOrder}
-use Rattle.promises.proofs.Load.{plannedLoadKeepsTheOrder}
-use Rattle.planned_load.specs.Steps.{plannedRun, hostBy, stepAt, stepOf, stepModules, stepHosts}
+use Rattle.table.specs.Table.{answer}
+use Rattle.entry_run.specs.Actual.{Executed, runOf, readAsTwo, actualOf, hostsOf}
+use Rattle.load_promises.specs.Load.{PlannedLoadKeepsTheOrder}
+use Rattle.load_promises.proofs.Load.{plannedLoadKeepsTheOrder}
+use Rattle.planned_load.specs.Steps.{plannedRun, stepAt, stepOf, stepModules, stepHosts}
+use Rattle.wraps_and_hosts.specs.Hosts.{hostBy}
 use Rattle.planned_load.specs.declared.LoadStep.{LoadStep}
 use Rattle.planned_load.specs.declared.LoadStep.the-variants.{Step, Done}
 use Rattle.planned_load.proofs.Stepping.{step-done, step-there, planned-length}
-use Rattle.planned_load.proofs.Fronts.{at-map}
-use Rattle.load_trial.specs.Promise.{loadStep, runVerdict, LoadRun}
+use Rattle.wraps_and_hosts.proofs.Fronts.{at-map}
+use Rattle.load_trial.specs.Promise.{runVerdict}
 use Rattle.load_trial.proofs.Promise.{step-shown}
-use Rattle.trial_promises.specs.Tried.{FirstStepsAreFirstPlaces, HostShown, HostsAreShown, DoneAt, DoneExactlyWhenNoneIsLeft, Unplanned, EmptyPlanRunsTheActualOrder, StepCallAnswersTheStep, HoldsSteps, WholeRunHoldsTheSteps, PlannedStepsKeepTheOrder}
+use Rattle.trial_promises.specs.Tried.{FirstStepsAreFirstPlaces, HostsAreShown, DoneExactlyWhenNoneIsLeft, EmptyPlanRunsTheActualOrder, StepCallAnswersTheStep, WholeRunHoldsTheSteps, PlannedStepsKeepTheOrder}
 
 -- the steps from number i on are those of the list, from number 0 on, where its first i places are left out
 steps-from : (f : ℕ → LoadStep) (noted listed : List ℕ) (i n : ℕ) → ((k : ℕ) → f (i + k) ≡ stepAt noted listed k) → n ≤ length listed

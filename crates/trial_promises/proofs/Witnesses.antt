@@ -1,7 +1,7 @@
 -- The steps on document 01's listing, computed.
 -- Assumes nothing.
 use mathlib.Core.Path.{refl}
-use Rattle.promises.proofs.Computing.{computing}
+use Rattle.marked_cases.proofs.Computing.{computing}
 use Rattle.planned_load.specs.Steps.{plannedRun, stepOf, stepModules, stepHosts}
 use Rattle.trial_promises.specs.Witnesses.{TrialWitness}
 

@@ -12,13 +12,14 @@ use Rattle.tables.specs.Readings.{modules, isAnalysed}
 use Rattle.tables.specs.Refusal.{refusal}
 use Rattle.tables.specs.declared.Answer.the-variants.{Counted}
 use Rattle.table.specs.Table.{Lent}
-use Rattle.actual_order.specs.Actual.{actualOf, hostsOf}
+use Rattle.entry_run.specs.Actual.{actualOf, hostsOf}
 use Rattle.sensitivity.specs.Marks.{sensitive}
 use Rattle.wrap_rules.specs.Plan.{expectedSensitiveOf}
-use Rattle.order_analysis.specs.Whole.{wholePlan}
+use Rattle.order_analysis.specs.Promise.{wholePlan}
 use Rattle.plan_conditions.specs.Form.{planFits}
-use Rattle.promises.specs.Load.{Plain}
-use Rattle.planned_load.specs.Steps.{plannedRun, hostBy, stepAt, stepOf, stepModules, stepHosts}
+use Rattle.load_promises.specs.Load.{Plain}
+use Rattle.planned_load.specs.Steps.{plannedRun, stepAt, stepOf, stepModules, stepHosts}
+use Rattle.wraps_and_hosts.specs.Hosts.{hostBy}
 use Rattle.planned_load.specs.declared.LoadStep.the-variants.{Step, Done}
 use Rattle.load_trial.specs.Promise.{loadStep, LoadRun}
 

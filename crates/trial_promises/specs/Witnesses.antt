@@ -1,10 +1,9 @@
 -- The steps on document 01's listing, with the whole analysis' plan and with the empty one: the statements say something.
 -- Assumes nothing.
 use mathlib.Core.Path.{_≡_}
-use mathlib.Core.List.{List, [], _∷_}
-use Prim.Native.Nat.{ℕ}
-use Rattle.order_analysis.specs.Whole.{wholePlan}
-use Rattle.promises.specs.Listing.{listing}
+use mathlib.Core.List.{[], _∷_}
+use Rattle.order_analysis.specs.Promise.{wholePlan}
+use Rattle.marked_cases.specs.Listing.{listing}
 use Rattle.planned_load.specs.Steps.{stepOf, stepModules, stepHosts}
 use Rattle.planned_load.specs.declared.LoadStep.the-variants.{Step, Done}
 

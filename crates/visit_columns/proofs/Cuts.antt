@@ -5,19 +5,12 @@ use mathlib.Core.List.{List, [], _∷_, _++_}
 use Prim.Native.Nat.{ℕ, zero, suc, _+_, _-_, _≤_}
 use native.Mathlib.Omega.{arith}
 use lib.ListN.{length, take, drop}
-use lib.Seq.{length-take-le, take-at, drop-at}
+use lib.Seq.{length-take-le, take-at, take-take, drop-at}
 use borrow.Rule.Slice.PartMut.{postOf, putMid, mid-len, same-len-mid, take-put}
 use Rattle.visit_columns.specs.inner.Prepared.{cut}
 
--- what stands before a place is seen in front of it
-take-front : (j a : ℕ) (zs : List ℕ) → j ≤ a → take j (take a zs) ≡ take j zs
-take-front zero a zs l = refl
-take-front (suc j) zero zs l = absurd (omega arith)
-take-front (suc j) (suc a) [] l = refl
-take-front (suc j) (suc a) (z ∷ zs) l = ap (λ (x : List ℕ). z ∷ x) (take-front j a zs (omega arith))
-
 mid-front : (c j a : ℕ) (zs : List ℕ) → c + j ≤ a → take j (drop c (take a zs)) ≡ take j (drop c zs)
-mid-front zero j a zs l = take-front j a zs (omega arith)
+mid-front zero j a zs l = take-take j a zs (omega arith)
 mid-front (suc c) j zero zs l = absurd (omega arith)
 mid-front (suc c) j (suc a) [] l = refl
 mid-front (suc c) j (suc a) (z ∷ zs) l = mid-front c j a zs (omega arith)
@@ -43,7 +36,7 @@ module _ (a b : ℕ) (xs ys : List ℕ) (ordered : a ≤ b) (within : b ≤ leng
 
   -- the front before it
   pub front-before : (n : ℕ) → n ≤ a → take n (putMid a (b - a) xs ys) ≡ take n xs
-  front-before n l = sym (take-front n a (putMid a (b - a) xs ys) l) ∙ ap (take n) (take-put a (b - a) xs ys (omega arith)) ∙ take-front n a xs l
+  front-before n l = sym (take-take n a (putMid a (b - a) xs ys) l) ∙ ap (take n) (take-put a (b - a) xs ys (omega arith)) ∙ take-take n a xs l
 
   pub put-length : length (putMid a (b - a) xs ys) ≡ length xs
   put-length = same-len-mid a (b - a) xs ys size

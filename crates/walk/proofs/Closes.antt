@@ -1,9 +1,9 @@
 -- `close` gives the least closed set, for any rule that asks for more where more is in; and a set between the start and the least closed set
 -- that is closed is that set.
 -- Assumes nothing.
-use mathlib.Core.Path.{_≡_, refl, sym, ap, subst, _∙_}
+use mathlib.Core.Path.{_≡_, refl, sym, ap, _∙_}
 use mathlib.Core.Logic.{_⊎_, inl, inr, ⊎-elim}
-use mathlib.Core.Bool.{Bool, true, false, not, true≢false, false≢true}
+use mathlib.Core.Bool.{Bool, true, false, not, false≢true}
 use mathlib.Core.List.{List, [], _∷_}
 use Prim.Native.Nat.{ℕ, zero, suc, _+_, _≤_, _<_}
 use native.Mathlib.Nat.{not-suc-le-zero, zero-add, add-zero, add-suc, suc-add}
@@ -11,8 +11,8 @@ use native.Mathlib.Decide.{decLt}
 use native.Mathlib.Omega.{arith}
 use lib.ListN.{length, getD, List·getD-eq-default}
 use lib.Seq.{ext-getD}
-use Rattle.lists.specs.Words.{isZero, has, zeros}
-use Rattle.lists.proofs.Laws.{has-in}
+use Rattle.lists.specs.Words.{isZero, has, zeros, bit, marksOf}
+use Rattle.lists.proofs.Laws.{has-in, length-marksOf, marksOf-at}
 use Rattle.walk.specs.Close.{mark, roundFrom, round, rounds, close, Within, Closed, Monotone, Bits}
 use Rattle.walk.proofs.Visits.{zeros-le}
 
@@ -184,3 +184,18 @@ unfolding Within Closed
 close-rises rule rule′ mono s t n more w =
     let u : List ℕ = close rule′ t in
     close-least rule mono u (λ i l e. close-closed rule′ t i l (more u (close-len rule′ t) i l e)) s (n ∙ sym (close-len rule′ t)) (λ i e. close-more rule′ t i (w i e))
+
+-- the marks of a test are 0 or 1
+pub marksOf-bits : (f : ℕ → Bool) (n : ℕ) → Bits (marksOf f n)
+unfolding Bits
+marksOf-bits f n i = go (decLt i n)
+  where
+    one : (b : Bool) → bit b ≤ 1
+    one true = omega arith
+    one false = omega arith
+
+    go : Dec (i < n) → getD (marksOf f n) i 0 ≤ 1
+    go (yes l) = rw (marksOf-at f n i l) (one (f i))
+    go (no l) =
+        let z : getD (marksOf f n) i 0 ≡ 0 = List·getD-eq-default (marksOf f n) 0 (omega (arith, length-marksOf f n)) in
+        omega arith

@@ -4,23 +4,16 @@
 use mathlib.Core.Path.{_≡_, refl, sym, ap, subst, _∙_}
 use mathlib.Core.Bool.{Bool, true, false, cond}
 use mathlib.Core.Logic.{⊎-elim}
-use mathlib.Core.List.{List, [], _∷_, _++_, foldl, foldl-append, flatMap, append-nil, append-assoc}
-use Prim.Native.Nat.{ℕ, zero, suc, _+_, _-_, _≤_, _<_}
-use native.Mathlib.Nat.{not-suc-le-zero, add-zero, add-suc, suc-add}
+use mathlib.Core.List.{List, [], _∷_, _++_, foldl, foldl-append, flatMap}
+use Prim.Native.Nat.{ℕ, zero, suc, _+_, _-_, _≤_}
+use native.Mathlib.Nat.{not-suc-le-zero}
 use native.Mathlib.Omega.{arith}
-use lib.ListN.{length, getD, set, replicate, take, drop, length-set, length-replicate, length-append}
-use Rattle.lists.specs.Words.{isZero, zeros, countFrom, keep}
-use Rattle.lists.proofs.Laws.{both, countFrom-append, length-keep}
-use Rattle.walk.specs.Walk.{St, fresh, enter, leave, visit, walk, postOrder, Visits, Placed, place}
-use Rattle.walk.proofs.Visits.{Grown, set-zeros, zeros-le, zeros-replicate, enters-true, visit-old, visit-new, visit-met, visit-stopped, visit-enters, visits-grown, walk-made}
-
--- one row more at the end
-flat-snoc : {B : Type 0} (f : ℕ → List B) (i n : ℕ) → flatMap f (countFrom i (suc n)) ≡ flatMap f (countFrom i n) ++ f (i + n)
-unfolding flatMap
-flat-snoc f i zero = append-nil (f i) ∙ ap f (sym (add-zero i))
-flat-snoc f i (suc n) =
-    ap (λ (l : List _). f i ++ l) (flat-snoc f (suc i) n ∙ ap (λ (k : ℕ). flatMap f (countFrom (suc i) n) ++ f k) (suc-add i n ∙ sym (add-suc i n)))
-    ∙ sym (append-assoc (f i) (flatMap f (countFrom (suc i) n)) (f (i + suc n)))
+use lib.ListN.{length, getD}
+use Rattle.lists.specs.Words.{zeros, countFrom}
+use Rattle.lists.proofs.Laws.{both}
+use Rattle.lists.proofs.Maps.{flat-snoc}
+use Rattle.walk.specs.Walk.{St, fresh, enter, leave, visit, walk, Visits}
+use Rattle.walk.proofs.Visits.{Grown, set-zeros, zeros-le, enters-true, visit-old, visit-new, visit-met, visit-enters, visits-grown}
 
 -- a column is what its rows lead to
 flat-shift : {B : Type 0} (f : ℕ → List B) (i n : ℕ) → flatMap f (countFrom (suc i) n) ≡ flatMap (λ (k : ℕ). f (suc k)) (countFrom i n)
@@ -43,9 +36,6 @@ module _ (succ : ℕ → List ℕ) (gate : ℕ → Bool) {A : Type 0} (act : A �
   -- a place that was met, or that the gate stops
   pub met-visited : (s : St A) (m : ℕ) → fresh s m ≡ false → Visits succ gate act s (m ∷ []) s
   met-visited s m e = record { same = λ k z. visit-met succ gate act k s m e }
-
-  pub stopped-visited : (s : St A) (m : ℕ) → gate m ≡ false → Visits succ gate act s (m ∷ []) s
-  stopped-visited s m e = record { same = λ k z. visit-stopped succ gate act k s m e }
 
   -- any other place: it is marked, its successors are visited, and then the action is done
   pub left-visited : (s t : St A) (m : ℕ) → gate m ≡ true → fresh s m ≡ true → Visits succ gate act (enter m s) (succ m) t → Visits succ gate act s (m ∷ []) (leave act m t)

@@ -3,15 +3,15 @@
 use mathlib.Core.Path.{_≡_, refl, sym, ap, subst, _∙_}
 use mathlib.Core.Logic.{_⊎_, inl, inr, ⊎-elim}
 use mathlib.Core.Bool.{Bool, true, false, not, _||_, or-false, false≢true}
-use mathlib.Core.List.{List, [], _∷_, _++_, append-assoc, List·Memᴰ, List·Memᴰ·append-cases, List·Memᴰ·head, List·Memᴰ·tail, List·Memᴰ·not-nil, List·Memᴰ·cases-cons, List·Memᴰ·eq-of-singleton, Memᴰ·append-left, Memᴰ·append-right}
-use Prim.Native.Nat.{ℕ, zero, suc, _≤_, _<_}
+use mathlib.Core.List.{List, [], _∷_, append-assoc, List·Memᴰ, List·Memᴰ·append-cases, List·Memᴰ·head, List·Memᴰ·tail, List·Memᴰ·not-nil, List·Memᴰ·cases-cons, List·Memᴰ·eq-of-singleton, Memᴰ·append-left, Memᴰ·append-right}
+use Prim.Native.Nat.{ℕ, zero, suc, _<_}
 use native.Mathlib.Omega.{arith}
 use native.Mathlib.Decide.{ℕ-discrete}
-use lib.ListN.{length, getD, set, length-append}
+use lib.ListN.{length, set, length-append}
 use lib.Seq.{getD-set-other}
 use lib.Dec.{eqb}
 use borrow.Author.Tests.{ne-eqb}
-use Rattle.lists.specs.Words.{isZero, has, any, elem, keep, upTo, ones}
+use Rattle.lists.specs.Words.{isZero, has, elem, keep, upTo, ones}
 use Rattle.lists.proofs.Laws.{both, has-in, any-append, elem-mem, mem-elem, mem-keep, keep-mem, upTo-mem, mem-upTo, length-marksOf, has-marksOf}
 use Rattle.walk.specs.Walk.{snoc}
 use Rattle.walk.specs.Close.{round, rounds, close, Within, Monotone}

@@ -1,22 +1,21 @@
 -- What a post-order lists: each place once, and exactly those that paths through the gate lead to.
 -- Assumes nothing.
 use mathlib.Core.Path.{_≡_, refl, sym, ap, subst, _∙_}
-use mathlib.Core.Logic.{_⊎_, inl, inr, ⊎-elim}
-use mathlib.Core.Bool.{Bool, true, false, cond, _&&_, true≢false, false≢true}
+use mathlib.Core.Logic.{⊎-elim}
+use mathlib.Core.Bool.{Bool, true, false, cond, true≢false}
 use mathlib.Core.List.{List, [], _∷_, _++_, foldl, append-assoc, append-nil, List·Memᴰ, List·Memᴰ·append-cases, List·Memᴰ·head, List·Memᴰ·tail, List·Memᴰ·not-nil, List·Memᴰ·cases-cons, List·Memᴰ·eq-of-singleton, Memᴰ·append-left, Memᴰ·append-right}
 use Prim.Native.Nat.{ℕ, zero, suc, _+_, _≤_, _<_}
 use native.Mathlib.Omega.{arith}
-use native.Mathlib.Decide.{decLt}
-use lib.ListN.{length, getD, set, replicate, length-set, length-append, length-replicate}
+use lib.ListN.{length, getD, set, length-set, length-append, length-replicate}
 use lib.Seq.{ext-getD}
 use lib.Dec.{ltb}
 use borrow.Author.Tests.{lt-ltb, ltb-true}
 use Rattle.lists.specs.Words.{isZero, zeros, keep, elem, bit, marksOf, Distinct}
-use Rattle.lists.proofs.Laws.{both, and-parts, and-join, mem-keep, keep-mem, keep-all, distinct-append, mem-elem, elem-mem, length-marksOf, marksOf-at}
+use Rattle.lists.proofs.Laws.{both, and-parts, and-join, mem-keep, keep-mem, distinct-append, mem-elem, elem-mem, length-marksOf, marksOf-at}
 use Rattle.walk.specs.Close.{Bits}
 use Rattle.walk.specs.Walk.{St, fresh, enter, leave, visit, walk, Visits, snoc, unmet, everywhere, postOrder}
 use Rattle.walk.specs.Reach.{Reach, here, step, ReachAny, passing, through}
-use Rattle.walk.proofs.Visits.{Grown, grown-refl, grown-trans, stays, set-self, set-only, set-back, set-zeros, set-bits, none-fresh, fresh-in, fresh-zero, fresh-not, zeros-le, zeros-replicate, unmet-fresh, unmet-in, bits-replicate, visit-old, visit-new, enters-true, visit-met, visit-grown, visits-grown, walk-grown, visits-fold}
+use Rattle.walk.proofs.Visits.{Grown, grown-refl, grown-trans, stays, set-self, set-only, set-back, set-zeros, none-fresh, fresh-in, fresh-zero, zeros-le, zeros-replicate, unmet-fresh, unmet-in, bits-replicate, visit-old, visit-new, enters-true, visit-met, visit-grown, visits-grown, visits-fold}
 
 -- paths
 

@@ -4,7 +4,7 @@ use mathlib.Core.Path.{_≡_, refl, sym, ap, subst, _∙_}
 use mathlib.Core.Bool.{Bool, true, false, cond}
 use mathlib.Core.Logic.{⊎-elim}
 use mathlib.Core.List.{List, [], _∷_, _++_, foldl, append-nil, append-assoc}
-use Prim.Native.Nat.{ℕ, zero, suc, _+_, _-_, _≤_, _<_}
+use Prim.Native.Nat.{ℕ, suc, _+_, _≤_, _<_}
 use native.Mathlib.Nat.{zero-add}
 use native.Mathlib.Numerals.{add-one}
 use native.Mathlib.Omega.{arith}
@@ -12,7 +12,7 @@ use lib.ListN.{length, set, replicate, take, drop, length-set, take-append-drop}
 use lib.Seq.{drop-set-lt, take-suc-set}
 use Rattle.lists.specs.Words.{keep}
 use Rattle.lists.proofs.Laws.{both, length-keep}
-use Rattle.walk.specs.Walk.{St, walk, postOrder, Placed, place}
+use Rattle.walk.specs.Walk.{walk, postOrder, Placed, place}
 use Rattle.walk.proofs.Visits.{walk-made}
 use Rattle.walk.proofs.Orders.{order-length}
 

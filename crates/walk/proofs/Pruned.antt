@@ -1,18 +1,17 @@
 -- A walk that goes on from what earlier roots met lists its root's own order without that.
 -- Assumes nothing.
 use mathlib.Core.Path.{_≡_, refl, sym, ap, subst, _∙_}
-use mathlib.Core.Logic.{_⊎_, inl, inr, ⊎-elim}
+use mathlib.Core.Logic.{⊎-elim}
 use mathlib.Core.Bool.{Bool, true, false, not, cond, _&&_, true≢false, false≢true}
 use mathlib.Core.List.{List, [], _∷_, _++_, foldl, append-nil, append-assoc, List·Memᴰ, List·Memᴰ·head, List·Memᴰ·tail}
-use Prim.Native.Nat.{ℕ, zero, suc, _+_, _≤_, _<_}
-use native.Mathlib.Decide.{decLt}
+use Prim.Native.Nat.{ℕ, zero, suc, _<_}
 use native.Mathlib.Omega.{arith}
-use lib.ListN.{length, getD, set, replicate}
+use lib.ListN.{getD, set}
 use Rattle.lists.specs.Words.{isZero, keep, elem}
 use Rattle.lists.proofs.Laws.{both, not-true, keep-append, keep-none, mem-elem, elem-mem, iff-eq, and-parts, and-join, and-out}
-use Rattle.walk.specs.Walk.{St, fresh, enter, leave, visit, walk, snoc, unmet, everywhere, postOrder}
-use Rattle.walk.proofs.Visits.{visit-old, visit-new, visit-met, walk-append, walk-fuel, set-only, set-self, set-back, unmet-fresh, unmet-in, walk-grown, zeros-replicate}
-use Rattle.walk.proofs.Orders.{Run, visit-run, order-met, met-order, order-followed}
+use Rattle.walk.specs.Walk.{St, fresh, enter, visit, walk, snoc, unmet, everywhere, postOrder}
+use Rattle.walk.proofs.Visits.{visit-old, visit-new, visit-met, walk-append, walk-fuel, set-only, set-self, set-back, unmet-in, walk-grown, zeros-replicate}
+use Rattle.walk.proofs.Orders.{visit-run, order-met, met-order, order-followed}
 
 module _ (succ : ℕ → List ℕ) (D : ℕ → Bool) (inD : (x y : ℕ) → D x ≡ true → List·Memᴰ y (succ x) → D y ≡ true) where
   abbrev S : Type 0

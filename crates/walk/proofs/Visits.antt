@@ -4,8 +4,8 @@
 use mathlib.Core.Path.{_≡_, refl, sym, ap, subst, _∙_}
 use mathlib.Core.Logic.{_⊎_, inl, inr, ⊎-elim}
 use mathlib.Core.Bool.{Bool, true, false, cond, true≢false, false≢true}
-use mathlib.Core.List.{List, [], _∷_, _++_, foldl, foldl-append, append-assoc, append-nil, List·Memᴰ, List·Memᴰ·not-nil, List·Memᴰ·cases-cons}
-use Prim.Native.Nat.{ℕ, zero, suc, _+_, _≤_, _<_}
+use mathlib.Core.List.{List, [], _∷_, _++_, foldl, foldl-append, append-assoc, append-nil}
+use Prim.Native.Nat.{ℕ, zero, suc, _≤_, _<_}
 use native.Mathlib.Nat.{not-suc-le-zero}
 use native.Mathlib.Omega.{arith}
 use native.Mathlib.Decide.{ℕ-discrete}
@@ -261,18 +261,3 @@ module _ (succ : ℕ → List ℕ) (gate : ℕ → Bool) {A : Type 0} (act : A �
 pub snoc-fold : (l xs : List ℕ) → foldl snoc l xs ≡ l ++ xs
 snoc-fold l [] = sym (append-nil l)
 snoc-fold l (x ∷ xs) = snoc-fold (snoc l x) xs ∙ append-assoc l (x ∷ []) xs
-
--- what stood before a walk stays in front
-pub walk-after : (succ : ℕ → List ℕ) (gate : ℕ → Bool) (marks l : List ℕ) (xs : List ℕ)
-    → walk succ gate snoc (record { marks = marks; made = l }) xs .made ≡ l ++ walk succ gate snoc (record { marks = marks; made = [] }) xs .made
-walk-after succ gate marks l xs =
-    let s : St (List ℕ) = record { marks = marks; made = [] } in
-    ap (λ (t : St (List ℕ)). t .made) (walk-fold succ gate snoc l s xs) ∙ snoc-fold l (walk succ gate snoc s xs .made)
-
--- a post-order from several roots is the parts of its roots in turn
-pub order-append : (succ : ℕ → List ℕ) (gate : ℕ → Bool) (n : ℕ) (xs ys : List ℕ)
-    → postOrder succ gate n (xs ++ ys) ≡ postOrder succ gate n xs ++ walk succ gate snoc (record { marks = walk succ gate snoc (unmet n) xs .marks; made = [] }) ys .made
-unfolding postOrder
-order-append succ gate n xs ys =
-    let t : St (List ℕ) = walk succ gate snoc (unmet n) xs in
-    ap (λ (s : St (List ℕ)). s .made) (walk-append succ gate snoc (unmet n) xs ys) ∙ walk-after succ gate (t .marks) (t .made) ys

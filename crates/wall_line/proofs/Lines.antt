@@ -8,22 +8,22 @@ use Prim.Native.Nat.{ℕ, _*_, _≤_, _<_}
 use native.Mathlib.Omega.{arith}
 use lib.ListN.{length, getD}
 use Rattle.lists.specs.Words.{keep, has}
+use Rattle.lists.proofs.Members.{getD-mem}
 use Rattle.tables.specs.Project.{Project}
 use Rattle.tables.specs.Readings.{modules}
 use Rattle.tables.specs.Accepted.{Accepted}
-use Rattle.tables.proofs.Accepted.{getD-mem}
+use Rattle.tables.proofs.Accepted.{below-mem}
 use Rattle.expected_order.specs.OfProject.{expectedOf}
-use Rattle.actual_order.specs.Actual.{actualOf}
+use Rattle.entry_run.specs.Actual.{actualOf}
 use Rattle.sensitivity.specs.Marks.{sensitive, sensitiveMarks}
 use Rattle.sensitivity.proofs.Marks.{sensitive-marks}
 use Rattle.wrap_rules.specs.Plan.{expectedSensitiveOf}
-use Rattle.at_risk.specs.Entry.{actualSensitiveOf}
+use Rattle.at_risk.specs.Promise.{actualSensitiveOf}
 use Rattle.at_risk.proofs.Listed.{expected-order, actual-order}
-use Rattle.order_analysis.specs.Whole.{wholePlan}
+use Rattle.order_analysis.specs.Promise.{wholePlan}
 use Rattle.form.proofs.Fields.{split}
 use Rattle.page_lines.proofs.Texts.{line-length}
 use Rattle.page_rows.specs.Rows.{modulesOf}
-use Rattle.page_rows.proofs.Places.{below-mem}
 use Rattle.page_rows.proofs.Once.{line-listed}
 use Rattle.page_text.specs.Page.{lineOf, lineAt, pageBy}
 use Rattle.page_text.specs.inner.Sheets.{Orders}
@@ -31,12 +31,12 @@ use Rattle.page_text.proofs.Lines.{line-in, line-past, lines-length}
 use Rattle.page_text.proofs.Laying.{place-within}
 use Rattle.entry_pages.specs.Marked.{markedPage, markedLine}
 use Rattle.entry_pages.proofs.Orders.{keep-order}
-use Rattle.wall_line.specs.Wall.{pageOf, pageLineOf}
+use Rattle.wall_line.specs.Promise.{pageOf, pageLineOf}
 
 module _ (expected actual : List ℕ) (n : ℕ) (o : Orders expected actual n) (planned : ℕ → Bool) where
   row-below : {x : ℕ} → List·Memᴰ x (modulesOf expected actual) → x < n
   row-below h =
-      ⊎-elim (λ t. below-mem n expected (o .expectedOrder .members) t) (λ t. below-mem n actual (o .actualOrder .members) t)
+      ⊎-elim (λ t. below-mem expected (o .expectedOrder .members) t) (λ t. below-mem actual (o .actualOrder .members) t)
       (List·Memᴰ·append-cases expected (line-listed expected actual h))
 
   one-length : (m : ℕ) → m < n → length (lineOf expected actual planned m) ≡ 41

@@ -1,6 +1,6 @@
 -- The promise of the operation of one line, case by case.
 -- Assumes nothing.
-use mathlib.Core.Path.{_≡_, sym, ap, _∙_}
+use mathlib.Core.Path.{_≡_, sym, _∙_}
 use mathlib.Core.Bool.{Bool, true, false}
 use mathlib.Core.List.{List}
 use Prim.Native.Nat.{ℕ, _≤_, _<_}
@@ -8,6 +8,7 @@ use native.Mathlib.Omega.{arith}
 use lib.ListN.{length}
 use lib.Dec.{leb}
 use borrow.Author.Tests.{le-leb, lt-leb}
+use Rattle.lists.proofs.Fronts.{sets-front}
 use Rattle.tables.specs.Project.{Project}
 use Rattle.tables.specs.Readings.{isAnalysed}
 use Rattle.tables.specs.Accepted.{Accepted}
@@ -15,9 +16,8 @@ use Rattle.tables.specs.declared.Answer.the-variants.{Refused, Counted}
 use Rattle.tables.proofs.Answering.{verdict-project, verdict-unfit, verdict-short, verdict-none, after-refused, after-accepted}
 use Rattle.table.specs.Table.{Lent}
 use Rattle.table.proofs.Laws.{answer-refused, answer-accepted}
-use Rattle.form.proofs.Runs.{sets-front}
 use Rattle.lines.specs.Lines.{PutAt}
-use Rattle.wall_line.specs.Wall.{pageLineOf, lineVerdict, PageLine}
+use Rattle.wall_line.specs.Promise.{pageLineOf, lineVerdict, PageLine}
 use Rattle.wall_line.proofs.Lines.{line-fits}
 
 module _ (t : Lent) (root number : ℕ) (line : List ℕ) where

@@ -1,2 +1,2 @@
 -- An entry's page and one line of it, and what the operation of a line promises.
-pub mod Wall
+pub mod Promise

@@ -11,7 +11,7 @@ ghost use Rattle.names.specs.Names.{namesIn};
 ghost use Rattle.arrangement.specs.OfProject.{named};
 ghost use Rattle.analysed_entries.specs.inner.Entries.{Entry};
 ghost use Rattle.lines.specs.Lines.{PutAt};
-ghost use Rattle.wall_line.specs.Wall.{pageLineOf};
+ghost use Rattle.wall_line.specs.Promise.{pageLineOf};
 use arrangement::core::read_members;
 use entry_pages::core::put_entry_line;
 use order_analysis::core::analyze;

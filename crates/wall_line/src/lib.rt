@@ -1,6 +1,6 @@
 // One line of an entry's page.
 ghost use Rattle.arrangement.specs.OfProject.{lentNamed, lentNamedWith};
-ghost use Rattle.wall_line.specs.Wall.{PageLine};
+ghost use Rattle.wall_line.specs.Promise.{PageLine};
 use analysed_entries::core::find_entry;
 use core::put_named_line;
 use current_columns::core::read_current;

@@ -6,15 +6,16 @@ use Prim.Native.Nat.{ℕ, _*_, _≤_}
 use native.Mathlib.Omega.{arith}
 use lib.ListN.{length}
 use Rattle.lists.specs.Words.{keep, has}
+use Rattle.lists.proofs.Distinct.{few-distinct}
 use Rattle.tables.specs.Project.{Project}
 use Rattle.tables.specs.Readings.{modules}
 use Rattle.tables.specs.Accepted.{Accepted}
+use Rattle.tables.proofs.Accepted.{below-mem}
 use Rattle.expected_order.specs.OfProject.{expectedOf}
-use Rattle.actual_order.specs.Actual.{actualOf}
+use Rattle.entry_run.specs.Actual.{actualOf}
 use Rattle.at_risk.proofs.Listed.{expected-order, actual-order}
 use Rattle.page_rows.specs.Rows.{modulesOf}
-use Rattle.page_rows.proofs.Places.{below-mem}
-use Rattle.page_rows.proofs.Once.{few-distinct, each-once, line-listed}
+use Rattle.page_rows.proofs.Once.{each-once, line-listed}
 use Rattle.page_text.specs.inner.Sheets.{Orders}
 use Rattle.entry_pages.specs.Marked.{markedPage}
 use Rattle.entry_pages.proofs.Orders.{keep-order}
@@ -24,7 +25,7 @@ use Rattle.wall_line.proofs.Lines.{page-size}
 pub modules-few : (expected actual : List ℕ) (n : ℕ) → Orders expected actual n → length (modulesOf expected actual) ≤ n
 modules-few expected actual n o =
     few-distinct n (modulesOf expected actual) (each-once expected actual (o .expectedOrder .once) (o .actualOrder .once))
-    (λ x h. ⊎-elim (λ t. below-mem n expected (o .expectedOrder .members) t) (λ t. below-mem n actual (o .actualOrder .members) t) (List·Memᴰ·append-cases expected (line-listed expected actual h)))
+    (λ x h. ⊎-elim (λ t. below-mem expected (o .expectedOrder .members) t) (λ t. below-mem actual (o .actualOrder .members) t) (List·Memᴰ·append-cases expected (line-listed expected actual h)))
 
 module _ (p : Project) (a : Accepted p) (sensitives plan : List ℕ) (root : ℕ) where
   marked-orders : Orders (keep (has sensitives) (expectedOf p root)) (keep (has sensitives) (actualOf p root)) (modules p)

@@ -1,8 +1,8 @@
 -- What holds of an entry's page: each module has one line, each line 41 bytes, and the shift lies within -4094 and 4094.
 -- Assumes nothing.
-use mathlib.Core.Path.{_≡_, refl, sym, subst, _∙_}
-use mathlib.Core.Bool.{Bool, true, false, true≢false}
-use mathlib.Core.List.{List, [], List·Memᴰ}
+use mathlib.Core.Path.{_≡_, refl, sym, _∙_}
+use mathlib.Core.Bool.{false, true≢false}
+use mathlib.Core.List.{List, []}
 use Prim.Native.Nat.{ℕ, suc, _*_, _≤_, _<_}
 use native.Mathlib.Omega.{arith}
 use lib.ListN.{length}
@@ -10,24 +10,24 @@ use lib.IntN.{pos, _-ℤ_, natAbs}
 use borrow.Author.Tests.{eq-eqb}
 use Rattle.lists.specs.Words.{keep, has, Distinct}
 use Rattle.lists.proofs.Laws.{mem-keep}
+use Rattle.lists.proofs.Distinct.{fewer-distinct}
 use Rattle.tables.specs.Project.{Project}
 use Rattle.tables.specs.Readings.{modules}
 use Rattle.tables.specs.Accepted.{Accepted}
+use Rattle.tables.proofs.Accepted.{below-mem}
 use Rattle.expected_order.specs.OfProject.{expectedOf}
-use Rattle.actual_order.specs.Actual.{actualOf}
+use Rattle.entry_run.specs.Actual.{actualOf}
 use Rattle.sensitivity.specs.Marks.{ground, sensitive}
 use Rattle.wrap_rules.specs.Plan.{expectedSensitiveOf}
-use Rattle.at_risk.specs.Entry.{actualSensitiveOf}
-use Rattle.order_analysis.specs.Whole.{wholePlan}
+use Rattle.at_risk.specs.Promise.{actualSensitiveOf}
+use Rattle.order_analysis.specs.Promise.{wholePlan}
 use Rattle.risk_of_orders.specs.inner.Steps.{Order}
 use Rattle.page_lines.proofs.Shifts.{shift-within}
 use Rattle.page_rows.specs.Rows.{modulesOf}
-use Rattle.page_rows.proofs.Places.{below-mem}
-use Rattle.page_rows.proofs.Once.{fewer-distinct, each-once}
+use Rattle.page_rows.proofs.Once.{each-once}
 use Rattle.page_text.specs.Page.{placeIn}
-use Rattle.page_text.specs.inner.Sheets.{Orders}
 use Rattle.page_text.proofs.Laying.{place-within}
-use Rattle.wall_line.specs.Wall.{pageOf, pageLineOf}
+use Rattle.wall_line.specs.Promise.{pageOf, pageLineOf}
 use Rattle.wall_line.proofs.Lines.{orders-of, each-line, no-line, page-size}
 
 -- the runtime isn't sensitive
@@ -40,7 +40,7 @@ fewer : (p : Project) → Accepted p → (xs : List ℕ) → Order (keep (sensit
 fewer p a xs o =
     fewer-distinct (modules p) (p .runtime) (keep (sensitive p) xs) (a .values .runtime)
     (λ h. true≢false (sym (mem-keep (sensitive p) xs h .1) ∙ runtime-insensitive p))
-    (o .once) (λ x h. below-mem (modules p) (keep (sensitive p) xs) (o .members) h)
+    (o .once) (λ x h. below-mem (keep (sensitive p) xs) (o .members) h)
 
 module _ (p : Project) (a : Accepted p) (root : ℕ) where
   abbrev expected : List ℕ

@@ -1,6 +1,6 @@
 -- The promise of the operation of an entry's page, case by case.
 -- Assumes nothing.
-use mathlib.Core.Path.{_≡_, refl, sym, ap, subst, _∙_}
+use mathlib.Core.Path.{_≡_, refl, sym, ap, _∙_}
 use mathlib.Core.Bool.{Bool, true, false, _&&_, true≢false}
 use mathlib.Core.List.{List}
 use Prim.Native.Nat.{ℕ, _*_, _≤_, _<_}
@@ -9,6 +9,7 @@ use lib.ListN.{length, take}
 use lib.Dec.{leb}
 use borrow.Author.Tests.{le-leb, lt-leb}
 use Rattle.lists.proofs.Laws.{and-join, and-out}
+use Rattle.lists.proofs.Fronts.{sets-front}
 use Rattle.tables.specs.Project.{Project}
 use Rattle.tables.specs.Readings.{modules, isAnalysed}
 use Rattle.tables.specs.Accepted.{Accepted}
@@ -16,11 +17,10 @@ use Rattle.tables.specs.declared.Answer.the-variants.{Refused, Counted}
 use Rattle.tables.proofs.Answering.{verdict-project, verdict-unfit, verdict-short, verdict-none, after-refused, after-accepted}
 use Rattle.table.specs.Table.{Lent}
 use Rattle.table.proofs.Laws.{answer-refused, answer-accepted}
-use Rattle.form.proofs.Runs.{sets-front}
 use Rattle.lines.specs.Lines.{PutAt}
 use Rattle.lines.proofs.Puts.{put-as}
 use Rattle.entry_pages.specs.Marked.{markedPage}
-use Rattle.wall_page.specs.Pages.{pageWith, pageVerdict, EntryPage}
+use Rattle.wall_page.specs.Promise.{pageWith, pageVerdict, EntryPage}
 use Rattle.wall_page.proofs.Fits.{page-fits}
 
 first-out : (a b : Bool) → a ≡ false → (a && b) ≡ false

@@ -18,12 +18,12 @@ use Rattle.arrangement.proofs.OfProject.{named-modules}
 use Rattle.sensitivity.specs.Marks.{ground, groundsOf}
 use Rattle.sensitivity.proofs.Marks.{length-grounds}
 use Rattle.grounds.specs.Promise.{ModuleGrounds}
-use Rattle.order_analysis.specs.Whole.{wholePlan, WholeAnalysis}
+use Rattle.order_analysis.specs.Promise.{wholePlan, WholeAnalysis}
 use Rattle.order_analysis.proofs.Promise.{length-whole}
 use Rattle.entry_pages.specs.Marked.{markedPage}
-use Rattle.wall_line.specs.Wall.{pageOf}
+use Rattle.wall_line.specs.Promise.{pageOf}
 use Rattle.wall_line.proofs.Lines.{marked-page}
-use Rattle.wall_page.specs.Pages.{pageWith}
+use Rattle.wall_page.specs.Promise.{pageWith}
 
 -- grounds don't ask for members
 grounds-named : (p : Project) (names : List ℕ) → groundsOf p ≡ groundsOf (named p names)

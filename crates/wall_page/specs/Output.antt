@@ -14,7 +14,7 @@ use Rattle.wrap_rules.specs.Plan.{roots}
 use Rattle.form.specs.Form.{bytes, line}
 use Rattle.named_form.specs.NamedForm.{NameList, lentNames}
 use Rattle.listing.specs.Reading.{IsText}
-use Rattle.wall_line.specs.Wall.{pageOf}
+use Rattle.wall_line.specs.Promise.{pageOf}
 
 -- "the pages of the analysed entries in row order with nothing between"
 unfoldable pub pagesOf : Project → List ℕ

@@ -1,6 +1,6 @@
 // The page of an entry by grounds and a plan that were made before: a program makes these once for all entries.
 ghost use Rattle.arrangement.specs.OfProject.{lentNamed, lentNamedWith};
-ghost use Rattle.wall_page.specs.Pages.{EntryPage};
+ghost use Rattle.wall_page.specs.Promise.{EntryPage};
 use analysed_entries::core::find_entry;
 use core::put_named_page;
 use current_columns::core::read_current;

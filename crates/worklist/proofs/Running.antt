@@ -7,9 +7,12 @@ use mathlib.Core.List.{List, List·Memᴰ, List·Memᴰ·not-nil}
 use Prim.Native.Nat.{ℕ, suc, _+_, _≤_, _<_}
 use native.Mathlib.Numerals.{add-one}
 use native.Mathlib.Omega.{arith}
-use lib.ListN.{length, getD, take}
+use native.Mathlib.Decide.{ℕ-discrete}
+use lib.ListN.{length, getD, set, take, length-set}
+use lib.Seq.{getD-take, getD-set-same, getD-set-other, length-take-le, ext-getD}
 use Rattle.lists.specs.Words.{elem, has}
 use Rattle.lists.proofs.Laws.{or-parts, or-left, iff-eq, has-in, elem-mem, mem-elem, has-marksOf, length-marksOf}
+use Rattle.lists.proofs.Members.{mem-at}
 use Rattle.walk.specs.Reach.{Reach⁺}
 use Rattle.tables.specs.Project.{Project}
 use Rattle.tables.specs.Readings.{modules, valuesOf}
@@ -20,7 +23,7 @@ use Rattle.wrap_rules.specs.Rules.{importAsks}
 use Rattle.wrap_rules.specs.Plan.{Rule, suffixRule, componentRule, importRule, readRule, ordersOf, asks}
 use Rattle.wrap_rules.proofs.Monotone.{asked-asks}
 use Rattle.wrap_rules.proofs.Plans.{start-length, start-has, has-start}
-use Rattle.wrap_rules.proofs.Rows.{mem-at, import-rows}
+use Rattle.wrap_rules.proofs.Rows.{import-rows}
 use Rattle.wrap_rules.proofs.Sets.{eligible-has}
 use Rattle.wrap_rules.specs.Plan.{reached}
 use Rattle.wrap_rules.specs.inner.Passes.{candidateMarks}
@@ -28,7 +31,7 @@ use Rattle.wrap_rules.proofs.Sets.{length-candidates}
 use Rattle.takings.specs.Taking.{setOf, Taking, Takes, start, next}
 use Rattle.strong_connection.specs.inner.Graph.{Linked}
 use Rattle.suffix_rule.specs.inner.Suffix.{AllPlanned, Settled, Settling}
-use Rattle.request_queue.specs.inner.Growing.{Listed, Along}
+use Rattle.request_queue.specs.inner.Growing.{Listed, Grew, Along}
 use Rattle.request_queue.proofs.Growing.{grew-has, count-fits}
 use Rattle.request_meaning.proofs.Paths.{component-led, read-led}
 use Rattle.worklist_taking.specs.inner.State.{ruleOf, startOf, GraphOf, takenOf, State}
@@ -38,12 +41,47 @@ use Rattle.worklist_step.specs.inner.Step.{Steppable, Stepped}
 use Rattle.worklist_ends.specs.inner.Ends.{Seeded}
 use Rattle.worklist_batch.specs.inner.Noting.{Advanced}
 use Rattle.worklist_taking.proofs.Standing.{suffix-stands}
-use Rattle.worklist.specs.inner.Taking.{Fresh, Running}
+use Rattle.worklist.specs.inner.Taking.{Fresh, Running, Noted}
 
 -- what is planned of a settled root stays so
 pub settling-more : (p : Project) (settled placed placed′ : List ℕ) → ((m : ℕ) → has placed m ≡ true → has placed′ m ≡ true) → Settling p settled placed → Settling p settled placed′
 unfolding Settled AllPlanned
 settling-more p settled placed placed′ h s = record { size = s .size; settles = λ k l e m i q g. h m (s .settles k l e m i q g) }
+
+-- no length is noted
+pub noted-start : (p : Project) (seeds list : List ℕ) (count : ℕ) (lengths : List ℕ) → Noted p seeds list count lengths lengths 0
+noted-start p seeds list count lengths = record { room = refl; within = λ j l. absurd (omega arith); takes = λ j l. absurd (omega arith); rest = λ j l. refl }
+
+-- a front of a list stays when it grows
+front-kept : {f : ℕ → Type 0} {placed list placed′ list′ : List ℕ} {count count′ : ℕ} → Listed placed list count → Grew f placed list count placed′ list′ count′ → (j : ℕ) → j ≤ count → take j list′ ≡ take j list
+front-kept {f} {placed} {list} {placed′} {list′} {count} h g j l =
+    let a : length (take j list′) ≡ j = length-take-le j list′ (omega (arith, count-fits h, g .room)) in
+    ext-getD 0 (take j list′) (take j list) (a ∙ sym (length-take-le j list (omega (arith, count-fits h))))
+    (λ i b. let b′ : i < j = omega arith in getD-take j list′ i 0 b′ ∙ g .front i (omega arith) ∙ sym (getD-take j list i 0 b′))
+
+-- the length is noted, and the list grows
+pub noted-next : {f : ℕ → Type 0} (p : Project) (seeds list lengths lengths′ placed placed′ list′ : List ℕ) (count count′ k : ℕ) → Listed placed list count → Takes (ruleOf p) (startOf p seeds) (take count list) k → Grew f placed list count placed′ list′ count′
+    → k < length lengths → Noted p seeds list count lengths lengths′ k → Noted p seeds list′ count′ lengths (set lengths′ k count) (k + 1)
+noted-next {f} p seeds list lengths lengths′ placed placed′ list′ count count′ k h t g inside n = record {
+  room = length-set lengths′ k count ∙ n .room;
+  within = λ j l. omega (arith, g .more, below j l);
+  takes = λ j l. subst (λ (xs : List ℕ). Takes (ruleOf p) (startOf p seeds) xs j) (sym (front-kept h g (getD (set lengths′ k count) j 0) (below j l))) (taken j l (ℕ-discrete j k));
+  rest = λ j l. getD-set-other lengths′ k j count 0 (λ z. omega (arith, z)) ∙ n .rest j (omega arith);
+}
+  where
+    here : getD (set lengths′ k count) k 0 ≡ count
+    here = getD-set-same lengths′ k count 0 (omega (arith, inside, n .room))
+
+    taken : (j : ℕ) → j < k + 1 → Dec (j ≡ k) → Takes (ruleOf p) (startOf p seeds) (take (getD (set lengths′ k count) j 0) list) j
+    taken j l (yes z) = subst (λ (i : ℕ). Takes (ruleOf p) (startOf p seeds) (take (getD (set lengths′ k count) i 0) list) i) (sym z) (subst (λ (c : ℕ). Takes (ruleOf p) (startOf p seeds) (take c list) k) (sym here) t)
+    taken j l (no o) = subst (λ (c : ℕ). Takes (ruleOf p) (startOf p seeds) (take c list) j) (sym (getD-set-other lengths′ k j count 0 o)) (n .takes j (omega arith))
+
+    below : (j : ℕ) → j < k + 1 → getD (set lengths′ k count) j 0 ≤ count
+    below j l = go (ℕ-discrete j k)
+      where
+        go : Dec (j ≡ k) → getD (set lengths′ k count) j 0 ≤ count
+        go (yes z) = omega (arith, here, ap (λ (i : ℕ). getD (set lengths′ k count) i 0) z)
+        go (no o) = omega (arith, getD-set-other lengths′ k j count 0 o, n .within j (omega arith))
 
 module _ (p : Project) (ok : Accepted p) (seeds from to heads nexts : List ℕ) (graph : GraphOf p from to heads nexts) where
   -- none is taken

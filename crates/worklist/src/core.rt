@@ -1,5 +1,6 @@
 // For crates above, on tested tables.
 ghost use mathlib.Core.Path.{_≡_};
+ghost use Prim.Native.Nat.{_≤_};
 ghost use lib.ListN.{length};
 ghost use Rattle.tables.specs.Project.{Project};
 ghost use Rattle.tables.specs.Accepted.{Below};
@@ -11,7 +12,8 @@ use worklist_batch::core::advance;
 use worklist_ends::core::list_seeds;
 use worklist_step::core::step;
 
-// Lists the eligible seeds, then takes the modules of the list in turn until all are taken. How many there are.
+// Lists the eligible seeds, then takes the modules of the list in turn until all are taken. `lengths` gets the length of the list after each number of takings
+// but the last, from none on. How many there are.
 pub fn take_all<'a>(
     runtime: u32,
     dynamic: u32,
@@ -39,6 +41,7 @@ pub fn take_all<'a>(
     asked: &mut [u32],
     asked_heads: &mut [u32],
     asked_nexts: &mut [u32],
+    lengths: &mut [u32],
 ) -> usize
     ghost { Project }
     requires project { λ p. ⌜ read (table runtime dynamic (now bounds) (now columns)) (now importers) (now kinds) (now targets) (now dependencies) (now members) ≡ p ⌝ }
@@ -46,7 +49,8 @@ pub fn take_all<'a>(
     requires graph { λ p. ⌜ GraphOf p (now from) (now to) (now heads) (now nexts) ⌝ }
     requires seeds { λ p. ⌜ Below (length (now placed)) (now seeds) ⌝ }
     requires fresh { λ p. ⌜ Fresh p (now marks) (now queue) (now placed) (now list) (now settled) (now asked) (now «asked_heads») (now «asked_nexts») ⌝ }
-    ensures { λ p r. ⌜ TakenAll p (now (seeds .entry)) (now (placed .exit)) (now (list .exit)) r ⌝ }
+    requires room { λ p. ⌜ length (now placed) ≤ length (now lengths) ⌝ }
+    ensures { λ p r. ⌜ TakenAll p (now (seeds .entry)) (now (placed .exit)) (now (list .exit)) (now (lengths .entry)) (now (lengths .exit)) r ⌝ }
 {
     let mut listed = list_seeds(seeds, eligible, placed, list);
     let mut met = 0;
@@ -95,6 +99,7 @@ pub fn take_all<'a>(
             listed,
             k,
         );
+        lengths[k] = listed as u32;
         met = counts.met;
         listed = counts.listed;
         k += 1;

@@ -11,17 +11,16 @@ use lib.ListN.{length, getD, take, drop, replicate, getD-replicate, length-drop}
 use lib.Seq.{getD-drop, getD-take, length-take-le}
 use Rattle.lists.specs.Words.{has}
 use Rattle.lists.proofs.Laws.{has-in}
+use Rattle.lists.proofs.Members.{mem-at, getD-mem}
 use Rattle.tables.specs.Project.{Project}
 use Rattle.tables.specs.Readings.{modules}
 use Rattle.tables.specs.Accepted.{Accepted}
 use Rattle.tables.specs.Threads.{Threads}
-use Rattle.tables.proofs.Accepted.{getD-mem}
 use Rattle.sensitivity.specs.Marks.{sensitiveMarks}
 use Rattle.eligibility.specs.Eligible.{eligibleMarks}
 use Rattle.expected_order.specs.OfProject.{expectedOf}
 use Rattle.wrap_rules.specs.Plan.{roots}
 use Rattle.wrap_rules.specs.inner.Passes.{candidateMarks}
-use Rattle.wrap_rules.proofs.Rows.{mem-at}
 use Rattle.wrap_rules.proofs.Sets.{eligible-has, parts-candidate}
 use Rattle.wrap_rules.proofs.Roots.{expected-reached}
 use Rattle.request_queue.specs.inner.Growing.{Listed}

@@ -1,13 +1,13 @@
 // For crates above, on tested tables.
 ghost use mathlib.Core.Path.{_≡_};
-ghost use Prim.Native.Nat.{_≤_};
-ghost use lib.ListN.{length};
+ghost use Prim.Native.Nat.{ℕ, _≤_};
+ghost use lib.ListN.{length, getD};
 ghost use Rattle.lists.specs.Words.{isZero, bit, has, marksOf};
 ghost use mathlib.Core.Bool.{not};
 ghost use Rattle.tables.specs.Accepted.{Below};
 ghost use Rattle.tables.specs.Refusal.{moduleLimit};
 ghost use Rattle.request_queue.specs.inner.Growing.{Listed};
-ghost use Rattle.worklist_ends.specs.inner.Ends.{Seeded};
+ghost use Rattle.worklist_ends.specs.inner.Ends.{Seeded, ListWritten};
 use request_queue::core::push;
 
 // Lists the eligible seeds. How many are listed.
@@ -45,5 +45,20 @@ pub fn mark_listed(placed: &mut [u32])
 {
     for m in 0..placed.len() {
         placed[m] = mark_of(placed[m]);
+    }
+}
+
+// Writes the list that has these places.
+pub fn write_listed(placed: &[u32], list: &mut [u32])
+    requires few { ⌜ length (now placed) ≤ moduleLimit ⌝ }
+    requires room { ⌜ ((m : ℕ) → getD (now placed) m 0 ≤ length (now list)) ⌝ }
+    ensures { λ _. ⌜ ListWritten (now (placed .entry)) (now (list .entry)) (now (list .exit)) ⌝ }
+{
+    for m in 0..placed.len() {
+        let end = placed[m] as usize;
+        if end == 0 {
+            continue;
+        }
+        list[end - 1] = m as u32;
     }
 }

@@ -1,1 +1,2 @@
 pub mod Graphing
+pub mod Writing

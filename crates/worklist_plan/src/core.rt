@@ -1,13 +1,17 @@
 // For crates above, on tested tables.
 ghost use mathlib.Core.Path.{_≡_};
+ghost use Prim.Native.Nat.{_≤_};
 ghost use lib.ListN.{length};
 ghost use Rattle.lists.specs.Words.{ones};
 ghost use Rattle.tables.specs.Project.{Project};
+ghost use Rattle.tables.specs.Readings.{modules};
 ghost use Rattle.table.specs.Table.{table, read};
 ghost use Rattle.plan_rounds.specs.inner.Rounds.{Basis, Rooted};
-ghost use Rattle.wrap_plan.specs.Planned.{planOf};
+ghost use Rattle.wrap_plan.specs.Promise.{planOf};
 ghost use Rattle.wrap_plan.specs.inner.Seeded.{Seeds};
+ghost use Rattle.worklist_run.specs.inner.Run.{Ran};
 ghost use Rattle.worklist_plan.specs.inner.Basis.{Edged};
+ghost use Rattle.worklist_plan.specs.inner.Written.{RunWritten};
 use chunk_cycles::core::label_table;
 use eligibility::of_table::mark_table_eligible;
 use import_edges::core::list_edges;
@@ -19,17 +23,20 @@ use request_graph::core::request_edges;
 use sensitivity::core::mark_table_sensitive;
 use table::CHUNK_LIMIT;
 use table::MODULE_LIMIT;
+use table::NORMAL;
 use table::ORDER;
 use table::ROW_LIMIT;
 use table::rows;
+use worklist_ends::core::mark_listed;
+use worklist_ends::core::write_listed;
 use worklist_run::core::NODES;
-use worklist_run::core::plan_linked;
+use worklist_run::core::run_linked;
 
 // The most edges that a request graph has.
 const EDGES: usize = 155648;
 
-// The plan from seeds, by the import edges and the candidates.
-fn plan_edged<'a>(
+// Takes the modules of a worklist, by the import edges and the candidates.
+fn run_edged<'a>(
     runtime: u32,
     dynamic: u32,
     bounds: &'a [u32],
@@ -47,13 +54,15 @@ fn plan_edged<'a>(
     eligible: &[u32],
     candidates: &[u32],
     seeds: &[u32],
-    plan: &mut [u32],
-)
+    placed: &mut [u32],
+    lengths: &mut [u32],
+) -> usize
     ghost { Project }
     requires project { λ p. ⌜ read (table runtime dynamic (now bounds) (now columns)) (now importers) (now kinds) (now targets) (now dependencies) (now members) ≡ p ⌝ }
     requires made { λ p. ⌜ Edged p (now labels) (now roots) (now sensitive) (now eligible) (now candidates) (now «edge_from») (now «edge_to») ⌝ }
-    requires seeds { λ p. ⌜ Seeds p (now seeds) (length (now plan)) ⌝ }
-    ensures { λ p _. ⌜ now (plan .exit) ≡ planOf p (now (seeds .entry)) ⌝ }
+    requires seeds { λ p. ⌜ Seeds p (now seeds) (length (now placed)) ⌝ }
+    requires room { λ p. ⌜ length (now placed) ≤ length (now lengths) ⌝ }
+    ensures { λ p r. ⌜ Ran p (now (seeds .entry)) (now (placed .exit)) (now (lengths .entry)) (now (lengths .exit)) r ⌝ }
 {
     let mut from = [0u32; EDGES];
     let mut to = [0u32; EDGES];
@@ -79,7 +88,7 @@ fn plan_edged<'a>(
     let mut heads = [0u32; NODES];
     let mut nexts = [0u32; EDGES];
     thread_edges(&from[..count], &mut heads, &mut nexts[..count]);
-    plan_linked(
+    run_linked(
         runtime,
         dynamic,
         bounds,
@@ -98,12 +107,13 @@ fn plan_edged<'a>(
         &heads,
         &nexts[..count],
         seeds,
-        plan,
-    );
+        placed,
+        lengths,
+    )
 }
 
-// The plan from seeds, by the analysed entries' roots.
-fn plan_rooted<'a>(
+// Takes the modules of a worklist, by the analysed entries' roots.
+fn run_rooted<'a>(
     runtime: u32,
     dynamic: u32,
     bounds: &'a [u32],
@@ -118,15 +128,17 @@ fn plan_rooted<'a>(
     sensitive: &[u32],
     eligible: &[u32],
     seeds: &[u32],
-    plan: &mut [u32],
-)
+    placed: &mut [u32],
+    lengths: &mut [u32],
+) -> usize
     ghost { Project }
     requires project { λ p. ⌜ read (table runtime dynamic (now bounds) (now columns)) (now importers) (now kinds) (now targets) (now dependencies) (now members) ≡ p ⌝ }
     requires made { λ p. ⌜ Rooted p (now labels) (now roots) (now sensitive) (now eligible) ⌝ }
-    requires seeds { λ p. ⌜ Seeds p (now seeds) (length (now plan)) ⌝ }
-    ensures { λ p _. ⌜ now (plan .exit) ≡ planOf p (now (seeds .entry)) ⌝ }
+    requires seeds { λ p. ⌜ Seeds p (now seeds) (length (now placed)) ⌝ }
+    requires room { λ p. ⌜ length (now placed) ≤ length (now lengths) ⌝ }
+    ensures { λ p r. ⌜ Ran p (now (seeds .entry)) (now (placed .exit)) (now (lengths .entry)) (now (lengths .exit)) r ⌝ }
 {
-    let n = plan.len();
+    let n = placed.len();
     let mut from = [0u32; ROW_LIMIT];
     let mut to = [0u32; ROW_LIMIT];
     let edges = list_edges(
@@ -159,7 +171,7 @@ fn plan_rooted<'a>(
         eligible,
         &mut candidates[..n],
     );
-    plan_edged(
+    run_edged(
         runtime,
         dynamic,
         bounds,
@@ -177,12 +189,13 @@ fn plan_rooted<'a>(
         eligible,
         &candidates[..n],
         seeds,
-        plan,
-    );
+        placed,
+        lengths,
+    )
 }
 
-// The plan from seeds, by the chunks' labels and the marks of the sensitive and of the eligible modules.
-fn plan_marked<'a>(
+// Takes the modules of a worklist, by the chunks' labels and the marks of the sensitive and of the eligible modules.
+fn run_marked<'a>(
     runtime: u32,
     dynamic: u32,
     bounds: &'a [u32],
@@ -196,13 +209,15 @@ fn plan_marked<'a>(
     sensitive: &[u32],
     eligible: &[u32],
     seeds: &[u32],
-    plan: &mut [u32],
-)
+    placed: &mut [u32],
+    lengths: &mut [u32],
+) -> usize
     ghost { Project }
     requires project { λ p. ⌜ read (table runtime dynamic (now bounds) (now columns)) (now importers) (now kinds) (now targets) (now dependencies) (now members) ≡ p ⌝ }
     requires made { λ p. ⌜ Basis p (now labels) (now sensitive) (now eligible) ⌝ }
-    requires seeds { λ p. ⌜ Seeds p (now seeds) (length (now plan)) ⌝ }
-    ensures { λ p _. ⌜ now (plan .exit) ≡ planOf p (now (seeds .entry)) ⌝ }
+    requires seeds { λ p. ⌜ Seeds p (now seeds) (length (now placed)) ⌝ }
+    requires room { λ p. ⌜ length (now placed) ≤ length (now lengths) ⌝ }
+    ensures { λ p r. ⌜ Ran p (now (seeds .entry)) (now (placed .exit)) (now (lengths .entry)) (now (lengths .exit)) r ⌝ }
 {
     let mut roots = [0u32; MODULE_LIMIT];
     let count = list_table_roots(
@@ -217,7 +232,7 @@ fn plan_marked<'a>(
         members,
         &mut roots,
     );
-    plan_rooted(
+    run_rooted(
         runtime,
         dynamic,
         bounds,
@@ -232,12 +247,13 @@ fn plan_marked<'a>(
         sensitive,
         eligible,
         seeds,
-        plan,
-    );
+        placed,
+        lengths,
+    )
 }
 
-// The plan from seeds by a worklist, as marks. How many are marked.
-pub fn plan_by_takings<'a>(
+// Takes the modules of a worklist, of a table.
+fn run_table<'a>(
     runtime: u32,
     dynamic: u32,
     bounds: &'a [u32],
@@ -248,15 +264,16 @@ pub fn plan_by_takings<'a>(
     dependencies: &'a [u32],
     members: &'a [u32],
     seeds: &[u32],
-    plan: &mut [u32],
+    placed: &mut [u32],
+    lengths: &mut [u32],
 ) -> usize
     ghost { Project }
     requires project { λ p. ⌜ read (table runtime dynamic (now bounds) (now columns)) (now importers) (now kinds) (now targets) (now dependencies) (now members) ≡ p ⌝ }
-    requires seeds { λ p. ⌜ Seeds p (now seeds) (length (now plan)) ⌝ }
-    ensures plan { λ p _. ⌜ now (plan .exit) ≡ planOf p (now (seeds .entry)) ⌝ }
-    ensures count { λ p r. ⌜ r ≡ ones (planOf p (now (seeds .entry))) ⌝ }
+    requires seeds { λ p. ⌜ Seeds p (now seeds) (length (now placed)) ⌝ }
+    requires room { λ p. ⌜ length (now placed) ≤ length (now lengths) ⌝ }
+    ensures { λ p r. ⌜ Ran p (now (seeds .entry)) (now (placed .exit)) (now (lengths .entry)) (now (lengths .exit)) r ⌝ }
 {
-    let n = plan.len();
+    let n = placed.len();
     let chunks = rows(bounds, columns, ORDER);
     let mut labels = [0u32; CHUNK_LIMIT];
     label_table(
@@ -297,7 +314,7 @@ pub fn plan_by_takings<'a>(
         members,
         &mut eligibles[..n],
     );
-    plan_marked(
+    run_marked(
         runtime,
         dynamic,
         bounds,
@@ -311,7 +328,88 @@ pub fn plan_by_takings<'a>(
         &sensitives[..n],
         &eligibles[..n],
         seeds,
+        placed,
+        lengths,
+    )
+}
+
+// The plan from seeds by a worklist, as marks. How many are marked.
+pub fn plan_by_takings<'a>(
+    runtime: u32,
+    dynamic: u32,
+    bounds: &'a [u32],
+    columns: &'a [u32],
+    importers: &'a [u32],
+    kinds: &'a [u32],
+    targets: &'a [u32],
+    dependencies: &'a [u32],
+    members: &'a [u32],
+    seeds: &[u32],
+    plan: &mut [u32],
+) -> usize
+    ghost { Project }
+    requires project { λ p. ⌜ read (table runtime dynamic (now bounds) (now columns)) (now importers) (now kinds) (now targets) (now dependencies) (now members) ≡ p ⌝ }
+    requires seeds { λ p. ⌜ Seeds p (now seeds) (length (now plan)) ⌝ }
+    ensures plan { λ p _. ⌜ now (plan .exit) ≡ planOf p (now (seeds .entry)) ⌝ }
+    ensures count { λ p r. ⌜ r ≡ ones (planOf p (now (seeds .entry))) ⌝ }
+{
+    let mut lengths = [0u32; MODULE_LIMIT];
+    run_table(
+        runtime,
+        dynamic,
+        bounds,
+        columns,
+        importers,
+        kinds,
+        targets,
+        dependencies,
+        members,
+        seeds,
         plan,
+        &mut lengths,
     );
+    mark_listed(plan);
     count_marked(plan)
+}
+
+// The list of a worklist when all are taken, and its length after each number of takings but the last, from none on, in the order of taking. How many there are.
+pub fn list_takings<'a>(
+    runtime: u32,
+    dynamic: u32,
+    bounds: &'a [u32],
+    columns: &'a [u32],
+    importers: &'a [u32],
+    kinds: &'a [u32],
+    targets: &'a [u32],
+    dependencies: &'a [u32],
+    members: &'a [u32],
+    seeds: &[u32],
+    list: &mut [u32],
+    lengths: &mut [u32],
+) -> usize
+    ghost { Project }
+    requires project { λ p. ⌜ read (table runtime dynamic (now bounds) (now columns)) (now importers) (now kinds) (now targets) (now dependencies) (now members) ≡ p ⌝ }
+    requires seeds { λ p. ⌜ Seeds p (now seeds) (modules p) ⌝ }
+    requires list { λ p. ⌜ modules p ≤ length (now list) ⌝ }
+    requires lengths { λ p. ⌜ modules p ≤ length (now lengths) ⌝ }
+    ensures { λ p r. ⌜ RunWritten p (now (seeds .entry)) (now (list .entry)) (now (lengths .entry)) (now (list .exit)) (now (lengths .exit)) r ⌝ }
+{
+    let n = rows(bounds, columns, NORMAL);
+    let mut placed = [0u32; MODULE_LIMIT];
+    let count = run_table(
+        runtime,
+        dynamic,
+        bounds,
+        columns,
+        importers,
+        kinds,
+        targets,
+        dependencies,
+        members,
+        seeds,
+        &mut placed[..n],
+        lengths,
+    );
+    write_listed(&placed[..n], list);
+    count
 }

@@ -1,20 +1,19 @@
 // For crates above, on tested tables.
 ghost use mathlib.Core.Path.{_≡_};
+ghost use Prim.Native.Nat.{_≤_};
 ghost use lib.ListN.{length};
 ghost use Rattle.tables.specs.Project.{Project};
 ghost use Rattle.table.specs.Table.{table, read};
 ghost use Rattle.suffix_rule.specs.inner.Suffix.{SuffixSets};
-ghost use Rattle.wrap_plan.specs.Planned.{planOf};
 ghost use Rattle.wrap_plan.specs.inner.Seeded.{Seeds};
 ghost use Rattle.worklist_taking.specs.inner.State.{GraphOf};
-ghost use Rattle.worklist_run.specs.inner.Run.{NoteRoom, NoneNoted};
+ghost use Rattle.worklist_run.specs.inner.Run.{NoteRoom, NoneNoted, Ran};
 use lists::core::fill;
 use suffix_places::core::NEVER;
 use table::MODULE_LIMIT;
 use table::ROW_LIMIT;
 use tables::core::thread;
 use worklist::core::take_all;
-use worklist_ends::core::mark_listed;
 
 // The places of a request graph.
 pub const NODES: usize = 49152;
@@ -31,8 +30,9 @@ fn start_notes(asked: &mut [u32], heads: &mut [u32], nexts: &mut [u32])
     thread(asked, heads, nexts);
 }
 
-// The plan from seeds over a request graph with its threads.
-pub fn plan_linked<'a>(
+// Takes the modules of a worklist over a request graph with its threads: `placed` gets each one's place in the list, counted from 1, and `lengths` the length of
+// the list after each number of takings but the last. How many there are.
+pub fn run_linked<'a>(
     runtime: u32,
     dynamic: u32,
     bounds: &'a [u32],
@@ -51,16 +51,18 @@ pub fn plan_linked<'a>(
     heads: &[u32],
     nexts: &[u32],
     seeds: &[u32],
-    plan: &mut [u32],
-)
+    placed: &mut [u32],
+    lengths: &mut [u32],
+) -> usize
     ghost { Project }
     requires project { λ p. ⌜ read (table runtime dynamic (now bounds) (now columns)) (now importers) (now kinds) (now targets) (now dependencies) (now members) ≡ p ⌝ }
     requires sets { λ p. ⌜ SuffixSets p (now roots) (now sensitive) (now eligible) (now candidates) ⌝ }
     requires graph { λ p. ⌜ GraphOf p (now from) (now to) (now heads) (now nexts) ⌝ }
-    requires seeds { λ p. ⌜ Seeds p (now seeds) (length (now plan)) ⌝ }
-    ensures { λ p _. ⌜ now (plan .exit) ≡ planOf p (now (seeds .entry)) ⌝ }
+    requires seeds { λ p. ⌜ Seeds p (now seeds) (length (now placed)) ⌝ }
+    requires room { λ p. ⌜ length (now placed) ≤ length (now lengths) ⌝ }
+    ensures { λ p r. ⌜ Ran p (now (seeds .entry)) (now (placed .exit)) (now (lengths .entry)) (now (lengths .exit)) r ⌝ }
 {
-    let n = plan.len();
+    let n = placed.len();
     let rows = roots.len();
     let mut asked = [0u32; MODULE_LIMIT];
     let mut asked_heads = [0u32; TAKINGS];
@@ -70,7 +72,7 @@ pub fn plan_linked<'a>(
     let mut queue = [0u32; NODES];
     let mut list = [0u32; MODULE_LIMIT];
     let mut settled = [0u32; ROW_LIMIT];
-    fill(plan, 0);
+    fill(placed, 0);
     take_all(
         runtime,
         dynamic,
@@ -92,12 +94,12 @@ pub fn plan_linked<'a>(
         seeds,
         &mut marks,
         &mut queue,
-        plan,
+        placed,
         &mut list[..n],
         &mut settled[..rows],
         &mut asked[..n],
         &mut asked_heads,
         &mut asked_nexts[..n],
-    );
-    mark_listed(plan);
+        lengths,
+    )
 }

@@ -11,8 +11,7 @@ use lib.ListN.{length, getD, take}
 use lib.Seq.{getD-take, length-take-le, ext-getD}
 use Rattle.lists.specs.Words.{isZero, elem, has, marksOf, Distinct}
 use Rattle.lists.proofs.Laws.{elem-mem, mem-elem, has-in, mark-in, has-marksOf, length-marksOf}
-use Rattle.tables.proofs.Accepted.{getD-mem}
-use Rattle.wrap_rules.proofs.Rows.{mem-at}
+use Rattle.lists.proofs.Members.{mem-at, getD-mem}
 use Rattle.takings.specs.Taking.{setOf}
 use Rattle.request_queue.specs.inner.Growing.{Listed, Grew}
 use Rattle.request_queue.proofs.Growing.{count-fits, grew-has}

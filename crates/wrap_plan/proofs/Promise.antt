@@ -10,18 +10,18 @@ use lib.Dec.{ltb, leb}
 use borrow.Author.Tests.{le-leb, lt-leb, ltb-true}
 use Rattle.lists.specs.Words.{ones}
 use Rattle.lists.proofs.Laws.{and-parts, every-mem}
+use Rattle.lists.proofs.Members.{getD-mem}
 use Rattle.tables.specs.Project.{Project}
 use Rattle.tables.specs.Readings.{modules}
 use Rattle.tables.specs.Refusal.{rowLimit, below}
 use Rattle.tables.specs.declared.Answer.the-variants.{Refused, Counted}
 use Rattle.tables.specs.Accepted.{Below}
-use Rattle.tables.proofs.Accepted.{getD-mem}
 use Rattle.tables.proofs.Answering.{verdict-project, verdict-unfit, verdict-short, verdict-none, after-refused, after-accepted}
 use Rattle.table.specs.Table.{Lent}
 use Rattle.table.proofs.Laws.{answer-refused, answer-accepted}
 use Rattle.chunk_cycles.specs.Cycles.{labelsOf}
 use Rattle.wrap_rules.specs.Plan.{ordersOf}
-use Rattle.wrap_plan.specs.Planned.{planOf, planVerdict, PlanFromSeeds}
+use Rattle.wrap_plan.specs.Promise.{planOf, planVerdict, PlanFromSeeds}
 use Rattle.seeds.specs.Seeds.{seedsFit}
 use Rattle.wrap_rules.proofs.Plans.{plan-length}
 

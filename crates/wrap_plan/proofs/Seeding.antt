@@ -9,22 +9,21 @@ use native.Mathlib.Omega.{arith}
 use lib.ListN.{length, getD, replicate, length-replicate}
 use Rattle.lists.specs.Words.{elem, has, marksOf}
 use Rattle.lists.proofs.Laws.{and-parts, and-join, iff-eq, elem-mem, mem-elem, marksOf-has, marksOf-cong}
+use Rattle.lists.proofs.Members.{mem-at, getD-mem}
 use Rattle.walk.specs.Close.{close, Bits}
 use Rattle.walk.proofs.Visits.{bits-replicate}
+use Rattle.walk.proofs.Closes.{marksOf-bits}
 use Rattle.tables.specs.Project.{Project}
 use Rattle.tables.specs.Readings.{modules}
-use Rattle.tables.proofs.Accepted.{getD-mem}
 use Rattle.chunk_cycles.specs.Cycles.{labelsOf}
 use Rattle.eligibility.specs.Eligible.{eligible, eligibleMarks}
 use Rattle.eligibility.proofs.Eligible.{eligible-in}
 use Rattle.wrap_rules.specs.Plan.{start, planFrom, asked, ordersOf}
-use Rattle.wrap_plan.specs.Planned.{planOf}
+use Rattle.wrap_plan.specs.Promise.{planOf}
 use Rattle.marks.specs.Steps.{looked, Owners}
 use Rattle.wrap_rules.specs.inner.Passes.{Marked}
 use Rattle.plan_rounds.specs.inner.Rounds.{closed}
-use Rattle.wrap_rules.proofs.Lists.{marksOf-bits}
 use Rattle.marks.proofs.Steps.{looked-has, has-looked, looked-bits}
-use Rattle.wrap_rules.proofs.Rows.{mem-at}
 use Rattle.wrap_rules.proofs.Sets.{eligible-has}
 
 -- nothing is marked in zeros

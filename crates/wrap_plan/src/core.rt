@@ -5,7 +5,7 @@ ghost use Rattle.lists.specs.Words.{ones};
 ghost use Rattle.tables.specs.Project.{Project};
 ghost use Rattle.table.specs.Table.{table, read};
 ghost use Rattle.plan_rounds.specs.inner.Rounds.{Basis};
-ghost use Rattle.wrap_plan.specs.Planned.{planOf};
+ghost use Rattle.wrap_plan.specs.Promise.{planOf};
 ghost use Rattle.wrap_plan.specs.inner.Seeded.{Seeds};
 use chunk_cycles::core::label_table;
 use eligibility::of_table::mark_table_eligible;

@@ -1,6 +1,6 @@
 // The wrap plan: the plan from seeds, closed under the four rules.
 ghost use Rattle.table.specs.Table.{lent, lentWith};
-ghost use Rattle.wrap_plan.specs.Planned.{PlanFromSeeds};
+ghost use Rattle.wrap_plan.specs.Promise.{PlanFromSeeds};
 use core::plan_seeds;
 use current_columns::core::read_current;
 use refusal::refusal_number;

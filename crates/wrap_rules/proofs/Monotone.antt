@@ -9,6 +9,7 @@ use lib.ListN.{length, getD}
 use lib.Dec.{eqb}
 use Rattle.lists.specs.Words.{upTo, elem, has}
 use Rattle.lists.proofs.Laws.{both, or-parts, or-left, or-right, elem-mem, mem-elem}
+use Rattle.lists.proofs.Tests.{any-more, and-more, and-right, or-more, cond-more}
 use Rattle.walk.specs.Walk.{everywhere, postOrder}
 use Rattle.walk.specs.Close.{Within, Monotone}
 use Rattle.tables.specs.Project.{Project, missing}
@@ -17,7 +18,6 @@ use Rattle.sensitivity.specs.Marks.{sensitive}
 use Rattle.eligibility.specs.Eligible.{eligible}
 use Rattle.wrap_rules.specs.Rules.{fromFirst, suffixAsks, sameComponent, componentAsks, importsOf, leads, importAsks, chainTouches, symbolTouches, referenceTouches, readAsks}
 use Rattle.wrap_rules.specs.Plan.{Rule, suffixRule, componentRule, importRule, readRule, reached, asks, asked}
-use Rattle.wrap_rules.proofs.Lists.{any-more, and-more, and-right, or-more, cond-more}
 
 -- (i) what stands from the first that passes on stands in the list
 pub mem-fromFirst : (f : ℕ → Bool) {x : ℕ} (xs : List ℕ) → List·Memᴰ x (fromFirst f xs) → List·Memᴰ x xs

@@ -9,7 +9,7 @@ use lib.ListN.{length}
 use Rattle.lists.specs.Words.{elem, has, marksOf}
 use Rattle.lists.proofs.Laws.{and-parts, and-join, has-in, length-marksOf, has-marksOf}
 use Rattle.walk.specs.Close.{Within, Closed, Bits}
-use Rattle.walk.proofs.Closes.{close-len, close-bits, close-closed, close-more, close-least, close-same, close-rises}
+use Rattle.walk.proofs.Closes.{close-len, close-bits, close-closed, close-more, close-least, close-same, close-rises, marksOf-bits}
 use Rattle.tables.specs.Project.{Project}
 use Rattle.tables.specs.Readings.{modules}
 use Rattle.sensitivity.specs.Marks.{sensitive}
@@ -17,7 +17,6 @@ use Rattle.eligibility.specs.Eligible.{eligible}
 use Rattle.eligibility.proofs.Eligible.{eligible-in}
 use Rattle.wrap_rules.specs.Rules.{suffixAsks, componentAsks, importAsks, readAsks}
 use Rattle.wrap_rules.specs.Plan.{Rule, suffixRule, componentRule, importRule, readRule, asks, asked, start, planFrom}
-use Rattle.wrap_rules.proofs.Lists.{marksOf-bits}
 use Rattle.wrap_rules.proofs.Monotone.{asked-monotone, asks-asked, asked-asks}
 
 module _ (orders : List (List ℕ)) (labels : List ℕ) (p : Project) where

@@ -7,13 +7,13 @@ use Prim.Native.Nat.{ℕ, _<_}
 use lib.ListN.{length, getD}
 use Rattle.lists.specs.Words.{upTo, keep}
 use Rattle.lists.proofs.Laws.{and-parts, mem-keep, mem-elem, mem-upTo}
+use Rattle.lists.proofs.Members.{getD-mem}
 use Rattle.walk.specs.Walk.{everywhere, postOrder}
 use Rattle.walk.specs.Reach.{ReachAny}
 use Rattle.walk.proofs.Orders.{reach-all}
 use Rattle.tables.specs.Project.{Project}
 use Rattle.tables.specs.Readings.{modules, flagged, isImport, normalTarget, targetsOf, analysed, analysedRow}
 use Rattle.tables.specs.Accepted.{Below, Accepted}
-use Rattle.tables.proofs.Accepted.{getD-mem}
 use Rattle.expected_order.specs.OfProject.{expectedOf}
 use Rattle.expected_order.proofs.Laws.{imports-in, expected-member}
 use Rattle.wrap_rules.specs.Plan.{roots, reached}

@@ -3,7 +3,7 @@
 use mathlib.Core.Path.{_≡_, refl, sym, subst, _∙_}
 use mathlib.Core.Logic.{⊎-elim}
 use mathlib.Core.Bool.{Bool, true, cond, _&&_}
-use mathlib.Core.List.{List, [], _∷_, flatMap, List·Memᴰ, List·Memᴰ·head, List·Memᴰ·tail, List·Memᴰ·not-nil, List·Memᴰ·cases-cons, List·Memᴰ·append-cases, List·Memᴰ·eq-of-singleton, Memᴰ·append-left, Memᴰ·append-right}
+use mathlib.Core.List.{List, [], _∷_, List·Memᴰ, List·Memᴰ·head, List·Memᴰ·tail, List·Memᴰ·not-nil, List·Memᴰ·eq-of-singleton}
 use Prim.Native.Nat.{ℕ, zero, suc, _≤_, _<_}
 use native.Mathlib.Nat.{not-suc-le-zero}
 use native.Mathlib.Omega.{arith}
@@ -11,28 +11,12 @@ use lib.ListN.{length, getD}
 use lib.Dec.{eqb}
 use borrow.Author.Tests.{eq-eqb, ne-eqb, eqb-true, eqb-false}
 use Rattle.lists.specs.Words.{upTo, any, has}
-use Rattle.lists.proofs.Laws.{both, and-parts, and-join, any-mem, mem-any, mem-keep, keep-mem, mem-upTo, upTo-mem}
+use Rattle.lists.proofs.Laws.{both, and-parts, and-join, any-mem, mem-any, mem-upTo, upTo-mem}
+use Rattle.lists.proofs.Members.{getD-mem, mem-at, mem-flat, flat-mem}
 use Rattle.tables.specs.Project.{Project, missing}
 use Rattle.tables.specs.Readings.{modules, isNormal, flagged, isImport, resolved, anyTarget, rowTargets, targetsOf, rowsOf, valuesOf}
-use Rattle.tables.proofs.Accepted.{getD-mem}
-use Rattle.tables.proofs.OwnerRows.{values-row, row-values}
+use Rattle.tables.proofs.OwnerRows.{values-row, row-values, mem-rows, rows-mem}
 use Rattle.wrap_rules.specs.Rules.{fromFirst, sameComponent, componentAsks, importsOf, leads, importAsks, referenceTouches, readAsks}
-
--- the rows of an owner
-pub mem-rows : {row : ℕ} (owner : List ℕ) (m : ℕ) → List·Memᴰ row (rowsOf owner m) → (row < length owner) × (getD owner row 0 ≡ m)
-unfolding rowsOf
-mem-rows {row} owner m h =
-    let r = mem-keep (λ (i : ℕ). eqb (getD owner i 0) m) (upTo (length owner)) h in
-    (mem-upTo (r .0), eqb-true (getD owner row 0) m (r .1))
-
-pub rows-mem : (owner : List ℕ) (row : ℕ) → row < length owner → List·Memᴰ row (rowsOf owner (getD owner row 0))
-unfolding rowsOf
-rows-mem owner row l = keep-mem (λ (i : ℕ). eqb (getD owner i 0) (getD owner row 0)) (upTo (length owner)) (upTo-mem l) (eq-eqb (getD owner row 0) (getD owner row 0) refl)
-
--- a list's member has a place
-pub mem-at : {x : ℕ} (xs : List ℕ) → List·Memᴰ x xs → (k : ℕ) × (k < length xs) × (getD xs k 0 ≡ x)
-mem-at [] h = absurd (List·Memᴰ·not-nil h)
-mem-at (y ∷ xs) h = ⊎-elim (λ e. (zero, omega arith, sym e)) (λ t. let r = mem-at xs t in (suc (r .0), omega (arith, r .1), r .2)) (List·Memᴰ·cases-cons h)
 
 -- (i) by two places of an order, the first one's module planned
 
@@ -81,23 +65,6 @@ module _ (sensitive eligible : ℕ → Bool) (labels : List ℕ) (p : Project) (
       (a .0, b .0, (r .0, q .0, mem-upTo (r .1), eqb-true (getD (p .member) (r .0) 0) m (c .0), mem-upTo (q .1), d .0, d .1))
 
 -- (iii) by a dependency row with a planned dependency, and a kind 0 record whose target is planned or leads to a planned module
-
--- members of a list of lists in turn
-
-pub mem-flat : {x : ℕ} (f : ℕ → List ℕ) (ys : List ℕ) → List·Memᴰ x (flatMap f ys) → (y : ℕ) × List·Memᴰ y ys × List·Memᴰ x (f y)
-unfolding flatMap
-mem-flat f [] h = absurd (List·Memᴰ·not-nil h)
-mem-flat f (y ∷ ys) h =
-    ⊎-elim
-    (λ a. (y, List·Memᴰ·head refl, a))
-    (λ b. let r = mem-flat f ys b in (r .0, List·Memᴰ·tail (r .1), r .2))
-    (List·Memᴰ·append-cases (f y) h)
-
-pub flat-mem : {x y : ℕ} (f : ℕ → List ℕ) (ys : List ℕ) → List·Memᴰ y ys → List·Memᴰ x (f y) → List·Memᴰ x (flatMap f ys)
-unfolding flatMap
-flat-mem f [] h k = absurd (List·Memᴰ·not-nil h)
-flat-mem {x} f (z ∷ ys) h k =
-    ⊎-elim (λ e. Memᴰ·append-left (flatMap f ys) (subst (λ (w : ℕ). List·Memᴰ x (f w)) e k)) (λ t. Memᴰ·append-right (f z) (flat-mem f ys t k)) (List·Memᴰ·cases-cons h)
 
 -- the module of a target is there unless it is missing
 pub any-resolved : (normal target : List ℕ) (row : ℕ) → anyTarget (resolved normal target row) ≡ cond (eqb (getD target row 0) missing) [] (getD target row 0 ∷ [])

@@ -122,6 +122,9 @@ operations! {
   plan_from_seeds = jolmuqter_plan_from_seeds [] [seeds] [plan];
   /// The same plan, made by a worklist. Counts the ones. It needs up to 4 MiB of stack; a thread of the standard library has 2, unless it is asked for more.
   plan_by_worklist = jolmuqter_plan_by_worklist [] [seeds] [plan];
+  /// That worklist, its modules in the order in which they are taken, and how many of them were listed after each number of takings below the count. Counts the list.
+  /// It needs as much stack.
+  takings_from_seeds = jolmuqter_takings_from_seeds [] [seeds] [list lengths];
   /// The plan of the whole analysis, 0 or 1 for each module. Counts the ones.
   plan = jolmuqter_plan [] [] [plan];
   /// How many modules are eligible, how many of them are planned, and the quotient and the remainder of 1,000 times the second by the first. Counts 4.

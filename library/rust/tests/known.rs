@@ -355,6 +355,21 @@ fn plans_by_a_worklist() {
   std::thread::Builder::new().stack_size(5 << 20).spawn(calls).unwrap().join().unwrap();
 }
 
+/// The order of what one taking lists is free.
+#[test]
+fn shows_worklists() {
+  let calls = || {
+    let (mut list, mut lengths) = ([9; 4], [9; 5]);
+    assert_eq!(with(unchanged, |table| table.takings_from_seeds(&[0, 2, 2], &mut list, &mut lengths)), Ok(3));
+    list[1..3].sort_unstable();
+    assert_eq!((list, lengths), ([2, 1, 3, 9], [1, 3, 3, 9, 9]));
+    assert_eq!(with(unchanged, |table| table.takings_from_seeds(&[4], &mut list, &mut lengths)), Err(Refused(5)));
+    assert_eq!(with(unchanged, |table| table.takings_from_seeds(&[1], &mut [9; 3], &mut lengths)), Err(Refused(6)));
+    assert_eq!(lengths, [1, 3, 3, 9, 9]);
+  };
+  std::thread::Builder::new().stack_size(5 << 20).spawn(calls).unwrap().join().unwrap();
+}
+
 #[test]
 fn checks_plans() {
   use Judgement::{Accepted, Broken};

@@ -20,10 +20,10 @@ use Rattle.arrangement.specs.OfProject.{named, lentNamedWith}
 use Rattle.arrangement.proofs.OfProject.{analysed-named, lent-fit}
 use Rattle.analysed_entries.specs.inner.Entries.{Entry, Found}
 use Rattle.analysed_entries.proofs.AsRead.{found-read}
-use Rattle.actual_order.specs.Actual.{runOf}
-use Rattle.actual_order.specs.inner.Cores.{Listed}
+use Rattle.entry_run.specs.Actual.{runOf}
+use Rattle.entry_run.specs.inner.Cores.{Listed}
 use Rattle.actual_order.specs.Promise.{ActualOrder}
-use Rattle.actual_order.specs.inner.OverTable.{Listing}
+use Rattle.entry_run.specs.inner.OverTable.{Listing}
 use Rattle.actual_order.proofs.Promise.{project-refused, root-refused, order-refused, hosts-refused, run-counted}
 use borrow.Author.Needs.{needs}
 use Rattle.actual_order.proofs.actual_order_with_records.Statement.{statement}

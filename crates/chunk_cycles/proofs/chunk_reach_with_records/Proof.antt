@@ -2,10 +2,10 @@
 -- Assumes nothing.
 use mathlib.Core.Path.{_≡_, sym, ap, subst, _∙_}
 use mathlib.Core.Bool.{Bool}
-use mathlib.Core.List.{List, _++_}
-use Prim.Native.Nat.{ℕ, _≤_, _<_}
+use mathlib.Core.List.{List}
+use Prim.Native.Nat.{ℕ, _≤_}
 use native.Mathlib.Omega.{arith}
-use lib.ListN.{length, take, drop, replicate}
+use lib.ListN.{length, take, replicate}
 use lib.Seq.{length-take-le, take-at}
 use Rattle.lists.specs.Words.{bit}
 use Rattle.lists.proofs.Fronts.{front-room, front-length}
@@ -17,7 +17,7 @@ use Rattle.table.specs.Table.{table, read, withRecords, current, Lent, lentWith
 use Rattle.table.specs.Places.{Places}
 use Rattle.table.proofs.Laws.{records-cut, lent-accepted}
 use Rattle.chunk_cycles.specs.Cycles.{labelsOf, reachesCycleOf}
-use Rattle.chunk_cycles.specs.inner.OverTable.{TableLabelled, Reaching}
+use Rattle.chunk_cycles.specs.inner.OverTable.{Reaching}
 use Rattle.chunk_cycles.proofs.Promise.{reach-refused, reach-unfit, reach-done, reach-read}
 use borrow.Author.Needs.{needs}
 use Rattle.chunk_cycles.proofs.chunk_reach_with_records.Statement.{statement}

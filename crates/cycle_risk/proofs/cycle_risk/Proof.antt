@@ -5,7 +5,7 @@ use mathlib.Core.List.{List}
 use Prim.Native.Nat.{ℕ}
 use Rattle.table.specs.Table.{Lent}
 use Rattle.table.proofs.Laws.{lent-cut}
-use Rattle.at_risk.specs.Entry.{EntryCycleRisk}
+use Rattle.at_risk.specs.Promise.{EntryCycleRisk}
 use borrow.Author.Needs.{needs}
 use Rattle.cycle_risk.proofs.cycle_risk.Statement.{statement}
 use Rattle.cycle_risk.proofs.cycle_risk.Tie as tie

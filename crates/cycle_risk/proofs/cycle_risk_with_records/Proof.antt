@@ -17,7 +17,7 @@ use Rattle.table.proofs.Laws.{records-cut, lent-accepted, lent-current}
 use Rattle.current_columns.proofs.Read.{current-cut, targets-room, targets-size, dependencies-room, dependencies-size}
 use Rattle.analysed_entries.specs.inner.Entries.{Entry, Found}
 use Rattle.analysed_entries.proofs.AsRead.{found-read}
-use Rattle.at_risk.specs.Entry.{cycleRiskOfEntry, EntryCycleRisk}
+use Rattle.at_risk.specs.Promise.{cycleRiskOfEntry, EntryCycleRisk}
 use Rattle.at_risk.specs.inner.OverTable.{Entered, Marked}
 use Rattle.at_risk.proofs.Joined.{length-cycle-risk}
 use Rattle.at_risk.proofs.Promise.{project-refused, root-refused, room-refused, marks-counted}

@@ -1,7 +1,7 @@
 -- `file_names::finish` meets its contract.
 -- Assumes nothing.
 use borrow.Author.Needs.{needs}
-use borrow.Author.Tests.{lt-ltb, le-ltb, eq-eqb, ne-eqb}
+use borrow.Author.Tests.{eq-eqb, ne-eqb}
 use Rattle.file_names.specs.Steps.{finished}
 use Rattle.file_names.proofs.finish.Statement.{statement}
 use Rattle.file_names.proofs.finish.Tie as tie

@@ -1,7 +1,7 @@
 -- `file_names::names_after` meets its contract.
 -- Assumes nothing.
 use borrow.Author.Needs.{needs}
-use borrow.Author.Tests.{lt-ltb, le-ltb, eq-eqb, ne-eqb}
+use borrow.Author.Tests.{eq-eqb, ne-eqb}
 use Rattle.file_names.specs.Steps.{namesAfter}
 use Rattle.file_names.proofs.names_after.Statement.{statement}
 use Rattle.file_names.proofs.names_after.Tie as tie

@@ -1,7 +1,7 @@
 -- `file_names::turn_at` meets its contract.
 -- Assumes nothing.
 use borrow.Author.Needs.{needs}
-use borrow.Author.Tests.{lt-ltb, le-ltb, eq-eqb, ne-eqb}
+use borrow.Author.Tests.{eq-eqb, ne-eqb}
 use Rattle.file_names.specs.Steps.{turnAt, turnOfLine}
 use Rattle.file_names.proofs.turn_at.Statement.{statement}
 use Rattle.file_names.proofs.turn_at.Tie as tie

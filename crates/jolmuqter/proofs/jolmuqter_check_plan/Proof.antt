@@ -2,7 +2,7 @@
 -- Assumes nothing.
 use mathlib.Core.Path.{ap, _∙_}
 use borrow.Author.Needs.{needs}
-use Rattle.jolmuqter.specs.Exported.{codedJudgement}
+use Rattle.answer_codes.specs.Exported.{codedJudgement}
 use Rattle.jolmuqter.proofs.jolmuqter_check_plan.Statement.{statement}
 use Rattle.jolmuqter.proofs.jolmuqter_check_plan.Tie as tie
 

@@ -2,7 +2,7 @@
 -- Assumes nothing.
 use mathlib.Core.Path.{ap, _∙_}
 use borrow.Author.Needs.{needs}
-use Rattle.jolmuqter.specs.Exported.{codedStep}
+use Rattle.answer_codes.specs.Exported.{codedStep}
 use Rattle.jolmuqter.proofs.jolmuqter_load_step.Statement.{statement}
 use Rattle.jolmuqter.proofs.jolmuqter_load_step.Tie as tie
 

@@ -1,11 +1,10 @@
 use Prim.Native.Nat.{_-_}
 use native.Mathlib.Omega.{arith}
-use mathlib.Core.Path.{refl}
 use denote.Ref.{now}
 use lib.ListN.{length}
 use Rattle.lines.specs.Lines.{RoomIs}
 use Rattle.lines.specs.declared.lines.Room.the-variants.{Left, Short}
-use Rattle.lines.proofs.Printing.{line-length, too-short, put-whole, written}
+use Rattle.lines.proofs.Printing.{line-length, refused, put-whole, written}
 use borrow.Author.Needs.{needs}
 use Rattle.lines.proofs.put_line.Statement.{statement}
 use Rattle.lines.proofs.put_line.Tie as tie
@@ -14,7 +13,7 @@ returns : tie.Need-returns
 returns c =
     let a = c .before .before .before .before .before .args in
     let n = line-length (now (a .word)) (now (a .entry)) (now (a .numbers)) in
-    (too-short (now (a .out)) (now (a .word)) (now (a .entry)) (now (a .numbers)) (omega (arith, n, c .if1 .taken)), (refl, refl))
+    refused (now (a .out)) (now (a .word)) (now (a .entry)) (now (a .numbers)) (omega (arith, n, c .if1 .taken))
 
 sub-room-after : tie.Need-sub-room-after
 sub-room-after c = search needs
@@ -36,7 +35,7 @@ returns-2 c =
     let a = c .before .before .before .before .before .before .before .before .args in
     let n = line-length (now (a .word)) (now (a .entry)) (now (a .numbers)) in
     let o : RoomIs (length (now (a .out)) - length (now (a .word)) - 1) (now (a .entry)) Short = rw (c .enum-told .given .1) at (c .before .before .room-after .ensures) in
-    (too-short (now (a .out)) (now (a .word)) (now (a .entry)) (now (a .numbers)) (omega (arith, n, o, c .before .before .before .if1 .left)), (refl, refl))
+    refused (now (a .out)) (now (a .word)) (now (a .entry)) (now (a .numbers)) (omega (arith, n, o, c .before .before .before .if1 .left))
 
 room-after-requires-2 : tie.Need-room-after-requires-2
 room-after-requires-2 c κs = search needs
@@ -54,7 +53,7 @@ returns-3 c =
     let o : RoomIs (length (now (a .out)) - length (now (a .word)) - 1) (now (a .entry)) (Left (g .0 .0)) = rw (g .1) at (c .before .before .before .before .before .before .room-after .ensures) in
     let n = line-length (now (a .word)) (now (a .entry)) (now (a .numbers)) in
     let u : RoomIs (g .0 .0) (now (a .numbers)) Short = rw (c .enum-told3 .given .1) at (c .before .before .room-after2 .ensures) in
-    (too-short (now (a .out)) (now (a .word)) (now (a .entry)) (now (a .numbers)) (omega (arith, n, o, u, c .before .before .before .before .before .before .before .if1 .left)), (refl, refl))
+    refused (now (a .out)) (now (a .word)) (now (a .entry)) (now (a .numbers)) (omega (arith, n, o, u, c .before .before .before .before .before .before .before .if1 .left))
 
 put-bytes-requires : tie.Need-put-bytes-requires
 put-bytes-requires c κs = search needs

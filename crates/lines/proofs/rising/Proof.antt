@@ -1,10 +1,11 @@
-use Prim.Native.Nat.{ℕ, _+_, _-_, _≤_, _<_}
+use Prim.Native.Nat.{_-_}
 use native.Mathlib.Omega.{arith}
-use mathlib.Core.Path.{_≡_, refl, sym, ap, _∙_}
+use mathlib.Core.Path.{_∙_}
 use denote.Ref.{now}
 use lib.ListN.{length}
-use Rattle.lines.specs.Lines.{members}
-use Rattle.form.proofs.Runs.{sets-front}
+use Rattle.lists.proofs.Fronts.{sets-front}
+use Rattle.lines.specs.Lines.{members, membersNumber}
+use Rattle.lines.proofs.Answered.{refused-by, accepted-by}
 use Rattle.lines.proofs.Members.{Listing, listing, listing-size, listing-passed, listing-more, listing-end, too-many, too-short, fits}
 use Rattle.lines.proofs.rising.Statement.{statement}
 use Rattle.lines.proofs.rising.Tie as tie
@@ -24,12 +25,13 @@ add-if1 c = omega arith
 returns : tie.Need-returns Inv-loop μ-loop
 returns c =
     let a = c .before .args in
-    (too-many (now (a .marks)) (now (a .out)) (c .if1 .taken), (refl, refl))
+    refused-by (membersNumber (now (a .marks)) (now (a .out))) (length (members (now (a .marks)))) (now (a .out)) (members (now (a .marks))) 0 (too-many (now (a .marks)) (now (a .out)) (c .if1 .taken))
 
 returns-2 : tie.Need-returns-2 Inv-loop μ-loop
 returns-2 c =
     let a = c .before .before .args in
-    (too-short (now (a .marks)) (now (a .out)) (omega (arith, c .before .if1 .left)) (c .if2 .taken), (refl, refl))
+    refused-by (membersNumber (now (a .marks)) (now (a .out))) (length (members (now (a .marks)))) (now (a .out)) (members (now (a .marks))) 5
+    (too-short (now (a .marks)) (now (a .out)) (omega (arith, c .before .if1 .left)) (c .if2 .taken))
 
 loop-holds : tie.Need-loop-holds Inv-loop μ-loop
 loop-holds c =
@@ -104,10 +106,10 @@ returns-3 c =
     let s = c .before .before .before .before in
     let a = s .args in
     let l = c .before .loop in
-    let e = listing-end (now (a .marks)) (now (a .out)) (l .out) (l .n) (l .i) (l .inv) (omega (arith, c .loop-test .left)) in (
-      fits (now (a .marks)) (now (a .out)) (omega (arith, c .before .before .before .if1 .left)) (omega (arith, c .before .before .if2 .left)),
-      (e .0, e .1 ∙ sets-front (now (a .out)) (members (now (a .marks))) (omega (arith, e .0, l .inv .few, l .inv .below, c .before .before .if2 .left))),
-    )
+    let e = listing-end (now (a .marks)) (now (a .out)) (l .out) (l .n) (l .i) (l .inv) (omega (arith, c .loop-test .left)) in
+    accepted-by (membersNumber (now (a .marks)) (now (a .out))) (length (members (now (a .marks)))) (now (a .out)) (members (now (a .marks))) (l .n) (l .out)
+    (fits (now (a .marks)) (now (a .out)) (omega (arith, c .before .before .before .if1 .left)) (omega (arith, c .before .before .if2 .left))) (e .0)
+    (e .1 ∙ sets-front (now (a .out)) (members (now (a .marks))) (omega (arith, e .0, l .inv .few, l .inv .below, c .before .before .if2 .left)))
 
 pub rising-spec : {M : Type 1} → statement M
 rising-spec =

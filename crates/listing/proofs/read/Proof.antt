@@ -1,10 +1,10 @@
 -- `listing::read` keeps its promise.
 -- Assumes nothing.
-use Prim.Native.Nat.{ℕ, _-_, _/_, _≤_}
+use Prim.Native.Nat.{ℕ}
 use native.Mathlib.Omega.{arith}
 use mathlib.Core.Path.{refl}
 use denote.Ref.{now}
-use lib.ListN.{length, length-replicate}
+use lib.ListN.{length-replicate}
 use Rattle.listing.proofs.Projects.{refuse-off, refuse-unsettled, settled-end, refuse-broken, accept-climbs, accept-count, accept}
 use borrow.Author.Needs.{needs}
 use Rattle.listing.proofs.read.Statement.{statement}

@@ -11,7 +11,6 @@ use Rattle.tables.specs.Project.{Project}
 use Rattle.tables.specs.Readings.{modules, isAnalysed}
 use Rattle.tables.specs.Refusal.{rowLimit}
 use Rattle.tables.specs.Accepted.{Accepted}
-use Rattle.tables.specs.declared.Answer.the-variants.{Counted}
 use Rattle.table.specs.Table.{table, read, withRecords, current, Lent}
 use Rattle.table.proofs.Laws.{records-cut, lent-accepted, lent-current}
 use Rattle.current_columns.proofs.Read.{current-cut, targets-room, targets-size, dependencies-room, dependencies-size}
@@ -22,7 +21,6 @@ use Rattle.analysed_entries.specs.inner.Entries.{Entry, Found}
 use Rattle.analysed_entries.proofs.AsRead.{found-read}
 use Rattle.plan_conditions.specs.Form.{planFits}
 use Rattle.planned_load.specs.inner.Stepping.{Entered, Stepped}
-use Rattle.load_trial.specs.Promise.{LoadRun}
 use Rattle.load_trial.proofs.Promise.{plan-sized, run-project, run-root, run-plan, run-steps, run-hosts, run-counted}
 use borrow.Author.Needs.{needs}
 use Rattle.load_trial.proofs.load_run_with_records.Statement.{statement}

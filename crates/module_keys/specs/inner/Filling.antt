@@ -1,13 +1,12 @@
 -- What the functions ask and ensure.
 -- Assumes nothing.
 use mathlib.Core.Path.{_≡_}
-use mathlib.Core.Bool.{true, cond}
+use mathlib.Core.Bool.{cond}
 use mathlib.Core.List.{List}
-use Prim.Native.Nat.{ℕ, _≤_, _<_}
+use Prim.Native.Nat.{ℕ, _<_}
 use lib.ListN.{length, getD}
 use lib.Dec.{eqb}
 use Rattle.tables.specs.Lookups.{Rising}
-use Rattle.names.specs.Names.{namesFit}
 
 -- every place has what f says
 abbrev pub Filled : (ℕ → ℕ) → List ℕ → Type 0

@@ -1,14 +1,11 @@
 -- `name_list::find_names` keeps its promise.
 -- Assumes nothing.
-use Prim.Native.Nat.{_<_}
-use native.Mathlib.Omega.{arith}
-use mathlib.Core.Path.{_≡_, refl, sym, _∙_}
-use lib.ListN.{length}
+use mathlib.Core.Path.{sym, _∙_}
 use denote.Ref.{now}
 use borrow.Author.Needs.{needs}
 use Rattle.form.specs.Form.{bytes}
 use Rattle.text_rows.specs.inner.Steps.{LineIs}
-use Rattle.text_rows.specs.declared.core.Place.the-variants.{At, Differs}
+use Rattle.text_rows.specs.declared.core.Place.the-variants.{At}
 use Rattle.name_list.proofs.Sections.{no-list, no-line, no-end, no-empty-line, no-fit, a-list}
 use Rattle.name_list.proofs.find_names.Statement.{statement}
 use Rattle.name_list.proofs.find_names.Tie as tie

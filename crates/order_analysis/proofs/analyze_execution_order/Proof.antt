@@ -6,7 +6,7 @@ use Prim.Native.Nat.{ℕ}
 use borrow.Author.Needs.{needs}
 use Rattle.table.specs.Table.{Lent}
 use Rattle.arrangement.proofs.OfProject.{lent-named-cut}
-use Rattle.order_analysis.specs.Whole.{WholeAnalysis}
+use Rattle.order_analysis.specs.Promise.{WholeAnalysis}
 use Rattle.order_analysis.proofs.analyze_execution_order.Statement.{statement}
 use Rattle.order_analysis.proofs.analyze_execution_order.Tie as tie
 

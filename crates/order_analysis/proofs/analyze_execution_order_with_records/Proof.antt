@@ -21,7 +21,7 @@ use Rattle.current_columns.proofs.Read.{current-cut, targets-room, targets-size
 use Rattle.names.specs.Names.{namesIn}
 use Rattle.arrangement.specs.OfProject.{named, lentNamedWith}
 use Rattle.arrangement.proofs.OfProject.{lent-fit}
-use Rattle.order_analysis.specs.Whole.{wholePlan, WholeAnalysis}
+use Rattle.order_analysis.specs.Promise.{wholePlan, WholeAnalysis}
 use Rattle.order_analysis.proofs.Promise.{project-refused, room-refused, whole-counted}
 use Rattle.order_analysis.proofs.analyze_execution_order_with_records.Statement.{statement}
 use Rattle.order_analysis.proofs.analyze_execution_order_with_records.Tie as tie

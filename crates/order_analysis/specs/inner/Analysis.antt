@@ -8,7 +8,7 @@ use Rattle.lists.specs.Words.{any, has}
 use Rattle.tables.specs.Project.{Project}
 use Rattle.tables.specs.Readings.{modules}
 use Rattle.visit_columns.specs.inner.OverTable.{Prepared}
-use Rattle.at_risk.specs.Entry.{riskOfEntry}
+use Rattle.at_risk.specs.Promise.{riskOfEntry}
 use Rattle.wrap_rules.specs.Plan.{roots}
 use Rattle.plan_rounds.specs.inner.Rounds.{Basis}
 

@@ -5,7 +5,7 @@ use mathlib.Core.List.{List}
 use Prim.Native.Nat.{ℕ}
 use Rattle.table.specs.Table.{Lent}
 use Rattle.arrangement.proofs.OfProject.{lent-named-cut}
-use Rattle.at_risk.specs.Entry.{EntryOrderRisk}
+use Rattle.at_risk.specs.Promise.{EntryOrderRisk}
 use borrow.Author.Needs.{needs}
 use Rattle.order_risk.proofs.order_risk.Statement.{statement}
 use Rattle.order_risk.proofs.order_risk.Tie as tie

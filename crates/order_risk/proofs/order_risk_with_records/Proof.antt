@@ -20,7 +20,7 @@ use Rattle.arrangement.specs.OfProject.{named, lentNamedWith}
 use Rattle.arrangement.proofs.OfProject.{analysed-named, lent-fit}
 use Rattle.analysed_entries.specs.inner.Entries.{Entry, Found}
 use Rattle.analysed_entries.proofs.AsRead.{found-read}
-use Rattle.at_risk.specs.Entry.{orderRiskOfEntry, EntryOrderRisk}
+use Rattle.at_risk.specs.Promise.{orderRiskOfEntry, EntryOrderRisk}
 use Rattle.at_risk.specs.inner.OverTable.{Entered, Marked}
 use Rattle.at_risk.proofs.Joined.{length-order-risk}
 use Rattle.at_risk.proofs.Promise.{project-refused, root-refused, room-refused, marks-counted}

@@ -6,7 +6,7 @@ use Prim.Native.Nat.{ℕ}
 use borrow.Author.Needs.{needs}
 use Rattle.table.specs.Table.{Lent}
 use Rattle.table.proofs.Laws.{lent-cut}
-use Rattle.wrap_plan.specs.Planned.{PlanFromSeeds}
+use Rattle.wrap_plan.specs.Promise.{PlanFromSeeds}
 use Rattle.plan_by_worklist.proofs.plan_by_worklist.Statement.{statement}
 use Rattle.plan_by_worklist.proofs.plan_by_worklist.Tie as tie
 

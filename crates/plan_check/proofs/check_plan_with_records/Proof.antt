@@ -17,7 +17,7 @@ use Rattle.current_columns.proofs.Read.{current-cut, targets-room, targets-size
 use Rattle.seeds.specs.Seeds.{seedsFit}
 use Rattle.plan_conditions.specs.Form.{planFits}
 use Rattle.plan_conditions.specs.Conditions.{judged}
-use Rattle.plan_check.specs.inner.Checking.{Proposed}
+use Rattle.plan_judgement.specs.inner.Checking.{Proposed}
 use Rattle.plan_check.proofs.Promise.{plan-marked, project-refused, seeds-refused, seeds-below, plan-refused, plan-judged}
 use Rattle.plan_check.proofs.check_plan_with_records.Statement.{statement}
 use Rattle.plan_check.proofs.check_plan_with_records.Tie as tie

@@ -8,7 +8,7 @@ use Rattle.tables.specs.Project.{Project}
 use Rattle.tables.specs.Readings.{modules}
 use Rattle.tables.specs.Accepted.{Accepted}
 use Rattle.analysed_entries.specs.inner.Entries.{Entry}
-use Rattle.actual_order.specs.inner.Cores.{Written}
+use Rattle.entry_run.specs.inner.Cores.{Written}
 use Rattle.planned_load.specs.Steps.{stepModules, stepHosts}
 
 -- an accepted project, an entry of it, and a plan with a place a module

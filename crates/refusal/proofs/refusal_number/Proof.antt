@@ -6,8 +6,6 @@ use mathlib.Core.List.{List}
 use Prim.Native.Nat.{ℕ}
 use lib.ListN.{length}
 use borrow.Author.Needs.{needs}
-use Rattle.tables.specs.Project.{Project}
-use Rattle.tables.specs.Readings.{modules}
 use Rattle.names.specs.Names.{namesSized, namesIn}
 use Rattle.table.specs.Table.{columnAt, table, read, withRecords, tableNumber, testedToo, lentWith}
 use Rattle.refusal.proofs.refusal_number.Statement.{statement}

@@ -2,7 +2,6 @@
 -- Assumes nothing.
 use borrow.Author.Needs.{needs}
 use Rattle.share_totals.specs.Within.{Within}
-use Rattle.season.specs.Sound.{Room, Acted}
 use Rattle.season.proofs.act.Statement.{statement}
 use Rattle.season.proofs.act.Tie as tie
 

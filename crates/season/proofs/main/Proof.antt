@@ -4,7 +4,6 @@ use mathlib.Core.Path.{sym, subst}
 use borrow.Author.Needs.{needs}
 use Rattle.file_names.specs.declared.Names.{Names}
 use Rattle.file_names.specs.Steps.{begun}
-use Rattle.share_totals.specs.declared.Totals.{Totals}
 use Rattle.season.specs.Sound.{Sound}
 use Rattle.season.proofs.Keeping.{sound-none}
 use Rattle.season.proofs.main.Statement.{statement}

@@ -1,6 +1,6 @@
 -- `season::take` keeps the totals sound.
 -- Assumes nothing.
-use mathlib.Core.Path.{_≡_, sym, ap, subst}
+use mathlib.Core.Path.{sym, ap, subst}
 use borrow.Author.Needs.{needs}
 use Rattle.file_names.specs.declared.Names.{Names}
 use Rattle.file_names.specs.declared.Step.{Step}

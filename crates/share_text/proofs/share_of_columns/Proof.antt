@@ -6,7 +6,7 @@ use Prim.Native.Nat.{ℕ}
 use lib.ListN.{getD}
 use borrow.Author.Needs.{needs}
 use Rattle.arrangement.specs.OfProject.{lentNamed}
-use Rattle.shares.specs.Share.{outcomeOf}
+use Rattle.shares.specs.Promise.{outcomeOf}
 use Rattle.share_text.proofs.share_of_columns.Statement.{statement}
 use Rattle.share_text.proofs.share_of_columns.Tie as tie
 

@@ -20,7 +20,7 @@ use Rattle.arrangement.specs.OfProject.{named, lentNamedWith}
 use Rattle.arrangement.proofs.OfProject.{lent-fit}
 use Rattle.marks.proofs.Parts.{part-length}
 use Rattle.share_totals.specs.Shares.{shareOf}
-use Rattle.shares.specs.Share.{eligibleCount, plannedCount}
+use Rattle.table_share.specs.Counts.{eligibleCount, plannedCount}
 use Rattle.shares.proofs.Promise.{outcome-refused, outcome-shared}
 use Rattle.shares.proofs.share_with_records.Statement.{statement}
 use Rattle.shares.proofs.share_with_records.Tie as tie

@@ -6,7 +6,7 @@ use Prim.Native.Nat.{ℕ}
 use borrow.Author.Needs.{needs}
 use Rattle.table.specs.Table.{Lent}
 use Rattle.arrangement.proofs.OfProject.{lent-named-cut}
-use Rattle.shares.specs.Share.{WrittenShare}
+use Rattle.shares.specs.Promise.{WrittenShare}
 use Rattle.shares.proofs.write_share.Statement.{statement}
 use Rattle.shares.proofs.write_share.Tie as tie
 

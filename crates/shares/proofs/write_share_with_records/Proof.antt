@@ -8,8 +8,8 @@ use borrow.Author.Needs.{needs}
 use Rattle.tables.specs.declared.Answer.the-variants.{Counted}
 use Rattle.table.specs.Table.{Lent}
 use Rattle.arrangement.specs.OfProject.{lentNamedWith}
-use Rattle.share_totals.specs.declared.Outcome.the-variants.{Share, Refused}
-use Rattle.shares.specs.Share.{outcomeOf, WrittenShare}
+use Rattle.share_totals.specs.declared.Outcome.the-variants.{Share}
+use Rattle.shares.specs.Promise.{outcomeOf, WrittenShare}
 use Rattle.shares.proofs.Promise.{share-refused, share-short, share-written}
 use Rattle.shares.proofs.write_share_with_records.Statement.{statement}
 use Rattle.shares.proofs.write_share_with_records.Tie as tie

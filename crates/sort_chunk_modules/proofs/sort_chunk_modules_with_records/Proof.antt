@@ -2,10 +2,10 @@
 -- Assumes nothing.
 use mathlib.Core.Path.{_≡_, sym, ap, subst, _∙_}
 use mathlib.Core.Bool.{true}
-use mathlib.Core.List.{List, _++_}
+use mathlib.Core.List.{List}
 use Prim.Native.Nat.{ℕ}
 use native.Mathlib.Omega.{arith}
-use lib.ListN.{length, take, drop, length-replicate}
+use lib.ListN.{length, take, length-replicate}
 use lib.Dec.{ltb}
 use lib.Seq.{length-take-le}
 use borrow.Author.Tests.{ltb-true}
@@ -15,14 +15,13 @@ use Rattle.tables.specs.Project.{Project}
 use Rattle.tables.specs.Readings.{modules}
 use Rattle.tables.specs.Refusal.{rowLimit}
 use Rattle.tables.specs.Accepted.{Accepted}
-use Rattle.tables.specs.declared.Answer.the-variants.{Counted}
 use Rattle.table.specs.Table.{table, read, withRecords, current, testedToo, Lent, lentWith}
 use Rattle.table.specs.Places.{Places}
 use Rattle.table.proofs.Laws.{none-tested, lent-accepted, lent-current, lent-names}
 use Rattle.current_columns.proofs.Read.{current-cut, targets-room, targets-size, dependencies-room, dependencies-size}
 use Rattle.arrangement.specs.OfProject.{arrangedOf}
 use Rattle.arrangement.proofs.OfProject.{in-fit, read-some, read-size}
-use Rattle.sort_chunk_modules.specs.Promise.{namedNumber, SortChunkModules}
+use Rattle.sort_chunk_modules.specs.Promise.{namedNumber}
 use Rattle.sort_chunk_modules.proofs.Promise.{project-refused, room-refused, members-arranged}
 use Rattle.sort_chunk_modules.proofs.sort_chunk_modules_with_records.Statement.{statement}
 use Rattle.sort_chunk_modules.proofs.sort_chunk_modules_with_records.Tie as tie

@@ -1,14 +1,15 @@
 -- A lent visit, turn by turn: what the slices and the counters hold, what a call may rely on, and how a turn leads to the next.
 -- Assumes nothing.
 use mathlib.Core.Path.{_≡_, refl, sym, ap, subst, _∙_}
-use mathlib.Core.Bool.{Bool, true, false, cond, not}
+use mathlib.Core.Bool.{Bool, true, false, cond}
 use mathlib.Core.List.{List, [], _∷_}
-use Prim.Native.Nat.{ℕ, suc, _+_, _-_, _<_, _≤_}
+use Prim.Native.Nat.{ℕ, suc, _+_, _<_, _≤_}
 use native.Mathlib.Nat.{le-antisymm}
 use native.Mathlib.Omega.{arith}
 use lib.ListN.{length, getD, set, length-set}
 use lib.Dec.{eqb}
 use Rattle.lists.specs.Words.{isZero, zeros}
+use Rattle.lists.proofs.Laws.{not-false, not-true}
 use Rattle.walk.specs.Walk.{St, everywhere, Visits}
 use Rattle.walk.proofs.Visits.{set-zeros}
 use Rattle.walk.proofs.Going.{Going, going-start, going-row, going-found, going-end, met-visited, left-visited, visited-then, column-rows}
@@ -38,11 +39,7 @@ abbrev pub marked : Now → ℕ → Now
 marked t m = record { c = t .c; ms = set (t .ms) m 1; ns = t .ns; ss = t .ss }
 
 pub is-marked : (t : Now) (m : ℕ) {z : Bool} (ms : List ℕ) → Met (t .ms) m z ms → z ≡ false → (isZero (getD (t .ms) m 1) ≡ true) × (ms ≡ set (t .ms) m 1)
-is-marked t m ms e n = (not-no (isZero (getD (t .ms) m 1)) (sym (e .before) ∙ n), e .marked ∙ ap (λ (b : Bool). cond b (t .ms) (set (t .ms) m 1)) n)
-  where
-    not-no : (b : Bool) → not b ≡ false → b ≡ true
-    not-no true q = refl
-    not-no false q = sym q
+is-marked t m ms e n = (not-false (isZero (getD (t .ms) m 1)) (sym (e .before) ∙ n), e .marked ∙ ap (λ (b : Bool). cond b (t .ms) (set (t .ms) m 1)) n)
 
 module _ (normal recordModule recordKind recordTarget : List ℕ) where
   -- what a visit asks
@@ -67,13 +64,9 @@ module _ (normal recordModule recordKind recordTarget : List ℕ) where
       -- a module that was met is passed
       pub passed : {z : Bool} (ms : List ℕ) → Met (t₀ .ms) m z ms → z ≡ true → Visited t₀ (m ∷ []) (record { c = t₀ .c; ms = ms; ns = t₀ .ns; ss = t₀ .ss })
       passed {z} ms e y =
-          let old : isZero (getD (t₀ .ms) m 1) ≡ false = not-yes (isZero (getD (t₀ .ms) m 1)) (sym (e .before) ∙ y) in
+          let old : isZero (getD (t₀ .ms) m 1) ≡ false = not-true (isZero (getD (t₀ .ms) m 1)) (sym (e .before) ∙ y) in
           let same : t₀ .ms ≡ ms = sym (e .marked ∙ ap (λ (b : Bool). cond b (t₀ .ms) (set (t₀ .ms) m 1)) y) in
           subst (λ (l : List ℕ). Visits succ everywhere (number normal) (stood t₀) (m ∷ []) (held l (t₀ .ns) (t₀ .ss) (t₀ .c .placed) (t₀ .c .next))) same (met-visited succ everywhere (number normal) (stood t₀) m old)
-        where
-          not-yes : (b : Bool) → not b ≡ true → b ≡ false
-          not-yes true q = sym q
-          not-yes false q = refl
 
       module _ (starts : List ℕ) where
         -- the module's rows: from its first to the next module's first

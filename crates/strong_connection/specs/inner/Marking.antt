@@ -4,7 +4,7 @@ use mathlib.Core.List.{List, [], _∷_}
 use Prim.Native.Nat.{ℕ}
 use Rattle.lists.specs.Words.{elem, marksOf}
 use Rattle.walk.specs.Walk.{St, everywhere, Visits}
-use Rattle.strong_connection.specs.Cycles.{reached}
+use Rattle.strong_connection.specs.Cycles.{reachedFrom}
 
 -- a walk's state with marks alone
 abbrev pub marking : List ℕ → St (Unit {0})
@@ -19,4 +19,4 @@ Marked succ marks m marks′ = Visits succ everywhere nothing (marking marks) (m
 
 -- the marks of those of n chunks that c reaches
 abbrev pub reachMarks : ℕ → (ℕ → List ℕ) → ℕ → List ℕ
-reachMarks n succ c = marksOf (λ (d : ℕ). elem d (reached n succ c)) n
+reachMarks n succ c = marksOf (λ (d : ℕ). elem d (reachedFrom n succ c)) n

@@ -5,7 +5,7 @@ use mathlib.Core.List.{List}
 use Prim.Native.Nat.{ℕ}
 use Rattle.table.specs.Table.{Lent}
 use Rattle.arrangement.proofs.OfProject.{lent-named-cut}
-use Rattle.wall_line.specs.Wall.{PageLine}
+use Rattle.wall_line.specs.Promise.{PageLine}
 use borrow.Author.Needs.{needs}
 use Rattle.wall_line.proofs.page_line.Statement.{statement}
 use Rattle.wall_line.proofs.page_line.Tie as tie

@@ -18,7 +18,7 @@ use Rattle.arrangement.proofs.OfProject.{analysed-named, lent-fit, lent-named}
 use Rattle.analysed_entries.specs.inner.Entries.{Entry, Found}
 use Rattle.analysed_entries.proofs.AsRead.{found-read}
 use Rattle.lines.specs.Lines.{PutAt}
-use Rattle.wall_line.specs.Wall.{pageLineOf}
+use Rattle.wall_line.specs.Promise.{pageLineOf}
 use Rattle.wall_line.proofs.Promise.{project-refused, root-refused, room-refused, line-put}
 use borrow.Author.Needs.{needs}
 use Rattle.wall_line.proofs.page_line_with_records.Statement.{statement}

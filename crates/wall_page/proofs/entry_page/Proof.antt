@@ -5,7 +5,7 @@ use mathlib.Core.List.{List}
 use Prim.Native.Nat.{ℕ}
 use Rattle.table.specs.Table.{Lent}
 use Rattle.arrangement.proofs.OfProject.{lent-named-cut}
-use Rattle.wall_page.specs.Pages.{EntryPage}
+use Rattle.wall_page.specs.Promise.{EntryPage}
 use borrow.Author.Needs.{needs}
 use Rattle.wall_page.proofs.entry_page.Statement.{statement}
 use Rattle.wall_page.proofs.entry_page.Tie as tie

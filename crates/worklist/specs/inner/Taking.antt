@@ -2,8 +2,8 @@
 -- Assumes nothing.
 use mathlib.Core.Path.{_≡_}
 use mathlib.Core.List.{List}
-use Prim.Native.Nat.{ℕ, _≤_}
-use lib.ListN.{length, take}
+use Prim.Native.Nat.{ℕ, _≤_, _<_}
+use lib.ListN.{length, getD, take}
 use Rattle.tables.specs.Project.{Project}
 use Rattle.tables.specs.Readings.{modules}
 use Rattle.takings.specs.Taking.{Takes}
@@ -30,8 +30,16 @@ pub record Running (p : Project) (seeds from to marks queue placed list settled 
   pub started : k ≤ end
   pub within : end ≤ count
 
--- the run is a chain of takings, and all are taken
-pub record TakenAll (p : Project) (seeds placed′ list′ : List ℕ) (count′ : ℕ) : Type 0 where
+-- of `lengths` the first k places now say how long the list was after as many takings, and the others are as they were
+pub record Noted (p : Project) (seeds list : List ℕ) (count : ℕ) (lengths lengths′ : List ℕ) (k : ℕ) : Type 0 where
+  pub room : length lengths′ ≡ length lengths
+  pub within : (j : ℕ) → j < k → getD lengths′ j 0 ≤ count
+  pub takes : (j : ℕ) → j < k → Takes (ruleOf p) (startOf p seeds) (take (getD lengths′ j 0) list) j
+  pub rest : (j : ℕ) → k ≤ j → getD lengths′ j 0 ≡ getD lengths j 0
+
+-- the run is a chain of takings, all are taken, and the lengths are noted
+pub record TakenAll (p : Project) (seeds placed′ list′ lengths lengths′ : List ℕ) (count′ : ℕ) : Type 0 where
   pub size : length placed′ ≡ modules p
   pub listed : Listed placed′ list′ count′
   pub takes : Takes (ruleOf p) (startOf p seeds) (take count′ list′) count′
+  pub noted : Noted p seeds list′ count′ lengths lengths′ count′

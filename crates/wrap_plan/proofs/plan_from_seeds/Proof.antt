@@ -6,7 +6,7 @@ use Prim.Native.Nat.{ℕ}
 use borrow.Author.Needs.{needs}
 use Rattle.table.specs.Table.{Lent}
 use Rattle.table.proofs.Laws.{lent-cut}
-use Rattle.wrap_plan.specs.Planned.{PlanFromSeeds}
+use Rattle.wrap_plan.specs.Promise.{PlanFromSeeds}
 use Rattle.wrap_plan.proofs.plan_from_seeds.Statement.{statement}
 use Rattle.wrap_plan.proofs.plan_from_seeds.Tie as tie
 

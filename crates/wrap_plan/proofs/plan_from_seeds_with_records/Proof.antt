@@ -19,7 +19,7 @@ use Rattle.table.specs.Table.{table, read, withRecords, current, Lent, lentWith
 use Rattle.table.proofs.Laws.{lent-accepted, lent-current}
 use Rattle.current_columns.proofs.Read.{current-cut, targets-room, targets-size, dependencies-room, dependencies-size}
 use Rattle.seeds.specs.Seeds.{seedsFit}
-use Rattle.wrap_plan.specs.Planned.{planOf, PlanFromSeeds}
+use Rattle.wrap_plan.specs.Promise.{planOf, PlanFromSeeds}
 use Rattle.wrap_plan.specs.inner.Seeded.{Seeds}
 use Rattle.wrap_plan.proofs.Promise.{project-refused, seeds-refused, seeds-below, room-refused, plan-counted}
 use Rattle.wrap_plan.proofs.plan_from_seeds_with_records.Statement.{statement}

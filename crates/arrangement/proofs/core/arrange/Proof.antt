@@ -1,13 +1,13 @@
 -- `arrangement::core::arrange` meets its contract: the keys that the arrays hold are those of the modules.
 -- Assumes nothing.
-use mathlib.Core.Path.{_≡_, refl, sym, ap, subst, _∙_}
+use mathlib.Core.Path.{_≡_, sym, ap, subst, _∙_}
 use mathlib.Core.List.{List, _++_}
-use Prim.Native.Nat.{ℕ, _≤_, _<_}
+use Prim.Native.Nat.{ℕ, _<_}
 use native.Mathlib.Omega.{arith}
 use lib.ListN.{length, take, drop, replicate}
 use lib.Seq.{length-take-le, take-at}
 use Rattle.lists.proofs.Fronts.{front-room, front-length}
-use Rattle.load_order.proofs.Arranging.{below-mem}
+use Rattle.tables.proofs.Accepted.{below-mem}
 use Rattle.merge_sort.specs.inner.Held.{heldKey, Held}
 use Rattle.module_keys.specs.Keys.{keyOf}
 use Rattle.arrangement.specs.Arrangement.{arranged}

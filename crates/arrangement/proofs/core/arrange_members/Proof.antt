@@ -1,6 +1,6 @@
 -- `arrangement::core::arrange_members` meets its contract: by the numbers from the sort.
 -- Assumes nothing.
-use mathlib.Core.Path.{_≡_, refl, sym, ap, subst, _∙_}
+use mathlib.Core.Path.{_≡_, refl, sym, _∙_}
 use mathlib.Core.List.{List, _++_}
 use Prim.Native.Nat.{ℕ, _≤_}
 use native.Mathlib.Nat.{le-of-eq}
@@ -11,7 +11,6 @@ use Rattle.lists.proofs.Fronts.{front-room, front-length}
 use Rattle.tables.specs.Project.{Project}
 use Rattle.tables.specs.Readings.{modules}
 use Rattle.table.specs.Table.{table, read}
-use Rattle.sort_modules.specs.OfProject.{numbersOf}
 use borrow.Author.Needs.{needs}
 use Rattle.arrangement.proofs.core.arrange_members.Statement.{statement}
 use Rattle.arrangement.proofs.core.arrange_members.Tie as tie

@@ -1,8 +1,7 @@
 -- `arrangement::core::read_members` meets its contract: with names and without.
 -- Assumes nothing.
-use mathlib.Core.Path.{_≡_, sym, _∙_}
+use mathlib.Core.Path.{_∙_}
 use native.Mathlib.Omega.{arith}
-use lib.ListN.{length}
 use Rattle.tables.specs.Project.{Project}
 use Rattle.table.specs.Table.{table, read}
 use Rattle.arrangement.proofs.OfProject.{copied, in-fit, read-none, read-some}

@@ -1,9 +1,9 @@
 -- `arrangement::core::sort_chunks` meets its contract: chunk by chunk, a chunk's members are sorted and the other rows stay.
 -- Assumes nothing.
-use mathlib.Core.Path.{_≡_, refl, sym, subst, _∙_}
-use Prim.Native.Nat.{ℕ, _+_, _-_, _≤_, _<_}
+use mathlib.Core.Path.{_≡_, refl, subst, _∙_}
+use Prim.Native.Nat.{ℕ, _-_, _≤_}
 use native.Mathlib.Omega.{arith}
-use lib.ListN.{length, take, drop, length-drop}
+use lib.ListN.{length, drop, length-drop}
 use lib.Seq.{length-take-le}
 use Rattle.merge_sort.specs.inner.Held.{heldKey}
 use Rattle.arrangement.specs.inner.Rows.{Members}

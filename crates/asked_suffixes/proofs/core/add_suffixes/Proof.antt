@@ -16,7 +16,7 @@ use Rattle.tables.specs.Accepted.{Below}
 use Rattle.table.specs.Table.{table, read}
 use Rattle.sensitivity.specs.Marks.{sensitiveMarks}
 use Rattle.sensitivity.proofs.Marks.{length-grounds}
-use Rattle.eligibility.specs.Eligible.{eligible, eligibleMarks}
+use Rattle.eligibility.specs.Eligible.{eligible}
 use Rattle.marks.specs.Steps.{Added, InAll}
 use Rattle.marks.proofs.Parts.{Lent, part-none, part-length, view-room, view-is, view-length}
 use Rattle.marks.proofs.Steps.{added-cong}

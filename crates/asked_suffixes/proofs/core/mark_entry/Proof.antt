@@ -7,8 +7,8 @@ use native.Mathlib.Omega.{arith}
 use lib.ListN.{length, getD, take, drop, length-replicate}
 use lib.Seq.{take-at}
 use borrow.Author.Needs.{needs}
+use Rattle.lists.proofs.Members.{getD-mem}
 use Rattle.tables.specs.Project.{Project}
-use Rattle.tables.proofs.Accepted.{getD-mem}
 use Rattle.table.specs.Table.{table, read}
 use Rattle.expected_order.specs.OfProject.{expectedOf}
 use Rattle.expected_order.proofs.Laws.{expected-in, expected-length}

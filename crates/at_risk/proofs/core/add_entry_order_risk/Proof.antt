@@ -14,7 +14,7 @@ use Rattle.tables.specs.Project.{Project}
 use Rattle.tables.specs.Readings.{modules}
 use Rattle.tables.specs.Refusal.{moduleLimit}
 use Rattle.table.specs.Table.{table, read}
-use Rattle.actual_order.specs.Actual.{actualOf, hostsOf}
+use Rattle.entry_run.specs.Actual.{actualOf, hostsOf}
 use Rattle.sensitivity.specs.Marks.{sensitive}
 use Rattle.eligibility.specs.Eligible.{eligible}
 use Rattle.sensitivity.proofs.Marks.{sensitive-marks, length-grounds}

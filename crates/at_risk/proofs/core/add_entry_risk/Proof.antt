@@ -11,7 +11,7 @@ use Rattle.tables.specs.Readings.{modules}
 use Rattle.tables.specs.Refusal.{moduleLimit}
 use Rattle.table.specs.Table.{table, read}
 use Rattle.expected_order.specs.OfProject.{expectedOf}
-use Rattle.actual_order.specs.Actual.{actualOf, hostsOf}
+use Rattle.entry_run.specs.Actual.{actualOf, hostsOf}
 use Rattle.chunk_cycles.specs.Cycles.{reachesCycleOf}
 use Rattle.sensitivity.specs.Marks.{sensitive}
 use Rattle.eligibility.specs.Eligible.{eligible}

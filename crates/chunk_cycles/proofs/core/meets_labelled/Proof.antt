@@ -10,10 +10,10 @@ use borrow.Author.Needs.{needs}
 use borrow.Author.Tests.{eq-eqb, ne-eqb}
 use Rattle.lists.specs.Words.{any, has, upTo}
 use Rattle.lists.proofs.Laws.{and-join, mem-any, upTo-mem, mark-in, mark-out, getD-in, and-out}
+use Rattle.lists.proofs.Tests.{none-below}
 use Rattle.tables.specs.Project.{missing}
 use Rattle.component_labels.specs.inner.Labelling.{labelled}
 use Rattle.chunk_cycles.specs.inner.OverTable.{labelledAt}
-use Rattle.component_labels.proofs.Lists.{none-below}
 use Rattle.chunk_cycles.proofs.core.meets_labelled.Statement.{statement}
 use Rattle.chunk_cycles.proofs.core.meets_labelled.Tie as tie
 

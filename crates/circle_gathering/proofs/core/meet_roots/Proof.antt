@@ -1,13 +1,12 @@
 -- `circle_gathering::core::meet_roots` meets its contract: root by root (`Going`).
 -- Assumes nothing.
 use mathlib.Core.Path.{_≡_, refl, sym, ap, subst, _∙_}
-use mathlib.Core.List.{List, [], _∷_}
+use mathlib.Core.List.{[], _∷_}
 use Prim.Native.Nat.{ℕ, _+_, _-_, _<_, _≤_}
-use native.Mathlib.Nat.{le-antisymm}
 use native.Mathlib.Omega.{arith}
 use lib.ListN.{length, getD}
 use Rattle.walk.proofs.Going.{column-rows}
-use Rattle.circle_search.specs.inner.Search.{Held, Searches}
+use Rattle.circle_search.specs.inner.Search.{Held}
 use Rattle.circle_search.proofs.Searches.{Going, going-start, going-found, going-end}
 use Rattle.circle_visit.specs.Visit.{Listed, write, ledBy, held, Leads, Room}
 use Rattle.circle_gathering.proofs.Roots.{ones-length, root-below, root-length, root-next}

@@ -1,17 +1,19 @@
 -- `circle_gathering::core::search_circles` meets its contract: from no module begun.
 -- Assumes nothing.
-use mathlib.Core.Path.{_≡_, refl, sym, ap, subst, _∙_}
+use mathlib.Core.Path.{_≡_, refl, sym, subst}
 use mathlib.Core.Logic.{⊎-elim}
 use mathlib.Core.List.{List, [], _∷_, List·Memᴰ·cases-cons}
 use Prim.Native.Nat.{ℕ, _<_}
 use lib.ListN.{length, take, replicate}
 use lib.Seq.{length-take-le}
+use Rattle.lists.proofs.Fronts.{take-zeros}
 use Rattle.tables.specs.Accepted.{Below}
+use Rattle.tables.proofs.Accepted.{below-mem}
+use Rattle.tables.specs.Refusal.{moduleLimit}
 use Rattle.circle_search.specs.inner.Search.{Searches}
 use Rattle.circle_search.proofs.States.{circles-made}
-use Rattle.circle_visit.specs.Visit.{moduleLimit, listed, write, ledBy, held, Leads}
+use Rattle.circle_visit.specs.Visit.{listed, write, ledBy, held, Leads}
 use Rattle.circle_gathering.proofs.Leading.{led-inside}
-use Rattle.circle_gathering.proofs.Roots.{zeroed, roots-in}
 use borrow.Author.Needs.{needs}
 use Rattle.circle_gathering.proofs.core.search_circles.Statement.{statement}
 use Rattle.circle_gathering.proofs.core.search_circles.Tie as tie
@@ -56,11 +58,11 @@ returns c =
     let a = e .args in
     let v = c .before .before .before .before .before .before .meet-roots in
     circles-made (ledBy (a .starts .now) (a .led .now)) write (a .n) (led-inside (e .pre .leads)) (e .pre .single) (a .runtime ∷ a .entry .now)
-    (λ y h. ⊎-elim (λ q. subst (λ (x : ℕ). x < a .n) (sym q) (e .pre .runtimes)) (λ q. roots-in (a .n) (a .entry .now) (e .pre .entries) y q) (List·Memᴰ·cases-cons h))
+    (λ y h. ⊎-elim (λ q. subst (λ (x : ℕ). x < a .n) (sym q) (e .pre .runtimes)) (λ q. below-mem (a .entry .now) (e .pre .entries) q) (List·Memᴰ·cases-cons h))
     (listed (a .paths .now) (a .lengths .now) 0 0)
     {t = held (v .last .1 .1 .1 .0) (v .last .1 .1 .1 .1 .0) 0 (v .last .1 .1 .1 .1 .1 .0) (v .last .1 .1 .1 .1 .1 .1 .0) (v .result .count) (v .result .used)}
     (subst (λ (z : List ℕ). Searches (ledBy (a .starts .now) (a .led .now)) write (record { states = z; begun = []; made = listed (a .paths .now) (a .lengths .now) 0 0 }) (a .runtime ∷ a .entry .now) (held (v .last .1 .1 .1 .0) (v .last .1 .1 .1 .1 .0) 0 (v .last .1 .1 .1 .1 .1 .0) (v .last .1 .1 .1 .1 .1 .1 .0) (v .result .count) (v .result .used)))
-    (zeroed (a .n) moduleLimit (e .pre .leads .few)) (v .ensures))
+    (take-zeros (a .n) moduleLimit (e .pre .leads .few)) (v .ensures))
 
 pub search-circles-spec : {M : Type 1} → statement M
 search-circles-spec =

@@ -3,12 +3,12 @@
 -- Assumes nothing.
 use mathlib.Core.Path.{_≡_, refl, sym, ap, subst, _∙_}
 use mathlib.Core.Logic.{⊎-elim}
-use mathlib.Core.Bool.{true, false}
-use mathlib.Core.List.{List, [], _∷_, flatMap}
-use Prim.Native.Nat.{ℕ, suc, _+_, _-_, _*_, _≤_, _<_}
+use mathlib.Core.Bool.{true}
+use mathlib.Core.List.{flatMap}
+use Prim.Native.Nat.{ℕ, _+_, _-_, _*_, _≤_, _<_}
 use native.Mathlib.Nat.{le-antisymm}
 use native.Mathlib.Omega.{arith}
-use lib.ListN.{length, getD, set, take, length-set}
+use lib.ListN.{length, getD, set, length-set}
 use lib.Seq.{length-take-le}
 use mir.Syntax.{w64}
 use mir.Val.{Fits}
@@ -17,12 +17,13 @@ use borrow.Author.Tests.{eq-eqb, ne-eqb}
 use Rattle.lists.specs.Words.{isZero, zeros, countFrom}
 use Rattle.walk.proofs.Visits.{fresh-zero, fresh-not}
 use Rattle.tables.specs.Project.{missing}
+use Rattle.tables.specs.Refusal.{rowLimit}
 use Rattle.sort_steps.proofs.Rows.{unless-missing, unless-one}
-use Rattle.circle_search.specs.inner.Search.{Held, Searches}
-use Rattle.circle_search.proofs.Searches.{Going, going-start, going-none, going-found, going-end, done-met, open-met, new-met, met-kept, met-keeps, met-room}
+use Rattle.circle_search.specs.inner.Search.{Held}
+use Rattle.circle_search.proofs.Searches.{Going, going-start, going-none, going-found, done-met}
 use Rattle.circle_rows.specs.Rows.{ledRow}
-use Rattle.circle_visit.specs.Visit.{Listed, listed, write, ledBy, held, Leads, Room, rowLimit}
-use Rattle.circle_visit.proofs.Turns.{rows-few, closed, has-place, again, states-length, stack-length, fewer, numbered}
+use Rattle.circle_visit.specs.Visit.{Listed, write, ledBy, held, Leads, Room}
+use Rattle.circle_visit.proofs.Turns.{rows-few, closed, has-place, again, states-length, fewer, numbered}
 use borrow.Fn.Kinds.{In}
 use borrow.Fn.PlainCycle.{Measures, is, falls, and}
 use Rattle.circle_visit.proofs.core.meet.Reads as meet

@@ -6,7 +6,7 @@ use mathlib.Core.List.{List}
 use native.Mathlib.Omega.{arith}
 use native.Mathlib.Nat.{add-zero}
 use borrow.Author.Needs.{needs}
-use lib.ListN.{length, getD, drop}
+use lib.ListN.{length, drop}
 use lib.Seq.{sets}
 use Rattle.circle_visit.proofs.Paths.{sets-one, sets-none}
 use Rattle.circle_visit.proofs.places.put_all.Statement.{statement}

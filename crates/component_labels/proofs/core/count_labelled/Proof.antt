@@ -10,9 +10,9 @@ use lib.ListN.{length, getD, drop, drop-of-length-le}
 use borrow.Author.Needs.{needs}
 use borrow.Author.Tests.{eq-eqb, ne-eqb}
 use Rattle.lists.specs.Words.{keep}
+use Rattle.lists.proofs.Laws.{length-keep-in, length-keep-out}
 use Rattle.tables.specs.Project.{missing}
 use Rattle.component_labels.specs.inner.Labelling.{labelled}
-use Rattle.component_labels.proofs.Lists.{keep-in, keep-out}
 use Rattle.component_labels.proofs.core.count_labelled.Statement.{statement}
 use Rattle.component_labels.proofs.core.count_labelled.Tie as tie
 
@@ -43,7 +43,7 @@ loop-again c =
     let s = l .before .args .labels .now in
     let inside : l .loop .c < length s = c .before .before .loop-test .taken in
     let out : labelled (getD s (l .loop .c) 0) ≡ false = ap not (eq-eqb (getD s (l .loop .c) 0) missing (c .if1 .taken)) in
-    (refl, omega (arith, l .loop .inv .1), omega (arith, l .loop .inv .2, keep-out labelled s (l .loop .c) inside out))
+    (refl, omega (arith, l .loop .inv .1), omega (arith, l .loop .inv .2, length-keep-out labelled s (l .loop .c) inside out))
 
 add-count : tie.Need-add-count Inv-loop μ-loop
 add-count c = omega (arith, c .before .before .loop-test .taken, c .before .before .before .loop .inv .1, c .before .before .before .before .good)
@@ -60,7 +60,7 @@ loop-again-2 c =
     let s = l .before .args .labels .now in
     let inside : l .loop .c < length s = c .before .before .loop-test .taken in
     let here : labelled (getD s (l .loop .c) 0) ≡ true = ap not (ne-eqb (getD s (l .loop .c) 0) missing (c .if1 .left)) in
-    (refl, omega (arith, l .loop .inv .1), omega (arith, l .loop .inv .2, keep-in labelled s (l .loop .c) inside here))
+    (refl, omega (arith, l .loop .inv .1), omega (arith, l .loop .inv .2, length-keep-in labelled s (l .loop .c) inside here))
 
 returns : tie.Need-returns Inv-loop μ-loop
 returns c =

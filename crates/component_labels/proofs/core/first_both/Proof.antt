@@ -8,8 +8,8 @@ use lib.ListN.{length, getD}
 use borrow.Author.Needs.{needs}
 use Rattle.lists.specs.Words.{any, has, upTo}
 use Rattle.lists.proofs.Laws.{and-join, mark-in, mark-out, and-out}
+use Rattle.lists.proofs.Tests.{none-below}
 use Rattle.component_labels.specs.inner.Labelling.{inBoth}
-use Rattle.component_labels.proofs.Lists.{none-below}
 use Rattle.strong_connection.proofs.Firsts.{first-at, first-none}
 use Rattle.component_labels.proofs.core.first_both.Statement.{statement}
 use Rattle.component_labels.proofs.core.first_both.Tie as tie

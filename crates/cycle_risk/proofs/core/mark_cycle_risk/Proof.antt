@@ -12,7 +12,7 @@ use Rattle.tables.specs.Readings.{modules}
 use Rattle.tables.specs.Refusal.{moduleLimit}
 use Rattle.table.specs.Table.{table, read}
 use Rattle.risk_of_orders.specs.inner.Steps.{join}
-use Rattle.at_risk.specs.Entry.{inCycleRisk}
+use Rattle.at_risk.specs.Promise.{inCycleRisk}
 use Rattle.at_risk.proofs.Joined.{cycle-risk-alone}
 use borrow.Author.Needs.{needs}
 use Rattle.cycle_risk.proofs.core.mark_cycle_risk.Statement.{statement}

@@ -1,13 +1,13 @@
 -- `eligibility::core::mark_eligible` meets its contract.
 -- Assumes nothing.
-use mathlib.Core.Path.{_≡_, ap, _∙_}
+use mathlib.Core.Path.{_≡_}
 use mathlib.Core.Bool.{Bool}
-use Prim.Native.Nat.{ℕ, _-_, _≤_, _<_}
+use Prim.Native.Nat.{ℕ, _-_}
 use native.Mathlib.Omega.{arith}
 use lib.ListN.{length, length-set}
 use borrow.Author.Needs.{needs}
 use Rattle.eligibility.specs.Eligible.{isEligible}
-use Rattle.lists.proofs.Passes.{Passed, passed-start, passed-length, passed-more, passed-end}
+use Rattle.lists.proofs.Passes.{Passed, passed-length, passed-more, passed-end}
 use Rattle.eligibility.proofs.core.mark_eligible.Statement.{statement}
 use Rattle.eligibility.proofs.core.mark_eligible.Tie as tie
 use Rattle.eligibility.proofs.core.mark_eligible.Reads as reads

@@ -1,6 +1,6 @@
 -- `entries_order::core::expected_order_for_entries` meets its contract: visits of the entries over zeroed marks.
 -- Assumes nothing.
-use mathlib.Core.Path.{_≡_, refl, sym, ap, subst, _∙_}
+use mathlib.Core.Path.{_≡_, sym, ap, subst, _∙_}
 use mathlib.Core.List.{List, _++_}
 use Prim.Native.Nat.{ℕ, _+_, _-_, _≤_}
 use native.Mathlib.Omega.{arith}
@@ -15,7 +15,7 @@ use Rattle.tables.specs.Lookups.{FirstRows}
 use Rattle.tables.specs.Readings.{flagged}
 use Rattle.tables.specs.Refusal.{moduleLimit}
 use Rattle.expected_visit.specs.Visit.{Fit, held}
-use Rattle.expected_order.specs.Expected.{importsOf}
+use Rattle.expected_order.specs.Expected.{normalImportsOf}
 use Rattle.entries_order.specs.Entries.{isWalked}
 use Rattle.entries_order.proofs.Turns.{entries-written}
 use Rattle.entries_order.proofs.core.expected_order_for_entries.Statement.{statement}
@@ -123,7 +123,7 @@ returns c =
     let listed : ℕ = v .visit-entries .result in
     entries-written (a .normal .now) (a .included .now) (a .record-module .now) (a .record-kind .now) (a .record-target .now) (a .entries .now) (a .order .now) marks order listed
     (e .pre .1 .1)
-    (subst (λ (x : List ℕ). Visits (importsOf (a .normal .now) (a .record-module .now) (a .record-kind .now) (a .record-target .now)) everywhere (place (flagged (a .included .now))) (held x (a .order .now) 0) (keep (isWalked (a .normal .now) (a .included .now)) (a .entries .now)) (held marks order listed)) (zeroed k) (v .visit-entries .ensures))
+    (subst (λ (x : List ℕ). Visits (normalImportsOf (a .normal .now) (a .record-module .now) (a .record-kind .now) (a .record-target .now)) everywhere (place (flagged (a .included .now))) (held x (a .order .now) 0) (keep (isWalked (a .normal .now) (a .included .now)) (a .entries .now)) (held marks order listed)) (zeroed k) (v .visit-entries .ensures))
 
 pub expected-order-for-entries-spec : {M : Type 1} → statement M
 expected-order-for-entries-spec =

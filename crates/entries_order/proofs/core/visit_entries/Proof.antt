@@ -1,6 +1,6 @@
 -- `entries_order::core::visit_entries` meets its contract. Between the entries, the visits so far lead from the state at entry to the slices (`Going`).
 -- Assumes nothing.
-use mathlib.Core.Path.{_≡_, refl, sym, ap, subst, _∙_}
+use mathlib.Core.Path.{_≡_, refl, sym, subst}
 use mathlib.Core.List.{List}
 use Prim.Native.Nat.{ℕ, _+_, _-_, _≤_, _<_}
 use native.Mathlib.Omega.{arith}
@@ -8,13 +8,13 @@ use lib.ListN.{length, getD}
 use borrow.Author.Needs.{needs}
 use borrow.Author.Tests.{eq-eqb, ne-eqb}
 use Rattle.lists.specs.Words.{zeros}
-use Rattle.walk.specs.Walk.{St, Placed, place, everywhere, Visits}
+use Rattle.walk.specs.Walk.{St, Placed, place, everywhere}
 use Rattle.walk.proofs.Visits.{Grown}
 use Rattle.walk.proofs.Going.{Going, going-start, going-none, going-found, going-end, visited-grown, visited-keeps, visited-room}
 use Rattle.walk.proofs.Placing.{place-count, place-length}
 use Rattle.tables.specs.Readings.{flagged}
 use Rattle.expected_visit.specs.Visit.{Fit, held}
-use Rattle.expected_order.specs.Expected.{importsOf}
+use Rattle.expected_order.specs.Expected.{normalImportsOf}
 use Rattle.entries_order.proofs.Turns.{turn, turn-excluded, turn-external, turn-walked, all-turns}
 use Rattle.entries_order.proofs.core.visit_entries.Statement.{statement}
 use Rattle.entries_order.proofs.core.visit_entries.Tie as tie
@@ -24,7 +24,7 @@ use Rattle.expected_visit.proofs.core.visit.Reads as visit-reads
 
 abbrev Inv-loop : tie.InvT-loop
 Inv-loop normal included record-module record-kind record-target starts entries marks₀ order₀ count₀ k₀ k-end marks order count k =
-    Going (importsOf normal record-module record-kind record-target) everywhere (place (flagged included)) (turn normal included entries) 0 (held marks₀ order₀ 0) k (held marks order count) × (k ≤ k-end) × (k-end ≡ length entries)
+    Going (normalImportsOf normal record-module record-kind record-target) everywhere (place (flagged included)) (turn normal included entries) 0 (held marks₀ order₀ 0) k (held marks order count) × (k ≤ k-end) × (k-end ≡ length entries)
 
 abbrev μ-loop : tie.MeasureT-loop
 μ-loop normal included record-module record-kind record-target starts entries marks₀ order₀ count₀ k₀ k-end marks order count k =
@@ -43,7 +43,7 @@ module _ (l : Loop) where
   entry = from-loop l
 
   abbrev succ : ℕ → List ℕ
-  succ = importsOf (entry .args .normal .now) (entry .args .record-module .now) (entry .args .record-kind .now) (entry .args .record-target .now)
+  succ = normalImportsOf (entry .args .normal .now) (entry .args .record-module .now) (entry .args .record-kind .now) (entry .args .record-target .now)
 
   abbrev act : Placed → ℕ → Placed
   act = place (flagged (entry .args .included .now))
@@ -90,7 +90,7 @@ module _ (i : tie.In-loop Inv-loop μ-loop) where
 loop-holds : tie.Need-loop-holds Inv-loop μ-loop
 loop-holds c = let e = c .before .before .before .before .before .before .before .before .before in
     let a = e .args in (
-      going-start (importsOf (a .normal .now) (a .record-module .now) (a .record-kind .now) (a .record-target .now)) everywhere (place (flagged (a .included .now))) (turn (a .normal .now) (a .included .now) (a .entries .now)) 0 (held (a .marks .now) (a .order .now) 0),
+      going-start (normalImportsOf (a .normal .now) (a .record-module .now) (a .record-kind .now) (a .record-target .now)) everywhere (place (flagged (a .included .now))) (turn (a .normal .now) (a .included .now) (a .entries .now)) 0 (held (a .marks .now) (a .order .now) 0),
       omega arith,
       refl,
     )

@@ -4,14 +4,13 @@ use mathlib.Core.Path.{_≡_, sym, ap, subst, _∙_}
 use mathlib.Core.List.{List}
 use Prim.Native.Nat.{ℕ, _≤_}
 use native.Mathlib.Omega.{arith}
-use lib.ListN.{length, take, drop, replicate, length-append, length-replicate}
+use lib.ListN.{length, take, drop, length-append, length-replicate}
 use lib.Seq.{length-take-le, take-at}
 use Rattle.lists.specs.Words.{keep, has}
 use Rattle.tables.specs.Project.{Project}
-use Rattle.tables.specs.Readings.{modules}
 use Rattle.tables.specs.Refusal.{moduleLimit}
 use Rattle.table.specs.Table.{table, read}
-use Rattle.actual_order.specs.Actual.{actualOf}
+use Rattle.entry_run.specs.Actual.{actualOf}
 use Rattle.risk_of_orders.specs.inner.Steps.{Order}
 use Rattle.at_risk.proofs.Listed.{room, actual-order}
 use Rattle.page_rows.specs.inner.Steps.{Listed, Members}

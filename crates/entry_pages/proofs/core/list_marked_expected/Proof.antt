@@ -1,14 +1,13 @@
 -- `entry_pages::core::list_marked_expected` meets its contract: the expected order is made in a local array.
 -- Assumes nothing.
-use mathlib.Core.Path.{_≡_, sym, ap, subst, _∙_}
+use mathlib.Core.Path.{_≡_, sym, subst, _∙_}
 use mathlib.Core.List.{List}
 use Prim.Native.Nat.{ℕ, _≤_}
 use native.Mathlib.Omega.{arith}
-use lib.ListN.{length, take, drop, replicate, length-append, length-replicate}
-use lib.Seq.{length-take-le, take-at}
+use lib.ListN.{length, take, length-replicate}
+use lib.Seq.{length-take-le}
 use Rattle.lists.specs.Words.{keep, has}
 use Rattle.tables.specs.Project.{Project}
-use Rattle.tables.specs.Readings.{modules}
 use Rattle.tables.specs.Refusal.{moduleLimit}
 use Rattle.table.specs.Table.{table, read}
 use Rattle.expected_order.specs.OfProject.{expectedOf}

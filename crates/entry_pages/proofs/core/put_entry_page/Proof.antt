@@ -1,6 +1,6 @@
 -- `entry_pages::core::put_entry_page` meets its contract: the two sensitive orders are made in local arrays.
 -- Assumes nothing.
-use mathlib.Core.Path.{_≡_, ap₂, _∙_}
+use mathlib.Core.Path.{ap₂}
 use mathlib.Core.List.{List}
 use Prim.Native.Nat.{ℕ, _≤_}
 use native.Mathlib.Omega.{arith}
@@ -11,12 +11,10 @@ use Rattle.tables.specs.Readings.{modules}
 use Rattle.tables.specs.Refusal.{moduleLimit}
 use Rattle.table.specs.Table.{table, read}
 use Rattle.expected_order.specs.OfProject.{expectedOf}
-use Rattle.actual_order.specs.Actual.{actualOf}
-use Rattle.risk_of_orders.specs.inner.Steps.{Order}
+use Rattle.entry_run.specs.Actual.{actualOf}
 use Rattle.at_risk.proofs.Listed.{expected-order, actual-order}
 use Rattle.lines.proofs.Puts.{put-as}
 use Rattle.page_text.specs.Page.{pageBy}
-use Rattle.page_text.specs.inner.Sheets.{Orders}
 use Rattle.entry_pages.specs.Marked.{markedPage}
 use Rattle.entry_pages.specs.inner.OverTable.{Keeping}
 use Rattle.entry_pages.proofs.Orders.{held-room, held-is, held-part, held-orders}

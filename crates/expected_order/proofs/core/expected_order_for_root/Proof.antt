@@ -13,7 +13,7 @@ use Rattle.walk.specs.Walk.{place, everywhere, Visits}
 use Rattle.walk.proofs.Visits.{zeros-replicate}
 use Rattle.tables.specs.Lookups.{FirstRows}
 use Rattle.tables.specs.Readings.{flagged}
-use Rattle.expected_order.specs.Expected.{importsOf}
+use Rattle.expected_order.specs.Expected.{normalImportsOf}
 use Rattle.expected_visit.specs.Visit.{Fit, held}
 use Rattle.expected_order.proofs.Entries.{external-listed, root-listed}
 use Rattle.expected_order.proofs.core.expected_order_for_root.Statement.{statement}
@@ -140,7 +140,7 @@ returns-2 c =
     (eq-eqb _ _ (r .before .before .if1 .left))
     (omega (arith, e .pre .0 .normals, e .pre .1 .1))
     (c .before .before .fill2 .ensures ∙ ap (λ (n : ℕ). replicate n 0) (v .visit .kept .1 .1 .1 .1 .1 .1 .0 ∙ k .fill .kept .0))
-    (subst (λ (x : List ℕ). Visits (importsOf (a .normal .now) (a .record-module .now) (a .record-kind .now) (a .record-target .now)) everywhere (place (flagged (a .included .now))) (held x (a .order .now) 0) (a .root ∷ []) (held marks order count)) (zeroed k) (v .visit .ensures))
+    (subst (λ (x : List ℕ). Visits (normalImportsOf (a .normal .now) (a .record-module .now) (a .record-kind .now) (a .record-target .now)) everywhere (place (flagged (a .included .now))) (held x (a .order .now) 0) (a .root ∷ []) (held marks order count)) (zeroed k) (v .visit .ensures))
 
 pub expected-order-for-root-spec : {M : Type 1} → statement M
 expected-order-for-root-spec =

@@ -1,7 +1,7 @@
 -- `import_circles::core::list_circles` meets its contract: the columns are those of the table.
 -- Assumes nothing.
-use mathlib.Core.List.{List, _∷_}
-use Prim.Native.Nat.{ℕ, _<_, _≤_}
+use mathlib.Core.List.{_∷_}
+use Prim.Native.Nat.{_<_, _≤_}
 use lib.ListN.{length}
 use Rattle.tables.specs.Project.{Project}
 use Rattle.tables.specs.Accepted.{Below}

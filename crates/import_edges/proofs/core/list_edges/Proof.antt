@@ -1,7 +1,6 @@
 -- `import_edges::core::list_edges`: over the columns of the table.
 -- Assumes nothing.
 use native.Mathlib.Omega.{arith}
-use Rattle.tables.specs.Project.{Project}
 use Rattle.table.specs.Table.{table, read}
 use borrow.Author.Needs.{needs}
 use Rattle.import_edges.proofs.core.list_edges.Statement.{statement}
@@ -11,9 +10,6 @@ use Rattle.import_edges.proofs.core.list_edges.Tie as tie
 
 abbrev entry : tie.After-column → tie.Start
 entry k = k .before .before .before .before .before .before .before .before .before .before
-
-abbrev of : tie.Start → Project
-of e = let a = e .args in read (table (a .runtime) (a .dynamic) (a .bounds .now) (a .columns .now)) (a .importers .now) (a .kinds .now) (a .targets .now) (a .dependencies .now) (a .members .now)
 
 import-edges-requires : tie.Need-import-edges-requires
 unfolding table read

@@ -1,11 +1,11 @@
 -- `lists::core::copy_to` meets its contract: the front is copied, the rest is as it was.
 -- Assumes nothing.
 use Prim.Native.Nat.{ℕ, _+_, _-_, _≤_}
-use mathlib.Core.Path.{_≡_, refl, sym, ap, _∙_}
-use mathlib.Core.List.{List, [], _∷_, _++_, append-nil}
+use mathlib.Core.Path.{_≡_, refl, ap, _∙_}
+use mathlib.Core.List.{List, _++_}
 use native.Mathlib.Omega.{arith}
-use lib.ListN.{length, getD, take, drop, replicate, set, length-set, length-replicate}
-use lib.Seq.{drop-length, take-length, length-take-le}
+use lib.ListN.{length, getD, take, drop, set, length-set}
+use lib.Seq.{take-length, length-take-le}
 use Rattle.lists.proofs.Laws.{front-more, take-more}
 use Rattle.lists.proofs.core.copy_to.Statement.{statement}
 use Rattle.lists.proofs.core.copy_to.Tie as tie

@@ -1,12 +1,10 @@
 -- `lists::core::count_marked` meets its contract: what is counted and what is left are all.
 -- Assumes nothing.
-use Prim.Native.Nat.{ℕ, _+_, _-_, _≤_, _<_}
+use Prim.Native.Nat.{_+_, _-_, _≤_, _<_}
 use native.Mathlib.Nat.{zero-add}
-use mathlib.Core.Path.{_≡_, refl, sym, ap, _∙_}
-use mathlib.Core.List.{List, [], _∷_, _++_, append-nil}
+use mathlib.Core.Path.{_≡_, ap}
 use native.Mathlib.Omega.{arith}
-use lib.ListN.{length, getD, drop-of-length-le, take, drop, replicate, set, length-set, length-replicate}
-use lib.Seq.{drop-length, take-length, length-take-le}
+use lib.ListN.{length, drop-of-length-le, drop}
 use mathlib.Core.Logic.{⊎-elim}
 use Rattle.lists.specs.Words.{ones}
 use Rattle.lists.proofs.Laws.{ones-in, ones-out}

@@ -1,11 +1,11 @@
 -- `lists::core::fill` meets its contract: the front is filled, the rest is as it was.
 -- Assumes nothing.
 use Prim.Native.Nat.{ℕ, _+_, _-_, _≤_}
-use mathlib.Core.Path.{_≡_, refl, sym, ap, _∙_}
-use mathlib.Core.List.{List, [], _∷_, _++_, append-nil}
+use mathlib.Core.Path.{_≡_, refl, ap, _∙_}
+use mathlib.Core.List.{List, _++_, append-nil}
 use native.Mathlib.Omega.{arith}
-use lib.ListN.{length, take, drop, replicate, set, length-set, length-replicate}
-use lib.Seq.{drop-length, take-length, length-take-le}
+use lib.ListN.{length, drop, replicate, set, length-set, length-replicate}
+use lib.Seq.{drop-length}
 use Rattle.lists.proofs.Laws.{front-more, replicate-more}
 use Rattle.lists.proofs.core.fill.Statement.{statement}
 use Rattle.lists.proofs.core.fill.Tie as tie

@@ -1,11 +1,10 @@
 -- `name_order::core::find_starts` meets its contract: name by name, the lines from the place at hand on are those that are left.
 -- Assumes nothing.
-use mathlib.Core.Path.{_≡_, refl, sym, ap, subst, _∙_}
-use Prim.Native.Nat.{ℕ, _+_, _-_, _≤_, _<_}
+use mathlib.Core.Path.{_≡_, refl, sym, subst, _∙_}
+use Prim.Native.Nat.{ℕ, _+_, _-_, _≤_}
 use native.Mathlib.Omega.{arith}
 use borrow.Author.Needs.{needs}
 use lib.ListN.{length, set, length-set}
-use Rattle.name_order.specs.inner.Lines.{lineAt}
 use Rattle.name_order.proofs.LinesAt.{Finding, finding-start, finding-within, finding-next, finding-end}
 use Rattle.name_order.proofs.core.find_starts.Statement.{statement}
 use Rattle.name_order.proofs.core.find_starts.Tie as tie

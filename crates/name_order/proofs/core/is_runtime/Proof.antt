@@ -1,7 +1,6 @@
 -- `name_order::core::is_runtime` meets its contract, by the first byte of the name.
 -- Assumes nothing.
-use mathlib.Core.Path.{_≡_, refl, sym, ap, _∙_}
-use Prim.Native.Nat.{ℕ}
+use mathlib.Core.Path.{sym, ap, _∙_}
 use native.Mathlib.Omega.{arith}
 use Rattle.names.specs.Names.{startByte}
 use Rattle.name_order.proofs.LinesAt.{line-inside, runtime-stop, runtime-folder, runtime-prefix}

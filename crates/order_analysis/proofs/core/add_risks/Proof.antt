@@ -1,6 +1,6 @@
 -- `order_analysis::core::add_risks` meets its contract: the risks of the roots before k are added.
 -- Assumes nothing.
-use Prim.Native.Nat.{ℕ, _-_, _≤_, _<_}
+use Prim.Native.Nat.{ℕ, _-_, _≤_}
 use mathlib.Core.Path.{_≡_, refl, sym, ap, subst, _∙_}
 use mathlib.Core.Bool.{Bool, true≢false}
 use mathlib.Core.List.{List, List·Memᴰ}
@@ -8,12 +8,12 @@ use native.Mathlib.Omega.{arith}
 use lib.ListN.{length, getD}
 use borrow.Author.Needs.{needs}
 use Rattle.lists.specs.Words.{any, has}
+use Rattle.lists.proofs.Members.{getD-mem}
 use Rattle.tables.specs.Project.{Project}
-use Rattle.tables.proofs.Accepted.{getD-mem}
 use Rattle.table.specs.Table.{table, read}
 use Rattle.analysed_entries.specs.inner.Entries.{Entry}
 use Rattle.risk_of_orders.specs.inner.Steps.{join}
-use Rattle.at_risk.specs.Entry.{riskOfEntry}
+use Rattle.at_risk.specs.Promise.{riskOfEntry}
 use Rattle.order_analysis.proofs.Adding.{root-analysed, ofFirst, roots-start, roots-put, roots-end}
 use Rattle.order_analysis.proofs.core.add_risks.Statement.{statement}
 use Rattle.order_analysis.proofs.core.add_risks.Tie as tie

@@ -1,7 +1,6 @@
 -- `order_analysis::core::analyze` meets its contract: labels, the columns that the visits read and marks are made, then the plan.
 -- Assumes nothing.
 use mathlib.Core.Path.{_≡_, sym, ap, _∙_}
-use mathlib.Core.List.{List}
 use Prim.Native.Nat.{ℕ, _≤_}
 use native.Mathlib.Omega.{arith}
 use lib.ListN.{length}

@@ -8,13 +8,13 @@ use borrow.Author.Needs.{needs}
 use Rattle.tables.specs.Project.{Project}
 use Rattle.tables.specs.Accepted.{Accepted}
 use Rattle.table.specs.Table.{table, read}
-use Rattle.arrangement.specs.OfProject.{membersRead, named}
+use Rattle.arrangement.specs.OfProject.{named}
 use Rattle.arrangement.proofs.OfProject as members
 use Rattle.lists.specs.Words.{ones}
 use Rattle.tables.specs.Readings.{modules}
 use Rattle.table.specs.Places.{Places}
 use Rattle.arrangement.proofs.OfProject.{named-accepted}
-use Rattle.order_analysis.specs.Whole.{wholePlan}
+use Rattle.order_analysis.specs.Promise.{wholePlan}
 use Rattle.order_analysis.proofs.core.analyze_named.Statement.{statement}
 use Rattle.order_analysis.proofs.core.analyze_named.Tie as tie
 

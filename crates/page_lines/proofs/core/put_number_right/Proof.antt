@@ -1,9 +1,8 @@
 -- `page_lines::core::put_number_right` meets its contract.
 -- Assumes nothing.
-use mathlib.Core.Path.{_≡_}
 use Prim.Native.Nat.{ℕ, _-_}
 use native.Mathlib.Omega.{arith}
-use lib.ListN.{length, length-replicate}
+use lib.ListN.{length-replicate}
 use Rattle.form.specs.Form.{number}
 use Rattle.lines.proofs.Puts.{put-as, put-then}
 use Rattle.page_lines.proofs.Texts.{four-digits, right-is}

@@ -8,7 +8,7 @@ use mir.Syntax.{w32}
 use mir.Val.{toZ, ofZ}
 use mir.ValLaws.{toZ-ofZ}
 use Rattle.lines.proofs.Puts.{put-as}
-use Rattle.page_lines.specs.Line.{right, signed, shiftBy}
+use Rattle.page_lines.specs.Line.{right, signed}
 use Rattle.page_lines.proofs.Places.{sub-fits, abs-sub}
 use Rattle.page_lines.proofs.Texts.{shift-unexpected, shift-absent, shift-both}
 use borrow.Author.Needs.{needs}

@@ -1,14 +1,9 @@
 -- `page_lines::core::size` meets its contract.
 -- Assumes nothing.
 use borrow.Author.Needs.{needs}
-use mathlib.Core.Path.{_≡_, _∙_, ap}
-use mathlib.Core.Bool.{true, false}
 use native.Mathlib.Omega.{arith}
-use lib.Signed.{ltZ}
 use lib.IntN.{pos, natAbs}
-use mir.Val.{SFits}
-use mir.Syntax.{w32}
-use Rattle.page_lines.proofs.Places.{small, back, turned, kept}
+use Rattle.page_lines.proofs.Places.{back, turned, kept}
 use Rattle.page_lines.proofs.core.size.Statement.{statement}
 use Rattle.page_lines.proofs.core.size.Tie as tie
 use Rattle.page_lines.proofs.core.size.Reads as reads

@@ -6,8 +6,8 @@ use native.Mathlib.Omega.{arith}
 use lib.ListN.{length, getD}
 use borrow.Author.Needs.{needs}
 use Rattle.lists.specs.Words.{has}
-use Rattle.risk_of_orders.proofs.Puts.{has-not, has-yes}
-use Rattle.page_rows.proofs.Keeping.{Kept, kept-start, kept-size, kept-few, kept-out, kept-room, kept-in, kept-end}
+use Rattle.lists.proofs.Laws.{has-not, has-yes}
+use Rattle.page_rows.proofs.Keeping.{Kept, kept-start, kept-size, kept-out, kept-room, kept-in, kept-end}
 use Rattle.page_rows.proofs.core.keep_marked.Statement.{statement}
 use Rattle.page_rows.proofs.core.keep_marked.Tie as tie
 use Rattle.page_rows.proofs.core.keep_marked.Reads as reads

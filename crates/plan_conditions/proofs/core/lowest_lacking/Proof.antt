@@ -1,7 +1,7 @@
 -- `plan_conditions::core::lowest_lacking` meets its contract: no member below m is lacking.
 -- Assumes nothing.
 use Prim.Native.Nat.{ℕ, _-_, _≤_, _<_}
-use mathlib.Core.Path.{_≡_, refl, sym, ap, _∙_}
+use mathlib.Core.Path.{_≡_, refl, sym, ap}
 use mathlib.Core.Bool.{Bool, false, not, _&&_}
 use native.Mathlib.Omega.{arith}
 use lib.ListN.{length, getD}

@@ -18,9 +18,6 @@ Inv-loop runtime dynamic bounds columns importers kinds targets dependencies mem
 abbrev μ-loop : tie.MeasureT-loop
 μ-loop runtime dynamic bounds columns importers kinds targets dependencies members labels roots sensitive eligible candidates from to heads nexts settled₀ leads₀ plan₀ more₀ settled leads plan more = zeros plan + bit more
 
-abbrev Pass : Type 0
-Pass = tie.After-close-once Inv-loop μ-loop
-
 loop-holds : tie.Need-loop-holds Inv-loop μ-loop
 loop-holds c = (refl, refl, refl, let e = c .before .before .before .before .before .before .before .before .before .before .before .before .before .before .before .before .before .before .before in record { kept = e .pre .1; spread = spread-start _ (e .args .plan .now) (e .pre .1 .marked .bits) })
 

@@ -10,9 +10,9 @@ use Rattle.tables.specs.Accepted.{Accepted}
 use Rattle.table.specs.Table.{table, read}
 use Rattle.arrangement.specs.OfProject.{named}
 use Rattle.arrangement.proofs.OfProject as members
-use Rattle.actual_order.specs.inner.Cores.{Listed}
-use Rattle.actual_order.specs.inner.OverTable.{Listing}
-use Rattle.actual_order.proofs.Named.{listing-named}
+use Rattle.entry_run.specs.inner.Cores.{Listed}
+use Rattle.entry_run.specs.inner.OverTable.{Listing}
+use Rattle.entry_run.proofs.Named.{listing-named}
 use Rattle.planned_load.specs.Steps.{plannedRun}
 use borrow.Author.Needs.{needs}
 use Rattle.planned_load.proofs.core.list_arranged.Statement.{statement}

@@ -4,7 +4,7 @@ use mathlib.Core.List.{List}
 use Prim.Native.Nat.{ℕ}
 use Rattle.tables.specs.Project.{Project}
 use Rattle.table.specs.Table.{table, read}
-use Rattle.actual_order.specs.Actual.{readAsTwo}
+use Rattle.entry_run.specs.Actual.{readAsTwo}
 use Rattle.planned_load.specs.Steps.{plannedRun}
 use borrow.Author.Needs.{needs}
 use Rattle.planned_load.proofs.core.list_planned.Statement.{statement}

@@ -8,11 +8,10 @@ use lib.ListN.{length, take, replicate}
 use lib.Seq.{length-take-le, take-at}
 use Rattle.lists.proofs.Fronts.{front-room, front-length}
 use Rattle.tables.specs.Project.{Project}
-use Rattle.tables.specs.Readings.{modules}
 use Rattle.tables.specs.Refusal.{moduleLimit}
 use Rattle.table.specs.Table.{table, read}
 use Rattle.visit_columns.specs.inner.OverTable.{PreparedAs}
-use Rattle.actual_order.specs.Actual.{readAsTwo}
+use Rattle.entry_run.specs.Actual.{readAsTwo}
 use borrow.Author.Needs.{needs}
 use Rattle.planned_load.proofs.core.prepare_planned.Statement.{statement}
 use Rattle.planned_load.proofs.core.prepare_planned.Tie as tie

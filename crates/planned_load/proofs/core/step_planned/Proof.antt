@@ -46,9 +46,6 @@ part k = length-take-le (size k) room (few (entry k))
 
 -- what is listed, and the noted hosts at the front of the array
 module _ (x : tie.After-list-arranged) where
-  abbrev count : ℕ
-  count = x .list-arranged .result
-
   abbrev order : List ℕ
   order = x .list-arranged .last .1 .1 .1 .1 .1 .1 .1 .1 .1 .1 .1 .0
 

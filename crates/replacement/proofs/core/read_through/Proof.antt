@@ -1,8 +1,8 @@
 use Prim.Native.Nat.{ℕ, _+_, _-_, _≤_}
-use mathlib.Core.Path.{_≡_, refl, sym, ap, _∙_}
+use mathlib.Core.Path.{_≡_, refl, ap, _∙_}
 use mathlib.Core.List.{List, [], _∷_, _++_, map, append-nil}
 use native.Mathlib.Omega.{arith}
-use lib.ListN.{length, getD, take, drop, set, length-set, length-map, drop-of-length-le}
+use lib.ListN.{length, take, drop, set, length-set, length-map, drop-of-length-le}
 use lib.Seq.{take-length, length-take-le}
 use Rattle.lists.proofs.Laws.{front-more}
 use borrow.Author.Needs.{needs}

@@ -1,9 +1,9 @@
 -- `request_edges::core::add_edges` meets its contract: the edges of the rows below `row` are added.
 -- Assumes nothing.
-use Prim.Native.Nat.{ℕ, _+_, _-_, _≤_, _<_}
-use mathlib.Core.Path.{_≡_, refl, sym, subst, _∙_}
+use Prim.Native.Nat.{ℕ, _-_, _≤_, _<_}
+use mathlib.Core.Path.{_≡_, refl, subst}
 use native.Mathlib.Omega.{arith}
-use lib.ListN.{length, getD}
+use lib.ListN.{length}
 use borrow.Author.Needs.{needs}
 use Rattle.request_edges.proofs.Adding.{Adding, adding-start, adding-pass, adding-put}
 use Rattle.request_edges.proofs.core.add_edges.Statement.{statement}

@@ -1,15 +1,12 @@
 -- `request_edges::core::add_to_looked` meets its contract.
 -- Assumes nothing.
-use mathlib.Core.Path.{_≡_, sym, ap, subst, _∙_}
+use mathlib.Core.Path.{sym, subst, _∙_}
 use mathlib.Core.List.{List}
 use Prim.Native.Nat.{ℕ, _≤_}
 use native.Mathlib.Omega.{arith}
 use lib.ListN.{length}
-use Rattle.tables.specs.Project.{missing}
-use Rattle.marks.specs.Steps.{looked}
-use Rattle.marks.proofs.Parts.{Lent, view, part-length, view-room, view-is, view-length}
+use Rattle.marks.proofs.Parts.{Lent, part-length, view-room, view-is, view-length}
 use Rattle.request_edges.specs.inner.Edges.{Rows, Adds}
-use borrow.Author.Needs.{needs}
 use Rattle.request_edges.proofs.core.add_to_looked.Statement.{statement}
 use Rattle.request_edges.proofs.core.add_to_looked.Tie as tie
 

@@ -1,10 +1,8 @@
 -- `request_edges::core::choose` meets its contract.
 -- Assumes nothing.
-use mathlib.Core.Path.{_≡_, refl, sym}
-use mathlib.Core.Bool.{Bool, true, false, cond, not, _&&_}
+use mathlib.Core.Path.{_≡_, refl}
 use Prim.Native.Nat.{ℕ, zero, suc}
 use native.Mathlib.Omega.{arith}
-use Rattle.lists.specs.Words.{isZero}
 use Rattle.tables.specs.Project.{missing}
 use Rattle.request_edges.specs.inner.Edges.{choice}
 use Rattle.request_edges.proofs.core.choose.Statement.{statement}

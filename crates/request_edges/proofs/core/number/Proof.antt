@@ -1,9 +1,9 @@
 -- `request_edges::core::number` meets its contract: the places below i are written.
 -- Assumes nothing.
 use Prim.Native.Nat.{ℕ, _-_}
-use mathlib.Core.Path.{_≡_, refl, sym, _∙_}
+use mathlib.Core.Path.{_≡_, refl}
 use native.Mathlib.Omega.{arith}
-use lib.ListN.{length, getD}
+use lib.ListN.{length}
 use borrow.Author.Needs.{needs}
 use Rattle.marks.proofs.Steps.{Writing, writing-start, writing-put, writing-end}
 use Rattle.request_edges.specs.inner.Edges.{numbered}

@@ -1,22 +1,19 @@
 -- `request_graph::core::add_component_edges` meets its contract.
 -- Assumes nothing.
-use mathlib.Core.Path.{_≡_, refl, sym, ap, subst, _∙_}
+use mathlib.Core.Path.{_≡_, sym, _∙_}
 use mathlib.Core.List.{List}
 use Prim.Native.Nat.{ℕ, _+_, _≤_}
 use native.Mathlib.Omega.{arith}
-use lib.ListN.{length, take}
-use Rattle.tables.specs.Project.{Project, missing}
+use lib.ListN.{length}
+use Rattle.tables.specs.Project.{missing}
 use Rattle.table.specs.Table.{table, read}
-use Rattle.table.proofs.Cut.{given1, asked1, given2, asked2, given3, given4}
+use Rattle.table.proofs.Cut.{given1, asked1}
 use Rattle.marks.specs.Steps.{looked}
 use Rattle.request_edges.specs.inner.Edges.{Rows, Adds}
-use Rattle.request_edges.proofs.Adding.{adds-on, adds-wide, adds-as}
+use Rattle.request_edges.proofs.Adding.{adds-on, adds-wide}
 use borrow.Author.Needs.{needs}
 use Rattle.request_graph.proofs.core.add_component_edges.Statement.{statement}
 use Rattle.request_graph.proofs.core.add_component_edges.Tie as tie
-
-abbrev of : tie.Start → Project
-of e = let a = e .args in read (table (a .runtime) (a .dynamic) (a .bounds .now) (a .columns .now)) (a .importers .now) (a .kinds .now) (a .targets .now) (a .dependencies .now) (a .members .now)
 
 column-requires : tie.Need-column-requires
 column-requires c κs = search needs

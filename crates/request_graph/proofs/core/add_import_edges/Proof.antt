@@ -1,14 +1,13 @@
 -- `request_graph::core::add_import_edges` meets its contract.
 -- Assumes nothing.
-use mathlib.Core.Path.{_≡_, refl, sym, ap, subst, _∙_}
+use mathlib.Core.Path.{_≡_, refl, sym, _∙_}
 use mathlib.Core.List.{List}
-use Prim.Native.Nat.{ℕ, _+_, _≤_}
+use Prim.Native.Nat.{ℕ, _≤_}
 use native.Mathlib.Omega.{arith}
-use lib.ListN.{length, take}
-use Rattle.tables.specs.Project.{Project, missing}
+use lib.ListN.{length}
+use Rattle.tables.specs.Project.{Project}
 use Rattle.table.specs.Table.{table, read}
-use Rattle.table.proofs.Cut.{given1, asked1, given2, asked2, given3, given4}
-use Rattle.marks.specs.Steps.{looked}
+use Rattle.table.proofs.Cut.{given1, asked1}
 use Rattle.request_edges.specs.inner.Edges.{Rows, Adds}
 use Rattle.request_edges.proofs.Adding.{adds-on, adds-wide, adds-as}
 use borrow.Author.Needs.{needs}

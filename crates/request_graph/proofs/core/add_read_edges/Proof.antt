@@ -1,16 +1,16 @@
 -- `request_graph::core::add_read_edges` meets its contract.
 -- Assumes nothing.
-use mathlib.Core.Path.{_≡_, refl, sym, ap, subst, _∙_}
+use mathlib.Core.Path.{_≡_, sym, ap, _∙_}
 use mathlib.Core.List.{List}
 use Prim.Native.Nat.{ℕ, _+_, _≤_}
 use native.Mathlib.Omega.{arith}
-use lib.ListN.{length, take}
+use lib.ListN.{length}
 use Rattle.tables.specs.Project.{Project, missing}
 use Rattle.table.specs.Table.{table, read}
-use Rattle.table.proofs.Cut.{given1, asked1, given2, asked2, given3, given4}
+use Rattle.table.proofs.Cut.{given1, asked1, given2, asked2, given3}
 use Rattle.marks.specs.Steps.{looked}
 use Rattle.request_edges.specs.inner.Edges.{Rows, Adds}
-use Rattle.request_edges.proofs.Adding.{adds-on, adds-wide, adds-as}
+use Rattle.request_edges.proofs.Adding.{adds-on, adds-wide}
 use borrow.Author.Needs.{needs}
 use Rattle.request_graph.proofs.core.add_read_edges.Statement.{statement}
 use Rattle.request_graph.proofs.core.add_read_edges.Tie as tie

@@ -1,20 +1,17 @@
 -- `request_graph::core::request_edges` meets its contract.
 -- Assumes nothing.
-use mathlib.Core.Path.{_≡_, refl, sym, ap, subst, _∙_}
+use mathlib.Core.Path.{_≡_, sym, ap, _∙_}
 use mathlib.Core.List.{List}
 use mathlib.Core.Logic.{_⊎_}
-use Prim.Native.Nat.{ℕ, _+_, _≤_}
+use Prim.Native.Nat.{ℕ, _≤_}
 use native.Mathlib.Omega.{arith}
-use lib.ListN.{length, take}
-use Rattle.tables.specs.Project.{Project, missing}
+use lib.ListN.{length}
+use Rattle.tables.specs.Project.{Project}
 use Rattle.table.specs.Table.{table, read}
-use Rattle.table.proofs.Cut.{given1, asked1, given2, asked2, given3, given4}
-use Rattle.marks.specs.Steps.{looked}
-use Rattle.request_edges.specs.inner.Edges.{Rows, Adds}
-use Rattle.request_edges.proofs.Adding.{adds-on, adds-wide, adds-as}
+use Rattle.table.proofs.Cut.{given1, given2, given4}
+use Rattle.request_edges.specs.inner.Edges.{Adds}
+use Rattle.request_edges.proofs.Adding.{adds-on, adds-wide}
 use borrow.Author.Needs.{needs}
-use lib.Seq.{take-append-le}
-use lib.ListN.{drop, replicate, length-append}
 use Rattle.lists.proofs.Laws.{length-marksOf}
 use Rattle.sensitivity.proofs.Marks.{length-grounds}
 use Rattle.eligibility.specs.Eligible.{eligible}

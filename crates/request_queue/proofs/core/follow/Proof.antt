@@ -3,7 +3,6 @@
 use Prim.Native.Nat.{_-_}
 use native.Mathlib.Omega.{arith}
 use lib.ListN.{length, getD}
-use mathlib.Core.Path.{_≡_, sym, subst, _∙_}
 use borrow.Author.Needs.{needs}
 use Rattle.request_queue.proofs.Reaching.{Following, following-start, following-next, following-end}
 use Rattle.request_queue.proofs.core.follow.Statement.{statement}

@@ -2,10 +2,9 @@
 -- Assumes nothing.
 use Prim.Native.Nat.{ℕ, _-_, _<_}
 use native.Mathlib.Omega.{arith}
-use lib.ListN.{length, getD}
-use mathlib.Core.Path.{_≡_, sym, subst, _∙_}
+use lib.ListN.{length}
+use mathlib.Core.Path.{sym, subst}
 use mathlib.Core.List.{List}
-use borrow.Author.Needs.{needs}
 use Rattle.strong_connection.specs.inner.Graph.{Linked}
 use Rattle.request_queue.specs.inner.Growing.{Listed, Followed, Along}
 use Rattle.request_queue.proofs.Growing.{count-fits}

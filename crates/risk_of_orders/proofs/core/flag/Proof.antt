@@ -7,10 +7,11 @@ use native.Mathlib.Omega.{arith}
 use lib.ListN.{length, getD, set}
 use lib.Dec.{eqb}
 use Rattle.lists.specs.Words.{has}
+use Rattle.lists.proofs.Laws.{has-not, has-yes, getD-in}
 use Rattle.tables.specs.Project.{missing}
 use Rattle.risk_of_orders.specs.inner.Blame.{blamed}
 use Rattle.risk_of_orders.specs.inner.Steps.{join, puts}
-use Rattle.risk_of_orders.proofs.Puts.{has-not, has-yes, has-past, row-there, blamed-self, blamed-host, puts-one, puts-none}
+use Rattle.risk_of_orders.proofs.Puts.{has-past, blamed-self, blamed-host, puts-one, puts-none}
 use Rattle.risk_of_orders.proofs.Joins.{join-set, join-none, join-cong}
 use borrow.Author.Needs.{needs}
 use Rattle.risk_of_orders.proofs.core.flag.Statement.{statement}
@@ -31,7 +32,7 @@ noted e = getD (e .args .hosts .now) (e .args .m) 0
 host-blamed : (e : Start) → getD (e .args .eligible .now) (e .args .m) 0 ≡ 0 → whom e ≡ noted e
 host-blamed e z =
     let a = e .args in
-    blamed-host (a .eligible .now) (a .hosts .now) (a .m) (has-not (a .eligible .now) (a .m) z) ∙ row-there (a .hosts .now) (a .m) missing (omega (arith, e .pre .0 .0, e .pre .1))
+    blamed-host (a .eligible .now) (a .hosts .now) (a .m) (has-not (a .eligible .now) (a .m) z) ∙ getD-in (a .hosts .now) (a .m) missing 0 (omega (arith, e .pre .0 .0, e .pre .1))
 
 -- whom the module blames is eligible, or isn't
 changed : (e : Start) (b : ℕ) → whom e ≡ b → b < length (e .args .out .now) → has (e .args .eligible .now) b ≡ true

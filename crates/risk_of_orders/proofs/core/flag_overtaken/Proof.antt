@@ -10,11 +10,11 @@ use lib.Dec.{ltb}
 use borrow.Author.Needs.{needs}
 use borrow.Author.Tests.{lt-ltb, le-ltb}
 use Rattle.lists.specs.Words.{keep, has}
+use Rattle.lists.proofs.Laws.{has-not, has-yes}
 use Rattle.tables.specs.Lookups.{greaterOf}
 use Rattle.risk_of_orders.specs.Risk.{before}
 use Rattle.risk_of_orders.specs.inner.Early.{highest}
 use Rattle.risk_of_orders.specs.inner.Steps.{puts, overtaken}
-use Rattle.risk_of_orders.proofs.Puts.{has-not, has-yes}
 use Rattle.risk_of_orders.proofs.Running.{keep-out, highest-in, overtaken-at}
 use Rattle.risk_of_orders.proofs.Joins.{Added, added-start, added-length, added-more, added-skip, added-end}
 use Rattle.risk_of_orders.proofs.core.flag_overtaken.Statement.{statement}

@@ -7,8 +7,8 @@ use native.Mathlib.Omega.{arith}
 use lib.ListN.{length, getD}
 use borrow.Author.Needs.{needs}
 use Rattle.lists.specs.Words.{has}
+use Rattle.lists.proofs.Laws.{has-not, has-yes}
 use Rattle.risk_of_orders.specs.inner.Steps.{puts, unmet}
-use Rattle.risk_of_orders.proofs.Puts.{has-not, has-yes}
 use Rattle.risk_of_orders.proofs.Joins.{Added, added-start, added-length, added-more, added-skip, added-end}
 use Rattle.risk_of_orders.proofs.core.flag_unmet.Statement.{statement}
 use Rattle.risk_of_orders.proofs.core.flag_unmet.Tie as tie

@@ -8,7 +8,7 @@ use lib.ListN.{length, getD}
 use lib.Dec.{eqb}
 use borrow.Author.Needs.{needs}
 use Rattle.lists.specs.Words.{has}
-use Rattle.risk_of_orders.proofs.Puts.{has-not, has-yes}
+use Rattle.lists.proofs.Laws.{has-not, has-yes}
 use Rattle.risk_of_orders.proofs.Joins.{Added, added-start, added-length, added-more, added-skip, added-end, join-set}
 use Rattle.risk_of_orders.proofs.core.mark_listed.Statement.{statement}
 use Rattle.risk_of_orders.proofs.core.mark_listed.Tie as tie

@@ -7,7 +7,7 @@ use native.Mathlib.Omega.{arith}
 use lib.ListN.{length, getD}
 use borrow.Author.Needs.{needs}
 use Rattle.lists.specs.Words.{has}
-use Rattle.risk_of_orders.proofs.Puts.{has-not, has-yes}
+use Rattle.lists.proofs.Laws.{has-not, has-yes}
 use Rattle.risk_of_orders.proofs.Places.{Placed, placed-start, placed-few, placed-out, placed-in, placed-end}
 use Rattle.risk_of_orders.proofs.core.place_sensitive.Statement.{statement}
 use Rattle.risk_of_orders.proofs.core.place_sensitive.Tie as tie

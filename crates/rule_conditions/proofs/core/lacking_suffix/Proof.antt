@@ -1,10 +1,9 @@
 -- `rule_conditions::core::lacking_suffix` meets its contract: what the rule adds to a copy is what the plan lacks.
 -- Assumes nothing.
 use Prim.Native.Nat.{ℕ}
-use mathlib.Core.Path.{_≡_, sym, subst, _∙_}
+use mathlib.Core.Path.{_≡_, sym, _∙_}
 use mathlib.Core.List.{List}
 use native.Mathlib.Omega.{arith}
-use lib.ListN.{length}
 use borrow.Author.Needs.{needs}
 use Rattle.tables.specs.Project.{Project}
 use Rattle.table.specs.Table.{table, read}

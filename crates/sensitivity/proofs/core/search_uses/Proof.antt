@@ -1,16 +1,15 @@
 -- `sensitivity::core::search_uses` meets its contract: what is left of the statements decides, and of a statement's uses none that was passed wakes.
 -- Assumes nothing.
-use mathlib.Core.Path.{_≡_, refl, sym, ap, _∙_}
+use mathlib.Core.Path.{_≡_, refl, sym, _∙_}
 use mathlib.Core.Logic.{⊎-elim}
-use mathlib.Core.Bool.{Bool, true, false, cond, _&&_}
-use mathlib.Core.List.{List}
+use mathlib.Core.Bool.{Bool, false}
 use Prim.Native.Nat.{ℕ, _+_, _-_, _≤_, _<_}
 use native.Mathlib.Omega.{arith}
 use lib.ListN.{length, getD}
 use borrow.Author.Needs.{needs}
 use borrow.Author.Tests.{eq-eqb, ne-eqb}
 use Rattle.lists.specs.Words.{any, countFrom}
-use Rattle.tables.specs.Readings.{flagged, valuesOf}
+use Rattle.tables.specs.Readings.{valuesOf}
 use Rattle.tables.specs.Threads.{NextRow}
 use Rattle.tables.proofs.Threads.{Searching, searching-start, searching-next, searching-found, searching-end}
 use Rattle.sensitivity.specs.Marks.{wakes, statementWakes}

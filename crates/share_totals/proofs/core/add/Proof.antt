@@ -1,6 +1,5 @@
 -- `share_totals::core::add` meets its contract.
 -- Assumes nothing.
-use mathlib.Core.Path.{_≡_}
 use native.Mathlib.Omega.{arith}
 use borrow.Author.Needs.{needs}
 use Rattle.share_totals.specs.declared.Outcome.the-variants.{Share}

@@ -1,21 +1,16 @@
 -- `suffix_places::core::lower_entries` meets its contract: the roots before k are looked at.
 -- Assumes nothing.
-use mathlib.Core.Path.{_≡_, refl, sym, ap, subst, _∙_}
-use mathlib.Core.Logic.{inl, inr, ⊎-elim}
-use mathlib.Core.Bool.{Bool, true, false, true≢false}
-use mathlib.Core.List.{List}
-use Prim.Native.Nat.{ℕ, _+_, _-_, _≤_, _<_}
+use mathlib.Core.Path.{_≡_, refl, sym, subst, _∙_}
+use Prim.Native.Nat.{ℕ, _-_, _≤_, _<_}
 use native.Mathlib.Omega.{arith}
-use lib.ListN.{length, getD, take, drop, length-replicate}
+use lib.ListN.{length, getD}
 use borrow.Author.Needs.{needs}
-use Rattle.lists.specs.Words.{has}
-use Rattle.lists.proofs.Laws.{mark-in, mark-out, not-true, not-false}
-use Rattle.suffix_places.specs.inner.Places.{never, Earlier, Small, Lowered, LoweredEntry, LowestBelow}
-use Rattle.suffix_places.proofs.Lowering.{Lowering, lowering-start, lowering-pass, lowering-put, lowering-end, ListedBelow, listed-more, listed-all, lowest-start, lowest-skip, lowest-open, lowest-settled}
+use Rattle.lists.proofs.Laws.{mark-in, not-false}
+use Rattle.suffix_places.specs.inner.Places.{Small, LowestBelow}
+use Rattle.suffix_places.proofs.Lowering.{lowest-start, lowest-skip, lowest-open, lowest-settled}
 use Rattle.tables.specs.Project.{Project}
 use Rattle.table.specs.Table.{table, read}
 use Rattle.suffix_rule.specs.inner.Suffix.{Markings}
-use Rattle.expected_order.specs.OfProject.{expectedOf}
 use Rattle.suffix_places.proofs.core.lower_entries.Statement.{statement}
 use Rattle.suffix_places.proofs.core.lower_entries.Tie as tie
 
@@ -37,13 +32,6 @@ of e = let a = e .args in read (table (a .runtime) (a .dynamic) (a .bounds .now)
 
 abbrev entry : Loop → Start
 entry l = l .before .before .before .before .before .before .before .before .before .before .before .before .before .before
-
--- a root's order was looked at
-abbrev Turn : Type 0
-Turn = tie.After-lower-entry Inv-loop μ-loop
-
-abbrev head : Turn → Loop
-head t = t .before .before .before .before .before .before
 
 few : (l : Loop) → l .loop .k < length (entry l .args .roots .now) → l .loop .k < length (l .loop .settled)
 few l t = omega (arith, t, l .loop .inv .2 .size)

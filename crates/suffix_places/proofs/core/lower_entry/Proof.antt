@@ -1,25 +1,20 @@
 -- `suffix_places::core::lower_entry` meets its contract: the expected order is made, then looked at.
 -- Assumes nothing.
-use mathlib.Core.Path.{_≡_, refl, sym, ap, subst, _∙_}
-use mathlib.Core.Logic.{inl, inr, ⊎-elim}
-use mathlib.Core.Bool.{Bool, true, false, true≢false}
+use mathlib.Core.Path.{_≡_, sym, ap, subst, _∙_}
 use mathlib.Core.List.{List}
-use Prim.Native.Nat.{ℕ, _+_, _-_, _≤_, _<_}
+use Prim.Native.Nat.{ℕ, _≤_, _<_}
 use native.Mathlib.Omega.{arith}
 use lib.ListN.{length, getD, take, drop, length-replicate}
 use borrow.Author.Needs.{needs}
-use Rattle.lists.specs.Words.{has}
-use Rattle.lists.proofs.Laws.{mark-in, mark-out, not-true, not-false}
-use Rattle.suffix_places.specs.inner.Places.{never, Earlier, Small, Lowered, LoweredEntry, LowestBelow}
-use Rattle.suffix_places.proofs.Lowering.{Lowering, lowering-start, lowering-pass, lowering-put, lowering-end, ListedBelow, listed-more, listed-all, lowest-start, lowest-skip, lowest-open, lowest-settled}
+use Rattle.lists.proofs.Members.{getD-mem}
+use Rattle.suffix_places.specs.inner.Places.{Lowered}
 use lib.Seq.{take-at}
 use Rattle.tables.specs.Project.{Project}
-use Rattle.tables.proofs.Accepted.{getD-mem}
 use Rattle.table.specs.Table.{table, read}
 use Rattle.expected_order.specs.OfProject.{expectedOf}
 use Rattle.expected_order.proofs.Laws.{expected-in, expected-length}
 use Rattle.marks.proofs.Parts.{part-length}
-use Rattle.suffix_rule.specs.inner.Suffix.{AllPlanned, Markings}
+use Rattle.suffix_rule.specs.inner.Suffix.{AllPlanned}
 use Rattle.suffix_places.proofs.core.lower_entry.Statement.{statement}
 use Rattle.suffix_places.proofs.core.lower_entry.Tie as tie
 

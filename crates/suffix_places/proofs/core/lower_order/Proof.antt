@@ -1,17 +1,13 @@
 -- `suffix_places::core::lower_order` meets its contract: the members before k are looked at.
 -- Assumes nothing.
-use mathlib.Core.Path.{_≡_, refl, sym, ap, subst, _∙_}
-use mathlib.Core.Logic.{inl, inr, ⊎-elim}
-use mathlib.Core.Bool.{Bool, true, false, true≢false}
-use mathlib.Core.List.{List}
-use Prim.Native.Nat.{ℕ, _+_, _-_, _≤_, _<_}
+use mathlib.Core.Path.{_≡_, refl, sym, _∙_}
+use mathlib.Core.Bool.{true≢false}
+use Prim.Native.Nat.{_-_, _≤_, _<_}
 use native.Mathlib.Omega.{arith}
-use lib.ListN.{length, getD, take, drop, length-replicate}
+use lib.ListN.{length, getD}
 use borrow.Author.Needs.{needs}
-use Rattle.lists.specs.Words.{has}
-use Rattle.lists.proofs.Laws.{mark-in, mark-out, not-true, not-false}
-use Rattle.suffix_places.specs.inner.Places.{never, Earlier, Small, Lowered, LoweredEntry, LowestBelow}
-use Rattle.suffix_places.proofs.Lowering.{Lowering, lowering-start, lowering-pass, lowering-put, lowering-end, ListedBelow, listed-more, listed-all, lowest-start, lowest-skip, lowest-open, lowest-settled}
+use Rattle.lists.proofs.Laws.{mark-in, mark-out}
+use Rattle.suffix_places.proofs.Lowering.{Lowering, lowering-start, lowering-pass, lowering-put, lowering-end}
 use Rattle.suffix_places.proofs.core.lower_order.Statement.{statement}
 use Rattle.suffix_places.proofs.core.lower_order.Tie as tie
 

@@ -10,6 +10,7 @@ use lib.Seq.{take-length}
 use borrow.Author.Needs.{needs}
 use Rattle.lists.specs.Words.{has}
 use Rattle.lists.proofs.Laws.{not-true, not-false, mark-in}
+use Rattle.lists.proofs.Tests.{or-false}
 use Rattle.tables.specs.Project.{Project}
 use Rattle.table.specs.Table.{table, read}
 use Rattle.wrap_rules.specs.inner.Passes.{Passed}
@@ -52,10 +53,6 @@ step t =
     let a = entry l .args in
     walked-step (of (entry l)) (a .roots .now) (a .sensitive .now) (a .eligible .now) (a .plan .now) (l .loop .k) (l .loop .settled) (l .loop .plan) (l .loop .changed) (l .loop .inv .2) (t .before .before .before .before .before .before .loop-test .taken) (t .extend-entry .ensures)
 
-or-none : (b : Bool) → (b || false) ≡ b
-or-none true = refl
-or-none false = refl
-
 or-some : (b : Bool) → (b || true) ≡ true
 or-some true = refl
 or-some false = refl
@@ -96,7 +93,7 @@ loop-again-2 : tie.Need-loop-again-2 Inv-loop μ-loop
 loop-again-2 c =
     let l = c .before .before .before .before .before .before .before .before .before .before .before .before in
     let t = c .before .before .before .before .before in
-    (refl, omega (arith, c .before .before .before .before .before .before .before .before .before .before .before .loop-test .taken), subst (Done l (t .extend-entry .last .1 .1 .1 .1 .1 .1 .1 .1 .1 .1 .1 .0) (t .extend-entry .last .1 .1 .1 .1 .1 .1 .1 .1 .1 .1 .1 .1 .0)) (ap (λ (b : Bool). l .loop .changed || b) (not-true (t .extend-entry .result) (c .if2 .taken)) ∙ or-none (l .loop .changed)) (step t))
+    (refl, omega (arith, c .before .before .before .before .before .before .before .before .before .before .before .loop-test .taken), subst (Done l (t .extend-entry .last .1 .1 .1 .1 .1 .1 .1 .1 .1 .1 .1 .0) (t .extend-entry .last .1 .1 .1 .1 .1 .1 .1 .1 .1 .1 .1 .1 .0)) (ap (λ (b : Bool). l .loop .changed || b) (not-true (t .extend-entry .result) (c .if2 .taken)) ∙ or-false (l .loop .changed)) (step t))
 
 add-k-3 : tie.Need-add-k-3 Inv-loop μ-loop
 add-k-3 c = let t = c .before .before .before .before .before .before .before .before .before .before .before .loop-test .taken in let i = c .before .before .before .before .before .before .before .before .before .before .before .before .loop .inv in let g = c .before .before .before .before .before .before .before .before .before .before .before .before .before .before .before .before .before .before .before .before .before .before .before .before .before .good in search needs

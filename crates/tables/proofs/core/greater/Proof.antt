@@ -1,6 +1,5 @@
 -- `tables::core::greater` meets its contract.
 -- Assumes nothing.
-use mathlib.Core.Path.{_≡_}
 use borrow.Author.Tests.{lt-ltb, le-ltb}
 use Rattle.tables.proofs.core.greater.Statement.{statement}
 use Rattle.tables.proofs.core.greater.Tie as tie

@@ -103,10 +103,6 @@ module _ (x : tie.After-first-rows) where
   part₂ : cut 4096 end₂ list₂ ≡ made₂
   part₂ = cut-same 4096 end₂ (list₁ before₂) made₂ (omega arith) within₂ (x .first-rows .kept .1 .0)
 
-  -- a part before it stays
-  kept₂ : (c d : ℕ) → d ≤ 4096 → cut c d list₂ ≡ cut c d (list₁ before₂)
-  kept₂ = cut-before 4096 end₂ (list₁ before₂) made₂ (omega arith) within₂ (x .first-rows .kept .1 .0)
-
   front₂ : (n : ℕ) → n ≤ 4096 → take n list₂ ≡ take n (list₁ before₂)
   front₂ = front-before 4096 end₂ (list₁ before₂) made₂ (omega arith) within₂ (x .first-rows .kept .1 .0)
 

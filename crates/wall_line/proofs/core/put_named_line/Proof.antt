@@ -11,10 +11,10 @@ use Rattle.table.specs.Table.{table, read}
 use Rattle.arrangement.specs.OfProject.{named}
 use Rattle.arrangement.proofs.OfProject as members
 use Rattle.arrangement.proofs.OfProject.{named-accepted}
-use Rattle.actual_order.proofs.Named.{entry-named}
+use Rattle.entry_run.proofs.Named.{entry-named}
 use Rattle.analysed_entries.specs.inner.Entries.{Entry}
 use Rattle.lines.specs.Lines.{PutAt}
-use Rattle.wall_line.specs.Wall.{pageLineOf}
+use Rattle.wall_line.specs.Promise.{pageLineOf}
 use Rattle.wall_line.proofs.core.put_named_line.Statement.{statement}
 use Rattle.wall_line.proofs.core.put_named_line.Tie as tie
 

@@ -10,10 +10,9 @@ use Rattle.lists.proofs.Fronts.{front-room, front-length}
 use Rattle.tables.specs.Project.{Project}
 use Rattle.tables.specs.Readings.{modules}
 use Rattle.tables.specs.Refusal.{moduleLimit}
-use Rattle.tables.specs.Accepted.{Accepted}
 use Rattle.table.specs.Table.{table, read}
 use Rattle.sensitivity.specs.Marks.{sensitiveMarks}
-use Rattle.order_analysis.specs.Whole.{wholePlan}
+use Rattle.order_analysis.specs.Promise.{wholePlan}
 use Rattle.lines.proofs.Puts.{put-as}
 use Rattle.entry_pages.specs.Marked.{markedLine}
 use Rattle.wall_line.proofs.Lines.{marked-whole}

@@ -11,7 +11,7 @@ use Rattle.table.specs.Table.{table, read}
 use Rattle.arrangement.specs.OfProject.{named}
 use Rattle.arrangement.proofs.OfProject as members
 use Rattle.arrangement.proofs.OfProject.{named-accepted, named-modules}
-use Rattle.actual_order.proofs.Named.{entry-named}
+use Rattle.entry_run.proofs.Named.{entry-named}
 use Rattle.lines.specs.Lines.{PutAt}
 use Rattle.entry_pages.specs.Marked.{markedPage}
 use Rattle.entry_pages.specs.inner.OverTable.{Entering}

@@ -1,0 +1,3 @@
+-- The actual order of an entry, and its hosts.
+pub mod Actual
+pub mod inner

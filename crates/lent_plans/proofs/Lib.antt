@@ -1,0 +1,4 @@
+-- The statements, proved.
+pub mod Checked
+pub mod Late
+pub mod LateWitnesses

@@ -1,0 +1,4 @@
+-- The marked cases, proved.
+pub mod Computing
+pub mod Cases
+pub mod OfCalls

@@ -1,0 +1,1 @@
+// No code: document 01's marked cases as one table under one theorem.

@@ -1,0 +1,2 @@
+-- What judging a plan asks.
+pub mod inner

@@ -1,0 +1,4 @@
+-- The statements, proved.
+pub mod Witnesses
+pub mod Needed
+pub mod LoadNeeded

@@ -1,0 +1,43 @@
+// Share of a project, over the columns of a list of records.
+ghost use mathlib.Core.Path.{_≡_};
+ghost use mathlib.Core.List.{List};
+ghost use Rattle.arrangement.specs.OfProject.{lentNamedWith};
+ghost use Rattle.shares.specs.Promise.{WrittenShare};
+ghost use Rattle.record_columns.specs.declared.Record.{Record};
+ghost use Rattle.record_columns.specs.Rows.{columnsOf, importerColumn, kindColumn, targetColumn};
+use record_columns::core::Columns;
+use shares::write_share_with_records;
+use table::ROW_LIMIT;
+use tables::Answer;
+
+// The records are refused if they are over their limit.
+pub fn share_columns<'a>(
+    runtime: u32,
+    dynamic: u32,
+    bounds: &'a [u32],
+    columns: &'a [u32],
+    names: &'a [u8],
+    made: Columns,
+    out: &mut [u32],
+) -> Answer
+    ensures { λ r. ⌜ ((records : List Record) → made ≡ columnsOf records → WrittenShare (lentNamedWith runtime dynamic (now (bounds .entry)) (now (columns .entry)) (now (names .entry)) (importerColumn records) (kindColumn records) (targetColumn records)) (now (out .entry)) r (now (out .exit))) ⌝ }
+{
+    let rows = made.rows;
+    if ROW_LIMIT < rows {
+        return Answer::Refused(1);
+    }
+    let importers = made.importers;
+    let kinds = made.kinds;
+    let targets = made.targets;
+    write_share_with_records(
+        runtime,
+        dynamic,
+        bounds,
+        columns,
+        names,
+        &importers[..rows],
+        &kinds[..rows],
+        &targets[..rows],
+        out,
+    )
+}

@@ -1,0 +1,49 @@
+// All steps of a tried load, over the columns of a list of records.
+ghost use mathlib.Core.Path.{_≡_};
+ghost use mathlib.Core.List.{List};
+ghost use Rattle.arrangement.specs.OfProject.{lentNamedWith};
+ghost use Rattle.load_trial.specs.Promise.{LoadRun};
+ghost use Rattle.record_columns.specs.declared.Record.{Record};
+ghost use Rattle.record_columns.specs.Rows.{columnsOf, importerColumn, kindColumn, targetColumn};
+use load_trial::load_run_with_records;
+use record_columns::core::Columns;
+use table::ROW_LIMIT;
+use tables::Answer;
+
+// The records are refused if they are over their limit.
+pub fn load_run_columns<'a>(
+    runtime: u32,
+    dynamic: u32,
+    bounds: &'a [u32],
+    columns: &'a [u32],
+    names: &'a [u8],
+    made: Columns,
+    root: u32,
+    plan: &'a [u32],
+    steps: &mut [u32],
+    hosts: &mut [u32],
+) -> Answer
+    ensures { λ r. ⌜ ((records : List Record) → made ≡ columnsOf records → LoadRun (lentNamedWith runtime dynamic (now (bounds .entry)) (now (columns .entry)) (now (names .entry)) (importerColumn records) (kindColumn records) (targetColumn records)) root (now (plan .entry)) (now (steps .entry)) (now (hosts .entry)) r (now (steps .exit)) (now (hosts .exit))) ⌝ }
+{
+    let rows = made.rows;
+    if ROW_LIMIT < rows {
+        return Answer::Refused(1);
+    }
+    let importers = made.importers;
+    let kinds = made.kinds;
+    let targets = made.targets;
+    load_run_with_records(
+        runtime,
+        dynamic,
+        bounds,
+        columns,
+        names,
+        &importers[..rows],
+        &kinds[..rows],
+        &targets[..rows],
+        root,
+        plan,
+        steps,
+        hosts,
+    )
+}

@@ -1,0 +1,1 @@
+// No code: the walk by hand that proves every record form.

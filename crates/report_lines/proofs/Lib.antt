@@ -1,0 +1,2 @@
+-- The report over no name.
+pub mod Reports

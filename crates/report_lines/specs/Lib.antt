@@ -1,0 +1,2 @@
+-- The lines of a report, and the report.
+pub mod Report

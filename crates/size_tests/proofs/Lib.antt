@@ -1,0 +1,2 @@
+-- A list's size, column by column.
+mod Lengths

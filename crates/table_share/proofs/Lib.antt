@@ -1,0 +1,2 @@
+-- No more modules are planned than are eligible.
+pub mod Counts

@@ -1,0 +1,2 @@
+-- The two counts of a share.
+pub mod Counts

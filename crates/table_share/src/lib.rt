@@ -1,0 +1,2 @@
+// The share of a tested table.
+pub mod core;

@@ -1,0 +1,2 @@
+-- The worklist from seeds, shown.
+pub mod Promise

@@ -1,0 +1,2 @@
+-- What has passed before test 4 is made.
+pub mod Passed

@@ -1,0 +1,2 @@
+-- What is promised of planning by a worklist.
+pub mod Worklists

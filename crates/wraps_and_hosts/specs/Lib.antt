@@ -1,0 +1,2 @@
+-- The host of a module by the noted ones.
+pub mod Hosts
