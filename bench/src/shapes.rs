@@ -25,11 +25,12 @@ impl Shape {
 
 /// Full tables, divided by `part`: random rows, 4,096 modules, 1,024 chunks, 16,384 rows in every other list. The entries are
 /// the first modules, which reach most others, and all are analysed; the seed rows name 16 modules. Chunks import later
-/// ones only, unless `cyclic`.
+/// ones only, unless `cyclic`. No names: what arranging takes has shapes of its own.
 fn full_tables(part: usize, entries: usize, cyclic: bool) -> Project {
   let (modules, chunks, rows) = (4_096 / part, 1_024 / part, 16_384 / part);
   let sizes = Sizes { modules, chunks, entries: 0, rows, seeds: rows, exact: true };
   let mut p = generate::project(&mut Random::new(5), sizes, Profile::Deep, false);
+  p.names.clear();
   for entry in 0..entries.min(modules) {
     p[INCLUDED][entry] = 1;
     p.push(ENTRY, [entry as u32, (entry % (chunks / 4)) as u32]);

@@ -193,6 +193,29 @@ fn judge_listed<'a>(
     judge(runtime, dynamic, bounds, columns, names, &[]);
 }
 
+// Judges it, read from its argument.
+fn judge_argument<'a>(
+    runtime: u32,
+    dynamic: u32,
+    bounds: &'a [u32],
+    columns: &'a [u32],
+    names: &'a [u8],
+) {
+    let mut members = [0u32; 16386];
+    let list = read_argument(1, &mut members);
+    match list {
+        Numbers::Read(n) => judge_listed(
+            runtime,
+            dynamic,
+            bounds,
+            columns,
+            names,
+            first_of(&members, n),
+        ),
+        Numbers::Broken => judge(runtime, dynamic, bounds, columns, names, &[]),
+    }
+}
+
 // Judges it for a project that was read, with n values in its columns.
 fn judge_of<'a>(
     settings: [u32; 2],
@@ -201,39 +224,31 @@ fn judge_of<'a>(
     n: usize,
     names: &'a [u8],
 ) {
-    let mut members = [0u32; 16386];
-    let list = read_argument(1, &mut members);
-    match list {
-        Numbers::Read(count) => judge_listed(
-            settings[0],
-            settings[1],
-            bounds,
-            first_of(columns, n),
-            names,
-            first_of(&members, count),
-        ),
-        Numbers::Broken => judge(
-            settings[0],
-            settings[1],
-            bounds,
-            first_of(columns, n),
-            names,
-            &[],
-        ),
+    judge_argument(
+        settings[0],
+        settings[1],
+        bounds,
+        first_of(columns, n),
+        names,
+    );
+}
+
+// Judges it for a text.
+fn judge_text(text: &[u8]) {
+    let mut settings = [0u32; 2];
+    let mut bounds = [0u32; COLUMNS + 1];
+    let mut columns = [0u32; 32768];
+    let answer = read(text, &mut settings, &mut bounds, &mut columns);
+    match answer {
+        Reading::Refused(number) => refused(number),
+        Reading::Read(k, from, to) => {
+            judge_of(settings, &bounds, &columns, k, part_of(text, from, to))
+        }
     }
 }
 
 fn main() {
     let mut text = [0u8; 65537];
-    let mut settings = [0u32; 2];
-    let mut bounds = [0u32; COLUMNS + 1];
-    let mut columns = [0u32; 32768];
     let n = io::read_full(STDIN_FILENO, &mut text);
-    let answer = read(&text[..n], &mut settings, &mut bounds, &mut columns);
-    match answer {
-        Reading::Refused(number) => refused(number),
-        Reading::Read(k, from, to) => {
-            judge_of(settings, &bounds, &columns, k, part_of(&text, from, to))
-        }
-    }
+    judge_text(&text[..n]);
 }

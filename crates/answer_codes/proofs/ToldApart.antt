@@ -45,6 +45,7 @@ use Rattle.wrap_plan.proofs.Promise.{length-plan}
 use Rattle.sensitivity.specs.Marks.{groundsOf}
 use Rattle.sensitivity.proofs.Marks.{length-grounds}
 use Rattle.takings_from_seeds.specs.Promise.{RunOf}
+use Rattle.takings_from_seeds.proofs.Runs.{run-length}
 use Rattle.order_analysis.specs.Promise.{wholePlan}
 use Rattle.order_analysis.proofs.Promise.{length-whole}
 use Rattle.plan_conditions.specs.Form.{planFits}
@@ -54,8 +55,6 @@ use Rattle.wall_line.specs.Promise.{pageLineOf}
 use Rattle.wall_line.proofs.Lines.{line-fits}
 use Rattle.wall_page.specs.Promise.{pageWith}
 use Rattle.wall_page.proofs.Fits.{page-fits}
-use Rattle.worklist_promises.specs.Worklists.{WorklistsAreShort}
-use Rattle.worklist_promises.proofs.Worklists.{worklistsAreShort}
 use Rattle.answer_codes.specs.Calls.{Call, Sort, Circles, Expected, Entries, Actual, Labels, Reach, OrderRisk, CycleRisk, Plan, Takings, Whole, Grounds, Share, Line, Page, Arrange, Load, Refusal, readsMemberOrder, lentTo, Promise}
 use Rattle.answer_codes.specs.Exported.{coded}
 use Rattle.answer_codes.specs.ToldApart.{countLimit, numberLimit, AcceptedWith, RefusedWith, AnswersAreToldApart, BelowExactlyIfAccepted}
@@ -78,8 +77,7 @@ module _ (p : Project) where
   steps-few plan root = planned-length p plan root
 
   worklist-few : (seeds list lengths : List ℕ) → RunOf p seeds list lengths → length list ≤ modules p
-  unfolding WorklistsAreShort
-  worklist-few = worklistsAreShort p
+  worklist-few = run-length p
 
   cyclic-few : length (cyclicOf p) ≤ chunks p
   unfolding cyclicOf

@@ -204,15 +204,12 @@ fn counted<'a>(
     write_names(names);
 }
 
-// Reads the first n bytes of a text, and prints the answer.
-fn answer(case: u32, list: u32, text: &[u8], n: usize) {
+// Reads a text, and prints the answer.
+fn answer(case: u32, list: u32, text: &[u8]) {
     let mut settings = [0u32; 2];
     let mut bounds = [0u32; COLUMNS + 1];
     let mut columns = [0u32; 32768];
-    if text.len() < n {
-        return;
-    }
-    let answer = read(&text[0..n], &mut settings, &mut bounds, &mut columns);
+    let answer = read(text, &mut settings, &mut bounds, &mut columns);
     match answer {
         Reading::Refused(number) => print(b"case", &[case, list], &[number]),
         Reading::Read(k, from, to) => counted(
@@ -256,7 +253,7 @@ fn run_case(list: &[u8], at: usize) -> usize {
     let changed = number(list, case.1);
     let pieces = number(list, changed.1);
     let done = put_pieces(&mut text, list, pieces.1, pieces.0);
-    answer(case.0, changed.0, &text, done.0);
+    answer(case.0, changed.0, first_bytes(&text, done.0));
     done.1
 }
 
@@ -278,31 +275,44 @@ fn line_answer(answer: Answer) {
     }
 }
 
+// Prints what a line into this slice answers, and what stands there then.
+fn line_case(line: &mut [u8], numbers: &[u32]) {
+    line_answer(put_line(line, b"of", &[], numbers));
+    io::write_all(STDOUT_FILENO, line);
+}
+
 // A line of 8 bytes into slices of 8 and of 7.
 fn line_cases(numbers: &[u32]) {
     let mut long = [46u8; 8];
     let mut short = [46u8; 7];
-    line_answer(put_line(&mut long, b"of", &[], numbers));
-    write_first(&long, 8);
-    line_answer(put_line(&mut short, b"of", &[], numbers));
-    write_first(&short, 7);
+    line_case(&mut long, numbers);
+    line_case(&mut short, numbers);
     print(b"", &[], &[]);
+}
+
+// Prints what the members of a set into this slice answer, and what stands there then.
+fn rising_case(marks: &[u32], list: &mut [u32]) {
+    line_answer(rising(marks, list));
+    print(b"members", &[], list);
 }
 
 // The members of a set, with room and without.
 fn rising_cases(marks: &[u32]) {
     let mut list = [7u32; 4];
     let mut less = [7u32; 3];
-    line_answer(rising(marks, &mut list));
-    print(b"members", &[], &list);
-    line_answer(rising(marks, &mut less));
-    print(b"members", &[], &less);
+    rising_case(marks, &mut list);
+    rising_case(marks, &mut less);
+}
+
+// Runs the texts of the list on standard input.
+fn run_list() {
+    let mut list = [0u8; 65536];
+    let n = io::read_full(STDIN_FILENO, &mut list);
+    run_cases(&list[..n]);
 }
 
 fn main() {
-    let mut list = [0u8; 65536];
-    let n = io::read_full(STDIN_FILENO, &mut list);
-    run_cases(first_bytes(&list, n));
+    run_list();
     line_cases(&[4294967295, 10]);
     print(b"largest", &[4294967294], &[0, 9, 10, 99, 100]);
     rising_cases(&[0, 1, 0, 2]);

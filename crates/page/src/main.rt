@@ -17,8 +17,11 @@ use wall_page::entry_page;
 // Room for a line of 41 bytes for each module.
 const PAGE_BYTES: usize = 167936;
 
-// Writes the first n bytes.
-fn write_first(out: &[u8], n: usize) {
+// Writes as many bytes as were counted.
+fn write_counted(out: &[u8], answer: Answer) {
+    let Answer::Counted(n) = answer else {
+        return;
+    };
     if n <= out.len() {
         io::write_all(STDOUT_FILENO, &out[0..n]);
     }
@@ -28,10 +31,7 @@ fn write_first(out: &[u8], n: usize) {
 fn refused(number: u32) {
     let mut out = [0u8; 64];
     let answer = put_line(&mut out, b"refused", &[], &[number]);
-    let Answer::Counted(n) = answer else {
-        return;
-    };
-    write_first(&out, n);
+    write_counted(&out, answer);
 }
 
 // The first n values.
@@ -65,10 +65,7 @@ fn print_page<'a>(
         root,
         &mut page,
     );
-    let Answer::Counted(n) = answer else {
-        return;
-    };
-    write_first(&page, n);
+    write_counted(&page, answer);
 }
 
 // Prints the page of each analysed entry, in row order.
@@ -153,17 +150,22 @@ fn pages_of<'a>(
     );
 }
 
-fn main() {
-    let mut text = [0u8; 65537];
+// Prints the pages of a text.
+fn pages_of_text(text: &[u8]) {
     let mut settings = [0u32; 2];
     let mut bounds = [0u32; COLUMNS + 1];
     let mut columns = [0u32; 32768];
-    let n = io::read_full(STDIN_FILENO, &mut text);
-    let answer = read(&text[..n], &mut settings, &mut bounds, &mut columns);
+    let answer = read(text, &mut settings, &mut bounds, &mut columns);
     match answer {
         Reading::Refused(number) => refused(number),
         Reading::Read(k, from, to) => {
-            pages_of(settings, &bounds, &columns, k, part_of(&text, from, to))
+            pages_of(settings, &bounds, &columns, k, part_of(text, from, to))
         }
     }
+}
+
+fn main() {
+    let mut text = [0u8; 65537];
+    let n = io::read_full(STDIN_FILENO, &mut text);
+    pages_of_text(&text[..n]);
 }

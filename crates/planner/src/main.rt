@@ -21,8 +21,11 @@ use table::ROW_LIMIT;
 use table::column;
 use tables::Answer;
 
-// Writes the first n bytes.
-fn write_first(out: &[u8], n: usize) {
+// Writes as many bytes as were counted.
+fn write_counted(out: &[u8], answer: Answer) {
+    let Answer::Counted(n) = answer else {
+        return;
+    };
     if n <= out.len() {
         io::write_all(STDOUT_FILENO, &out[0..n]);
     }
@@ -32,10 +35,7 @@ fn write_first(out: &[u8], n: usize) {
 fn print(word: &[u8], entry: &[u32], numbers: &[u32]) {
     let mut out = [0u8; 32768];
     let answer = put_line(&mut out, word, entry, numbers);
-    let Answer::Counted(n) = answer else {
-        return;
-    };
-    write_first(&out, n);
+    write_counted(&out, answer);
 }
 
 // The first n values.
@@ -46,14 +46,27 @@ fn first_of(values: &[u32], n: usize) -> &[u32] {
     &values[0..n]
 }
 
+// Prints a line of as many values as were counted.
+fn print_counted(word: &[u8], entry: &[u32], values: &[u32], answer: Answer) {
+    let Answer::Counted(n) = answer else {
+        return;
+    };
+    print(word, entry, first_of(values, n));
+}
+
 // Prints a line of the members of a set, rising.
 fn print_members(word: &[u8], entry: &[u32], marks: &[u32]) {
     let mut members = [0u32; MODULE_LIMIT];
     let answer = rising(marks, &mut members);
-    let Answer::Counted(n) = answer else {
+    print_counted(word, entry, &members, answer);
+}
+
+// The same of a set that was written, if it was.
+fn print_written(word: &[u8], entry: &[u32], marks: &[u32], answer: Answer) {
+    let Answer::Counted(_) = answer else {
         return;
     };
-    print(word, entry, first_of(&members, n));
+    print_members(word, entry, marks);
 }
 
 // Prints each path as a line: they stand one after the other, with these lengths.
@@ -71,7 +84,17 @@ fn print_circles<'a>(paths: &'a [u32], lengths: &'a [u32]) {
     }
 }
 
-// Prints the import circles, or that there are too many of them.
+// Prints the circles that were counted, or that there are too many of them.
+fn counted_circles<'a>(paths: &'a [u32], lengths: &'a [u32], answer: Answer) {
+    match answer {
+        Answer::Refused(_) => {
+            io::write_all(STDOUT_FILENO, b"circles refused\n");
+        }
+        Answer::Counted(n) => print_circles(paths, first_of(lengths, n)),
+    }
+}
+
+// Prints the import circles.
 fn circle_lines<'a>(
     runtime: u32,
     dynamic: u32,
@@ -90,12 +113,7 @@ fn circle_lines<'a>(
         &mut paths,
         &mut lengths,
     );
-    match answer {
-        Answer::Refused(_) => {
-            io::write_all(STDOUT_FILENO, b"circles refused\n");
-        }
-        Answer::Counted(n) => print_circles(&paths, first_of(&lengths, n)),
-    }
+    counted_circles(&paths, &lengths, answer);
 }
 
 // Prints the expected order of a root.
@@ -117,10 +135,7 @@ fn expected_line<'a>(
         root,
         &mut expected,
     );
-    let Answer::Counted(n) = answer else {
-        return;
-    };
-    print(b"expected", &[root], first_of(&expected, n));
+    print_counted(b"expected", &[root], &expected, answer);
 }
 
 // Prints the order risk of an analysed entry.
@@ -134,10 +149,7 @@ fn early_line<'a>(
 ) {
     let mut marks = [0u32; MODULE_LIMIT];
     let answer = order_risk(runtime, dynamic, bounds, columns, names, root, &mut marks);
-    let Answer::Counted(_) = answer else {
-        return;
-    };
-    print_members(b"early", &[root], &marks);
+    print_written(b"early", &[root], &marks, answer);
 }
 
 // Prints the cycle risk of an analysed entry.
@@ -151,10 +163,27 @@ fn cycle_line<'a>(
 ) {
     let mut marks = [0u32; MODULE_LIMIT];
     let answer = cycle_risk(runtime, dynamic, bounds, columns, names, root, &mut marks);
-    let Answer::Counted(_) = answer else {
+    print_written(b"cycle", &[root], &marks, answer);
+}
+
+// Prints the lines of an entry whose actual order was written.
+fn analysed_lines<'a>(
+    runtime: u32,
+    dynamic: u32,
+    bounds: &'a [u32],
+    columns: &'a [u32],
+    names: &'a [u8],
+    root: u32,
+    actual: &[u32],
+    answer: Answer,
+) {
+    let Answer::Counted(n) = answer else {
         return;
     };
-    print_members(b"cycle", &[root], &marks);
+    expected_line(runtime, dynamic, bounds, columns, names, root);
+    print(b"actual", &[root], first_of(actual, n));
+    early_line(runtime, dynamic, bounds, columns, names, root);
+    cycle_line(runtime, dynamic, bounds, columns, names, root);
 }
 
 // Prints the lines of an entry. Actual order refuses an entry that isn't analysed.
@@ -178,13 +207,16 @@ fn entry_lines<'a>(
         &mut actual,
         &mut hosts,
     );
-    let Answer::Counted(n) = answer else {
-        return;
-    };
-    expected_line(runtime, dynamic, bounds, columns, names, root);
-    print(b"actual", &[root], first_of(&actual, n));
-    early_line(runtime, dynamic, bounds, columns, names, root);
-    cycle_line(runtime, dynamic, bounds, columns, names, root);
+    analysed_lines(
+        runtime,
+        dynamic,
+        bounds,
+        columns,
+        names,
+        root,
+        &actual,
+        answer,
+    );
 }
 
 // Prints the lines of each analysed entry, in row order.
@@ -240,10 +272,29 @@ fn plan_line<'a>(
 ) {
     let mut marks = [0u32; MODULE_LIMIT];
     let answer = analyze_execution_order(runtime, dynamic, bounds, columns, names, &mut marks);
-    let Answer::Counted(_) = answer else {
-        return;
-    };
-    print_members(b"plan", &[], &marks);
+    print_written(b"plan", &[], &marks, answer);
+}
+
+// Prints the lines of a project whose module order was written, or its refusal.
+fn sorted_lines<'a>(
+    runtime: u32,
+    dynamic: u32,
+    bounds: &'a [u32],
+    columns: &'a [u32],
+    names: &'a [u8],
+    sorted: &[u32],
+    answer: Answer,
+) {
+    match answer {
+        Answer::Refused(number) => print(b"refused", &[], &[number]),
+        Answer::Counted(n) => {
+            print(b"sorted", &[], first_of(sorted, n));
+            circle_lines(runtime, dynamic, bounds, columns, names);
+            entries(runtime, dynamic, bounds, columns, names);
+            ground_lines(runtime, dynamic, bounds, columns, names);
+            plan_line(runtime, dynamic, bounds, columns, names);
+        }
+    }
 }
 
 // Prints the lines of a project, or its refusal.
@@ -259,16 +310,7 @@ fn lines<'a>(runtime: u32, dynamic: u32, bounds: &'a [u32], columns: &'a [u32], 
         &mut numbers,
         &mut sorted,
     );
-    match answer {
-        Answer::Refused(number) => print(b"refused", &[], &[number]),
-        Answer::Counted(n) => {
-            print(b"sorted", &[], first_of(&sorted, n));
-            circle_lines(runtime, dynamic, bounds, columns, names);
-            entries(runtime, dynamic, bounds, columns, names);
-            ground_lines(runtime, dynamic, bounds, columns, names);
-            plan_line(runtime, dynamic, bounds, columns, names);
-        }
-    }
+    sorted_lines(runtime, dynamic, bounds, columns, names, &sorted, answer);
 }
 
 // The part of a text from one position to another.
@@ -299,17 +341,22 @@ fn lines_of<'a>(
     );
 }
 
-fn main() {
-    let mut text = [0u8; 65537];
+// Prints the lines of a text.
+fn lines_of_text(text: &[u8]) {
     let mut settings = [0u32; 2];
     let mut bounds = [0u32; COLUMNS + 1];
     let mut columns = [0u32; 32768];
-    let n = io::read_full(STDIN_FILENO, &mut text);
-    let answer = read(&text[..n], &mut settings, &mut bounds, &mut columns);
+    let answer = read(text, &mut settings, &mut bounds, &mut columns);
     match answer {
         Reading::Refused(number) => print(b"refused", &[], &[number]),
         Reading::Read(k, from, to) => {
-            lines_of(settings, &bounds, &columns, k, part_of(&text, from, to))
+            lines_of(settings, &bounds, &columns, k, part_of(text, from, to))
         }
     }
+}
+
+fn main() {
+    let mut text = [0u8; 65537];
+    let n = io::read_full(STDIN_FILENO, &mut text);
+    lines_of_text(&text[..n]);
 }

@@ -20,7 +20,7 @@ use denote.Slice.{ShrSlice, slice-vals}
 use denote.Triple.Clauses.{lasts, Lasts, atExit}
 use Rattle.record_walk.proofs.Frame.{lent, lends}
 use Rattle.record_walk.proofs.Forms.{Answers, over}
-use Rattle.record_walk.proofs.Shapes.{number, number-lawful, list, list-lawful, two-lists, two-lists-lawful, number-list, number-list-lawful, number-two-lists, number-two-lists-lawful, read-list, read-list-lawful, two-reads, two-reads-lawful, number-read-number, number-read-number-lawful, number-read-two-lists, number-read-two-lists-lawful, two-numbers-bytes, two-numbers-bytes-lawful, two-reads-number-bytes, two-reads-number-bytes-lawful}
+use Rattle.record_walk.proofs.Shapes.{number, number-lawful, list, list-lawful, two-lists, two-lists-lawful, number-list, number-list-lawful, number-two-lists, number-two-lists-lawful, read-list, read-list-lawful, read-two-lists, read-two-lists-lawful, two-reads, two-reads-lawful, number-read-number, number-read-number-lawful, number-read-two-lists, number-read-two-lists-lawful, two-numbers-bytes, two-numbers-bytes-lawful, two-reads-number-bytes, two-reads-number-bytes-lawful}
 use Rattle.record_forms.proofs.Lent.{lender, ls, shared, unsaid, shortened, all-vals, readied-at, Lends, walked, lends-by}
 
 module _ {M : Type 1} (𝓤 : URA M) (H : Heap 𝓤) (A : Atoms 𝓤) (W : Given 𝓤 H A) (at-mem : Memory → SProp 𝓤) (run : Routine → Fun 𝓤) (𝓣 : Tables 𝓤 H) (answers : Answers) (core : Name) where
@@ -64,6 +64,13 @@ module _ {M : Type 1} (𝓤 : URA M) (H : Heap 𝓤) (A : Atoms 𝓤) (W : Given
       let o = read-list answers core in
       lends-by o 𝓤 H A W at-mem run 𝓣 (λ κs qs a are. walked o 𝓤 H A W at-mem run 𝓣 κs qs (read-list-lawful 𝓤 H A W answers core) (shared a) (λ κ′. a .1 .1 .1 .1 .1 .1) P known are
       (record { at-rows = refl; at-address = refl; at-slice = refl; address-held = λ bs. refl; rows-held = λ bs. refl; shorter = λ α. id⊢ 𝓤 _; others = (tt, (tt, (tt, (tt, (tt, (tt, (tt, (tt, tt)))))))); passed-on = λ bs γ κ′. refl; lending = λ bs Γ rest post s. lends (a .1 .1 .1 .1 .1 .1 .1 .0) (ls o) bs (readied-at o κs a (bs 9)) 8 12 13 {Γ = Γ} refl refl refl refl refl refl (are .1 .1 .1 .1 .1 .1 .1 .0 .0 .1 .0) s })
+      (λ κ′ rs r. unsaid 𝓤 H A W {B = Lasts (lender o) κs a} (λ ws. sem 𝓤 H A (lasts (lender o) κs a ws)) (λ ws. P (κ′, κs .1) (a .0, (a .1 .0, (a .1 .1 .0, (a .1 .1 .1 .0, (a .1 .1 .1 .1 .0, (rs, a .1 .1 .1 .1 .1 .1)))))) r (atExit (over o) (κ′, κs .1) (a .0, (a .1 .0, (a .1 .1 .0, (a .1 .1 .1 .0, (a .1 .1 .1 .1 .0, (rs, a .1 .1 .1 .1 .1 .1)))))) ws))))
+
+  pub read-two-lists-lends : Lends (read-two-lists answers core) 𝓤 H A W at-mem run 𝓣
+  read-two-lists-lends P known =
+      let o = read-two-lists answers core in
+      lends-by o 𝓤 H A W at-mem run 𝓣 (λ κs qs a are. walked o 𝓤 H A W at-mem run 𝓣 κs qs (read-two-lists-lawful 𝓤 H A W answers core) (shared a) (λ κ′. a .1 .1 .1 .1 .1 .1) P known are
+      (record { at-rows = refl; at-address = refl; at-slice = refl; address-held = λ bs. refl; rows-held = λ bs. refl; shorter = λ α. id⊢ 𝓤 _; others = (tt, (tt, (tt, (tt, (tt, (tt, (tt, (tt, (tt, tt))))))))); passed-on = λ bs γ κ′. refl; lending = λ bs Γ rest post s. lends (a .1 .1 .1 .1 .1 .1 .1 .0) (ls o) bs (readied-at o κs a (bs 10)) 8 13 14 {Γ = Γ} refl refl refl refl refl refl (are .1 .1 .1 .1 .1 .1 .1 .0 .0 .1 .0) (lends (a .1 .1 .1 .1 .1 .1 .1 .1 .0) (ls o) bs (lent (a .1 .1 .1 .1 .1 .1 .1 .0) 13 14 (readied-at o κs a (bs 10))) 9 15 16 {Γ = Γ} refl refl refl refl refl refl (are .1 .1 .1 .1 .1 .1 .1 .1 .0 .0 .1 .0) s) })
       (λ κ′ rs r. unsaid 𝓤 H A W {B = Lasts (lender o) κs a} (λ ws. sem 𝓤 H A (lasts (lender o) κs a ws)) (λ ws. P (κ′, κs .1) (a .0, (a .1 .0, (a .1 .1 .0, (a .1 .1 .1 .0, (a .1 .1 .1 .1 .0, (rs, a .1 .1 .1 .1 .1 .1)))))) r (atExit (over o) (κ′, κs .1) (a .0, (a .1 .0, (a .1 .1 .0, (a .1 .1 .1 .0, (a .1 .1 .1 .1 .0, (rs, a .1 .1 .1 .1 .1 .1)))))) ws))))
 
   pub two-reads-lends : Lends (two-reads answers core) 𝓤 H A W at-mem run 𝓣

@@ -20,6 +20,7 @@ use record_pages::entry_page_records;
 use record_pages::page_line_records;
 use record_plans::check_records;
 use record_plans::plan_records;
+use record_plans::takings_records;
 use record_plans::worklist_records;
 use record_risks::cycle_risk_records;
 use record_risks::ground_records;
@@ -309,6 +310,31 @@ fn worklist_of<'a>(
     )
 }
 
+// The worklist from seeds, shown, of rows that are lent.
+fn takings_of<'a>(
+    runtime: u32,
+    dynamic: u32,
+    bounds: &'a [u32],
+    columns: &'a [u32],
+    names: &'a [u8],
+    rows: [Record; 2],
+    seeds: &[u32],
+    list: &mut [u32],
+    lengths: &mut [u32],
+) -> Answer {
+    takings_records(
+        runtime,
+        dynamic,
+        bounds,
+        columns,
+        names,
+        &rows,
+        seeds,
+        list,
+        lengths,
+    )
+}
+
 // A step of a tried load, of rows that are lent.
 fn load_step_of<'a>(
     runtime: u32,
@@ -589,6 +615,26 @@ fn show_worklist<'a>(bounds: &'a [u32], columns: &'a [u32], names: &'a [u8], row
     show(b"worklist", answer, plan);
 }
 
+// The worklist from module 2, and its lengths.
+fn show_takings<'a>(bounds: &'a [u32], columns: &'a [u32], names: &'a [u8], rows: [Record; 2]) {
+    let seeds = [2u32];
+    let mut list = [7u32; 4];
+    let mut lengths = [7u32; 4];
+    let answer = takings_of(
+        0,
+        0,
+        bounds,
+        columns,
+        names,
+        rows,
+        &seeds,
+        &mut list,
+        &mut lengths,
+    );
+    show(b"list", answer, list);
+    show(b"takings", answer, lengths);
+}
+
 // What is said of a plan from module 2.
 fn show_check<'a>(
     bounds: &'a [u32],
@@ -847,6 +893,7 @@ fn show_plans<'a>(bounds: &'a [u32], columns: &'a [u32], names: &'a [u8], rows: 
     show_cycle(bounds, columns, names, rows);
     show_plan(bounds, columns, names, rows);
     show_worklist(bounds, columns, names, rows);
+    show_takings(bounds, columns, names, rows);
     show_check(bounds, columns, names, rows, [0, 1, 1, 1]);
     // what rule (i) asks for lacks
     show_check(bounds, columns, names, rows, [0, 0, 1, 0]);

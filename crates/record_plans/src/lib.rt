@@ -4,9 +4,11 @@ ghost use Rattle.table.specs.Table.{lentWith};
 ghost use Rattle.record_columns.specs.Rows.{importerColumn, kindColumn, targetColumn};
 ghost use Rattle.wrap_plan.specs.Promise.{PlanFromSeeds};
 ghost use Rattle.plan_check.specs.Promise.{judgement};
+ghost use Rattle.takings_from_seeds.specs.Promise.{TakingsFromSeeds};
 
 mod check;
 mod plan;
+mod takings;
 mod worklist;
 
 use check::check_columns;
@@ -15,6 +17,7 @@ use plan_conditions::Judgement;
 use record_columns::Record;
 use record_columns::core::columns_of;
 use tables::Answer;
+use takings::takings_columns;
 use worklist::worklist_columns;
 
 // Plan from seeds.
@@ -49,6 +52,34 @@ pub fn worklist_records<'a>(
 {
     let made = columns_of(records);
     worklist_columns(runtime, dynamic, bounds, columns, names, made, seeds, marks)
+}
+
+// The worklist from seeds, shown.
+pub fn takings_records<'a>(
+    runtime: u32,
+    dynamic: u32,
+    bounds: &'a [u32],
+    columns: &'a [u32],
+    names: &'a [u8],
+    records: &'a [Record],
+    seeds: &[u32],
+    list: &mut [u32],
+    lengths: &mut [u32],
+) -> Answer
+    ensures { λ r. ⌜ TakingsFromSeeds (lentWith runtime dynamic (now (bounds .entry)) (now (columns .entry)) (now (names .entry)) (importerColumn (now (records .entry))) (kindColumn (now (records .entry))) (targetColumn (now (records .entry)))) (now (seeds .entry)) (now (list .entry)) (now (lengths .entry)) r (now (list .exit)) (now (lengths .exit)) ⌝ }
+{
+    let made = columns_of(records);
+    takings_columns(
+        runtime,
+        dynamic,
+        bounds,
+        columns,
+        names,
+        made,
+        seeds,
+        list,
+        lengths,
+    )
 }
 
 // What is said of a plan made elsewhere.

@@ -136,6 +136,26 @@ read-list answers core = record {
   args = λ κs a u. refl;
 }
 
+-- a list that is read and two lists
+abbrev pub read-two-lists : Answers → Name → Operation
+read-two-lists answers core = record {
+  answers = answers;
+  m = 3;
+  own = SliceRefOf (1 ∷ []) tt (plain (λ κs. u32)) (λ κs. tt) ∷ SliceRefMutOf (2 ∷ []) tt (plain (λ κs. u32)) (λ κs. tt) ∷ SliceRefMutOf (3 ∷ []) tt (plain (λ κs. u32)) (λ κs. tt) ∷ [];
+  spells = λ κs. (slice-vals, (slice-vals, (slice-vals, tt)));
+  tells = λ κs. (shr-slice-tells (named 1) (κs .1 .0) u32, (mut-slice-tells (named 2) (κs .1 .1 .0) u32, (mut-slice-tells (named 3) (κs .1 .1 .1 .0) u32, tt)));
+  types = sliceTy (tyRef (named 1) imm (tyInt w32)) ∷ sliceTy (tyRef (named 2) mut (tyInt w32)) ∷ sliceTy (tyRef (named 3) mut (tyInt w32)) ∷ [];
+  typed = λ κs. refl;
+  temps = tyRef erased mut (tyInt w32) ∷ sliceTy (tyRef erased mut (tyInt w32)) ∷ tyRef erased mut (tyInt w32) ∷ sliceTy (tyRef erased mut (tyInt w32)) ∷ [];
+  count = 9;
+  js = λ t. 7 ∷ (t + 1) ∷ (t + 3) ∷ [];
+  core = core;
+  lends = λ t rest. lending 8 t (t + 1) (tyInt w32) (lending 9 (t + 2) (t + 3) (tyInt w32) rest);
+  lent = λ t κs a ss. lent (a .1 .1 .0) (t + 2) (t + 3) (lent (a .1 .0) t (t + 1) ss);
+  at-k = refl;
+  args = λ κs a u. refl;
+}
+
 -- two lists that are read
 abbrev pub two-reads : Answers → Name → Operation
 two-reads answers core = record {
@@ -257,6 +277,9 @@ module _ {M : Type 1} (𝓤 : URA M) (H : Heap 𝓤) (A : Atoms 𝓤) (W : Given
   pub read-list-lawful : Lawful 𝓤 H A W (read-list answers core)
   read-list-lawful κs = (shr-slice-lawful 𝓤 H A W (named 1) (κs .1 .0) u32, (mut-slice-lawful 𝓤 H A W (named 2) (κs .1 .1 .0) u32, tt))
 
+  pub read-two-lists-lawful : Lawful 𝓤 H A W (read-two-lists answers core)
+  read-two-lists-lawful κs = (shr-slice-lawful 𝓤 H A W (named 1) (κs .1 .0) u32, (mut-slice-lawful 𝓤 H A W (named 2) (κs .1 .1 .0) u32, (mut-slice-lawful 𝓤 H A W (named 3) (κs .1 .1 .1 .0) u32, tt)))
+
   pub two-reads-lawful : Lawful 𝓤 H A W (two-reads answers core)
   two-reads-lawful κs = (shr-slice-lawful 𝓤 H A W (named 1) (κs .1 .0) u32, (shr-slice-lawful 𝓤 H A W (named 2) (κs .1 .1 .0) u32, tt))
 
@@ -297,6 +320,12 @@ module _ {M : Type 1} (𝓤 : URA M) (H : Heap 𝓤) (A : Atoms 𝓤) (W : Given
 
   pub read-list-lent : Lending 𝓤 H A W (read-list answers core)
   read-list-lent κs a are C Λ bs u Γ rest q s = let o = read-list answers core in lends (mine o κs a .1 .0) (ls o) bs (filled o κs a u) 8 10 11 {Γ = Γ} refl refl refl refl refl refl (are .1 .0 .0 .1 .0) s
+
+  pub read-two-lists-lent : Lending 𝓤 H A W (read-two-lists answers core)
+  read-two-lists-lent κs a are C Λ bs u Γ rest q s =
+      let o = read-two-lists answers core in
+      lends (mine o κs a .1 .0) (ls o) bs (filled o κs a u) 8 11 12 {Γ = Γ} refl refl refl refl refl refl (are .1 .0 .0 .1 .0)
+      (lends (mine o κs a .1 .1 .0) (ls o) bs (lent (mine o κs a .1 .0) 11 12 (filled o κs a u)) 9 13 14 {Γ = Γ} refl refl refl refl refl refl (are .1 .1 .0 .0 .1 .0) s)
 
   pub two-reads-lent : Lending 𝓤 H A W (two-reads answers core)
   two-reads-lent κs a are C Λ bs u Γ rest q s = s

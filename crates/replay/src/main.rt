@@ -30,6 +30,14 @@ struct Run {
     at: usize,
 }
 
+// How long a case's lists are, and where its settings begin.
+struct Sizes {
+    bounds: u32,
+    columns: u32,
+    names: u32,
+    at: usize,
+}
+
 // A place of an output, and where the next number may begin.
 struct Place(usize, usize);
 
@@ -391,6 +399,24 @@ fn join(marks: &mut [u32], more: &[u32]) -> u32 {
     count
 }
 
+// Joins the risk of cycles to marks that stand there.
+fn join_cycles<'a>(
+    runtime: u32,
+    dynamic: u32,
+    bounds: &'a [u32],
+    columns: &'a [u32],
+    names: &'a [u8],
+    first: &mut [u32],
+    root: u32,
+) -> Answer {
+    let mut more = [0u32; 16392];
+    let cycle = cycle_risk::cycle_risk(runtime, dynamic, bounds, columns, names, root, &mut more);
+    let Answer::Counted(_) = cycle else {
+        return cycle;
+    };
+    Answer::Counted(join(first, &more) as usize)
+}
+
 // Both kinds of risk, joined.
 fn both_risks<'a>(
     runtime: u32,
@@ -405,15 +431,73 @@ fn both_risks<'a>(
     let Answer::Counted(_) = early else {
         return early;
     };
-    let mut more = [0u32; 16392];
-    let cycle = cycle_risk::cycle_risk(runtime, dynamic, bounds, columns, names, root, &mut more);
-    let Answer::Counted(_) = cycle else {
-        return cycle;
-    };
-    Answer::Counted(join(first, &more) as usize)
+    join_cycles(runtime, dynamic, bounds, columns, names, first, root)
 }
 
-// Those with one.
+// Those with one that make a plan, or analyse all.
+fn ask_plan<'a>(
+    runtime: u32,
+    dynamic: u32,
+    bounds: &'a [u32],
+    columns: &'a [u32],
+    names: &'a [u8],
+    seeds: &'a [u32],
+    first: &mut [u32],
+    operation: u32,
+) -> Answer {
+    match operation {
+        6 => wrap_plan::plan_from_seeds(runtime, dynamic, bounds, columns, names, seeds, first),
+        16 => plan_by_worklist::plan_by_worklist(
+            runtime,
+            dynamic,
+            bounds,
+            columns,
+            names,
+            seeds,
+            first,
+        ),
+        _ => order_analysis::analyze_execution_order(
+            runtime,
+            dynamic,
+            bounds,
+            columns,
+            names,
+            first,
+        ),
+    }
+}
+
+// Those with one that write risks or grounds, and the next.
+fn ask_risk<'a>(
+    runtime: u32,
+    dynamic: u32,
+    bounds: &'a [u32],
+    columns: &'a [u32],
+    names: &'a [u8],
+    seeds: &'a [u32],
+    first: &mut [u32],
+    operation: u32,
+    argument: u32,
+) -> Answer {
+    match operation {
+        5 => both_risks(runtime, dynamic, bounds, columns, names, first, argument),
+        9 => order_risk::order_risk(runtime, dynamic, bounds, columns, names, argument, first),
+        10 => cycle_risk::cycle_risk(runtime, dynamic, bounds, columns, names, argument, first),
+        12 => grounds::grounds(runtime, dynamic, bounds, columns, names, first),
+        _ => ask_plan(
+            runtime,
+            dynamic,
+            bounds,
+            columns,
+            names,
+            seeds,
+            first,
+            operation,
+        ),
+    }
+}
+
+// Those with one: first those that write an order or labels.
 fn ask_one<'a>(
     runtime: u32,
     dynamic: u32,
@@ -436,12 +520,7 @@ fn ask_one<'a>(
             first,
         ),
         3 => chunk_cycles::labels(runtime, dynamic, bounds, columns, names, first),
-        5 => both_risks(runtime, dynamic, bounds, columns, names, first, argument),
-        6 => wrap_plan::plan_from_seeds(runtime, dynamic, bounds, columns, names, seeds, first),
-        9 => order_risk::order_risk(runtime, dynamic, bounds, columns, names, argument, first),
-        10 => cycle_risk::cycle_risk(runtime, dynamic, bounds, columns, names, argument, first),
         11 => entries_order::entries_order(runtime, dynamic, bounds, columns, names, seeds, first),
-        12 => grounds::grounds(runtime, dynamic, bounds, columns, names, first),
         15 => sort_chunk_modules::sort_chunk_modules(
             runtime,
             dynamic,
@@ -450,7 +529,7 @@ fn ask_one<'a>(
             names,
             first,
         ),
-        16 => plan_by_worklist::plan_by_worklist(
+        _ => ask_risk(
             runtime,
             dynamic,
             bounds,
@@ -458,14 +537,8 @@ fn ask_one<'a>(
             names,
             seeds,
             first,
-        ),
-        _ => order_analysis::analyze_execution_order(
-            runtime,
-            dynamic,
-            bounds,
-            columns,
-            names,
-            first,
+            operation,
+            argument,
         ),
     }
 }
@@ -691,7 +764,59 @@ fn check(text: &[u8], at: usize, output: &[u32], filler: u32) -> Place {
     Place(differs(output, &right), next)
 }
 
-// The call whose numbers are in `head`, with outputs of its lengths.
+// The call whose numbers are in `head`, with these outputs.
+fn answer_with<'a>(
+    settings: [u32; 4],
+    bounds: &'a [u32],
+    columns: &'a [u32],
+    names: &'a [u8],
+    seeds: &'a [u32],
+    first: &mut [u32],
+    second: &mut [u32],
+    head: [u32; 6],
+) -> Answer {
+    ask(
+        settings[0],
+        settings[1],
+        bounds,
+        columns,
+        names,
+        seeds,
+        first,
+        second,
+        head[0],
+        head[1],
+    )
+}
+
+// The same with a second output of its length.
+fn answer_in<'a>(
+    settings: [u32; 4],
+    bounds: &'a [u32],
+    columns: &'a [u32],
+    names: &'a [u8],
+    seeds: &'a [u32],
+    first: &mut [u32],
+    second: &mut [u32],
+    head: [u32; 6],
+) -> Answer {
+    let two = head[5] as usize;
+    if second.len() < two {
+        return Answer::Refused(0);
+    }
+    answer_with(
+        settings,
+        bounds,
+        columns,
+        names,
+        seeds,
+        first,
+        &mut second[0..two],
+        head,
+    )
+}
+
+// The same with both outputs of its lengths.
 fn answer_of<'a>(
     settings: [u32; 4],
     bounds: &'a [u32],
@@ -703,24 +828,39 @@ fn answer_of<'a>(
     head: [u32; 6],
 ) -> Answer {
     let one = head[4] as usize;
-    let two = head[5] as usize;
     if first.len() < one {
         return Answer::Refused(0);
     }
-    if second.len() < two {
-        return Answer::Refused(0);
-    }
-    ask(
-        settings[0],
-        settings[1],
+    answer_in(
+        settings,
         bounds,
         columns,
         names,
         seeds,
         &mut first[0..one],
-        &mut second[0..two],
-        head[0],
-        head[1],
+        second,
+        head,
+    )
+}
+
+// Compares what a call has given.
+fn compare(
+    text: &[u8],
+    done: Done,
+    filler: u32,
+    head: [u32; 6],
+    answer: Answer,
+    first: &[u32],
+    second: &[u32],
+) -> Done {
+    let one = check(text, done.2, first, filler);
+    let two = check(text, one.1, second, filler);
+    judged(
+        Done(done.0, done.1, two.1),
+        agrees(answer, head[2], head[3]),
+        answer,
+        one.0,
+        two.0,
     )
 }
 
@@ -748,15 +888,7 @@ fn judge<'a>(
         &mut second,
         head,
     );
-    let one = check(text, done.2, &first, filler);
-    let two = check(text, one.1, &second, filler);
-    judged(
-        Done(done.0, done.1, two.1),
-        agrees(answer, head[2], head[3]),
-        answer,
-        one.0,
-        two.0,
-    )
+    compare(text, done, filler, head, answer, &first, &second)
 }
 
 // One call: what the list asks for, and what it says of the answer.
@@ -816,16 +948,23 @@ fn calls_of<'a>(
     done
 }
 
-// Prints `ok`, or how many calls agreed.
-fn print_done(done: Done) {
-    if done.0 == done.1 {
-        print(b": ok, ", done.1);
-        io::write_all(STDOUT_FILENO, b" calls\n");
-        return;
-    }
+fn print_agreed(calls: u64) {
+    print(b": ok, ", calls);
+    io::write_all(STDOUT_FILENO, b" calls\n");
+}
+
+fn print_differs(done: Done) {
     print(b"\nDIFFERS, agree ", done.0);
     print(b" of ", done.1);
     io::write_all(STDOUT_FILENO, b"\n");
+}
+
+// Prints `ok`, or how many calls agreed.
+fn print_done(done: Done) {
+    if done.0 == done.1 {
+        return print_agreed(done.1);
+    }
+    print_differs(done)
 }
 
 // Prints the line that begins next, and says where it ends.
@@ -869,17 +1008,43 @@ fn case_on<'a>(
     done
 }
 
-// A case: its bounds, columns and names stay in these slices for the next.
-fn case(text: &[u8], at: usize, bounds: &mut [u32], columns: &mut [u32], names: &mut [u8]) -> Done {
+// Prints a case's name, and reads its bounds, columns and names over those of the case before.
+fn read_case(
+    text: &[u8],
+    at: usize,
+    bounds: &mut [u32],
+    columns: &mut [u32],
+    names: &mut [u8],
+) -> Sizes {
     let some = read_list(text, print_name(text, at), bounds);
     let all = read_list(text, some.1, columns);
     let lines = read_bytes(text, all.1, names);
+    Sizes {
+        bounds: some.0,
+        columns: all.0,
+        names: lines.0,
+        at: lines.1,
+    }
+}
+
+// A case: its bounds, columns and names stay in these slices for the next.
+fn case(text: &[u8], at: usize, bounds: &mut [u32], columns: &mut [u32], names: &mut [u8]) -> Done {
+    let sizes = read_case(text, at, bounds, columns, names);
     case_on(
         text,
-        lines.1,
-        first_of(bounds, some.0),
-        first_of(columns, all.0),
-        first_bytes(names, lines.0),
+        sizes.at,
+        first_of(bounds, sizes.bounds),
+        first_of(columns, sizes.columns),
+        first_bytes(names, sizes.names),
+    )
+}
+
+// What two cases have together, and where the second ends.
+fn together(all: Done, one: Done) -> Done {
+    Done(
+        std::num::wrapping_add_u64(all.0, one.0),
+        std::num::wrapping_add_u64(all.1, one.1),
+        one.2,
     )
 }
 
@@ -894,31 +1059,35 @@ fn cases(
     let mut all = Done(0, 0, at);
     let mut k = 0;
     while k < many {
-        let one = case(text, all.2, bounds, columns, names);
-        all = Done(
-            std::num::wrapping_add_u64(all.0, one.0),
-            std::num::wrapping_add_u64(all.1, one.1),
-            one.2,
-        );
+        all = together(all, case(text, all.2, bounds, columns, names));
         k += 1;
     }
     all
 }
 
-fn replay(text: &[u8], bounds: &mut [u32], columns: &mut [u32], names: &mut [u8]) {
-    let many = number(text, 0);
-    let all = cases(text, many.1, bounds, columns, names, many.0);
-    print(b"cases ", wide(many.0));
+// Says how many cases and calls there were, and how many calls agreed.
+fn print_all(many: u32, all: Done) {
+    print(b"cases ", wide(many));
     print(b", calls ", all.1);
     print(b", agree ", all.0);
     io::write_all(STDOUT_FILENO, b"\n");
 }
 
-fn main() {
-    let mut text = [0u8; 524288];
+fn replay(text: &[u8], bounds: &mut [u32], columns: &mut [u32], names: &mut [u8]) {
+    let many = number(text, 0);
+    print_all(many.0, cases(text, many.1, bounds, columns, names, many.0));
+}
+
+// The list's cases, with the room that they share.
+fn run_cases(text: &[u8]) {
     let mut bounds = [0u32; 64];
     let mut columns = [0u32; 131072];
     let mut names = [0u8; 266240];
+    replay(text, &mut bounds, &mut columns, &mut names);
+}
+
+fn main() {
+    let mut text = [0u8; 524288];
     let n = io::read_full(STDIN_FILENO, &mut text);
-    replay(&text[..n], &mut bounds, &mut columns, &mut names);
+    run_cases(&text[..n]);
 }

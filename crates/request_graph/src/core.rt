@@ -1,11 +1,13 @@
 // For crates above, on tested tables.
 ghost use mathlib.Core.Path.{_≡_};
+ghost use Prim.Native.Nat.{_≤_};
 ghost use lib.ListN.{length};
 ghost use Rattle.tables.specs.Project.{Project};
 ghost use Rattle.tables.specs.Readings.{modules};
+ghost use Rattle.tables.specs.Refusal.{moduleLimit, rowLimit};
 ghost use Rattle.table.specs.Table.{table, read};
 ghost use Rattle.request_edges.specs.inner.Edges.{Adds};
-ghost use Rattle.request_graph.specs.inner.Requests.{EdgeRoom, Symbols, References, ImportRows, ComponentEdge, ImportEdge, ChainEdge, ReadEdge, readersOf, Basis, Requests};
+ghost use Rattle.request_graph.specs.inner.Requests.{EdgeRoom, Room, SymbolRoom, Symbols, References, ImportRows, ComponentRows, LeadRows, ChainEdge, ReadEdge, readersOf, SymbolEdge, Basis, Requests};
 use marks::core::look_up;
 use request_edges::core::add_edges;
 use request_edges::core::add_from_looked;
@@ -51,16 +53,10 @@ pub const NODES: usize = 49152;
 pub const EDGES: usize = 155648;
 
 // Adds the edges of rule (ii): from a module to its chunk's label, and from a label to the sensitive eligible members of its chunks.
-fn add_component_edges<'a>(
-    runtime: u32,
-    dynamic: u32,
-    bounds: &'a [u32],
-    columns: &'a [u32],
-    importers: &'a [u32],
-    kinds: &'a [u32],
-    targets: &'a [u32],
-    dependencies: &'a [u32],
-    members: &'a [u32],
+fn add_component_edges(
+    chunks: &[u32],
+    member_chunks: &[u32],
+    members: &[u32],
     labels: &[u32],
     numbers: &[u32],
     asked: &[u32],
@@ -68,24 +64,14 @@ fn add_component_edges<'a>(
     to: &mut [u32],
     count: usize,
 ) -> usize
-    ghost { Project }
-    requires project { λ p. ⌜ read (table runtime dynamic (now bounds) (now columns)) (now importers) (now kinds) (now targets) (now dependencies) (now members) ≡ p ⌝ }
-    requires room { λ p. ⌜ EdgeRoom p 20480 (now from) (now to) count ⌝ }
-    requires numbers { λ p. ⌜ length (now numbers) ≡ modules p ⌝ }
-    ensures { λ p r. ⌜ Adds (ComponentEdge p (now (labels .entry)) (now (numbers .entry)) (now (asked .entry))) 20480 (now (from .entry)) (now (to .entry)) count (now (from .exit)) (now (to .exit)) r ⌝ }
+    requires chunks { ⌜ (length (now chunks) ≡ length (now numbers)) × (length (now numbers) ≤ moduleLimit) ⌝ }
+    requires members { ⌜ (length (now members) ≡ length (now «member_chunks»)) × (length (now «member_chunks») ≤ rowLimit) ⌝ }
+    requires room { ⌜ Room 20480 (now from) (now to) count ⌝ }
+    ensures { λ r. ⌜ Adds (ComponentRows (now (chunks .entry)) (now («member_chunks» .entry)) (now (members .entry)) (now (labels .entry)) (now (numbers .entry)) (now (asked .entry))) 20480 (now (from .entry)) (now (to .entry)) count (now (from .exit)) (now (to .exit)) r ⌝ }
 {
-    let own = add_to_looked(
-        numbers,
-        column(bounds, columns, CHUNK),
-        labels,
-        from,
-        to,
-        count,
-        0,
-        LABEL,
-    );
+    let own = add_to_looked(numbers, chunks, labels, from, to, count, 0, LABEL);
     add_looked(
-        column(bounds, columns, MEMBER_CHUNK),
+        member_chunks,
         labels,
         members,
         asked,
@@ -98,77 +84,49 @@ fn add_component_edges<'a>(
 }
 
 // Adds the edges of rule (iii): from a module to what leads to it by the import records, and to what depends on it.
-fn add_import_edges<'a>(
-    runtime: u32,
-    dynamic: u32,
-    bounds: &'a [u32],
-    columns: &'a [u32],
-    importers: &'a [u32],
-    kinds: &'a [u32],
-    targets: &'a [u32],
-    dependencies: &'a [u32],
-    members: &'a [u32],
-    edge_from: &[u32],
-    edge_to: &[u32],
+fn add_import_edges(
+    importers: &[u32],
+    targets: &[u32],
+    dependents: &[u32],
+    dependencies: &[u32],
     numbers: &[u32],
     from: &mut [u32],
     to: &mut [u32],
     count: usize,
 ) -> usize
-    ghost { Project }
-    requires project { λ p. ⌜ read (table runtime dynamic (now bounds) (now columns)) (now importers) (now kinds) (now targets) (now dependencies) (now members) ≡ p ⌝ }
-    requires room { λ p. ⌜ EdgeRoom p 36864 (now from) (now to) count ⌝ }
-    requires edges { λ p. ⌜ ImportRows p (now «edge_from») (now «edge_to») ⌝ }
-    requires numbers { λ p. ⌜ length (now numbers) ≡ modules p ⌝ }
-    ensures { λ p r. ⌜ Adds (ImportEdge p (now (numbers .entry))) 36864 (now (from .entry)) (now (to .entry)) count (now (from .exit)) (now (to .exit)) r ⌝ }
+    requires modules { ⌜ length (now numbers) ≤ moduleLimit ⌝ }
+    requires records { ⌜ (length (now targets) ≡ length (now importers)) × (length (now importers) ≤ rowLimit) ⌝ }
+    requires dependencies { ⌜ (length (now dependencies) ≡ length (now dependents)) × (length (now dependents) ≤ rowLimit) ⌝ }
+    requires room { ⌜ Room 36864 (now from) (now to) count ⌝ }
+    ensures { λ r. ⌜ Adds (LeadRows (now (importers .entry)) (now (targets .entry)) (now (dependents .entry)) (now (dependencies .entry)) (now (numbers .entry))) 36864 (now (from .entry)) (now (to .entry)) count (now (from .exit)) (now (to .exit)) r ⌝ }
 {
     let own = add_edges(numbers, numbers, from, to, count, 0, LEAD);
-    let led = add_edges(edge_to, edge_from, from, to, own, LEAD, LEAD);
-    add_edges(
-        dependencies,
-        column(bounds, columns, DEPENDENCY_MODULE),
-        from,
-        to,
-        led,
-        0,
-        DEPENDENT,
-    )
+    let led = add_edges(targets, importers, from, to, own, LEAD, LEAD);
+    add_edges(dependencies, dependents, from, to, led, 0, DEPENDENT)
 }
+
+// Rule (iv) reads neither the settings nor what is lent beside a table: its functions take the table alone, with 0 for both settings.
 
 // Adds the first edges of rule (iv): from a module to the chains of its symbols, and of those with a link that it owns.
 fn add_chain_edges<'a>(
-    runtime: u32,
-    dynamic: u32,
     bounds: &'a [u32],
     columns: &'a [u32],
-    importers: &'a [u32],
-    kinds: &'a [u32],
-    targets: &'a [u32],
-    dependencies: &'a [u32],
-    members: &'a [u32],
     symbols: &[u32],
     from: &mut [u32],
     to: &mut [u32],
     count: usize,
 ) -> usize
     ghost { Project }
-    requires project { λ p. ⌜ read (table runtime dynamic (now bounds) (now columns)) (now importers) (now kinds) (now targets) (now dependencies) (now members) ≡ p ⌝ }
-    requires room { λ p. ⌜ EdgeRoom p 32768 (now from) (now to) count ⌝ }
+    requires project { λ p. ⌜ table 0 0 (now bounds) (now columns) ≡ p ⌝ }
+    requires room { λ p. ⌜ SymbolRoom p 32768 (now from) (now to) count ⌝ }
     requires symbols { λ p. ⌜ Symbols p (now symbols) ⌝ }
     ensures { λ p r. ⌜ Adds (ChainEdge p (now (symbols .entry))) 32768 (now (from .entry)) (now (to .entry)) count (now (from .exit)) (now (to .exit)) r ⌝ }
 {
-    let own = add_edges(
-        column(bounds, columns, OWNER),
-        symbols,
-        from,
-        to,
-        count,
-        0,
-        CHAIN,
-    );
+    let owner = column(bounds, columns, OWNER);
+    let own = add_edges(owner, symbols, from, to, count, 0, CHAIN);
     add_from_looked(
         column(bounds, columns, CHAIN_LINK),
-        column(bounds, columns, OWNER),
+        owner,
         column(bounds, columns, CHAIN_SYMBOL),
         from,
         to,
@@ -179,21 +137,9 @@ fn add_chain_edges<'a>(
 }
 
 // Writes each reference's module, where that is a candidate that reads at the top level, else the mark.
-fn find_readers<'a>(
-    runtime: u32,
-    dynamic: u32,
-    bounds: &'a [u32],
-    columns: &'a [u32],
-    importers: &'a [u32],
-    kinds: &'a [u32],
-    targets: &'a [u32],
-    dependencies: &'a [u32],
-    members: &'a [u32],
-    candidates: &[u32],
-    readers: &mut [u32],
-)
+fn find_readers<'a>(bounds: &'a [u32], columns: &'a [u32], candidates: &[u32], readers: &mut [u32])
     ghost { Project }
-    requires project { λ p. ⌜ read (table runtime dynamic (now bounds) (now columns)) (now importers) (now kinds) (now targets) (now dependencies) (now members) ≡ p ⌝ }
+    requires project { λ p. ⌜ table 0 0 (now bounds) (now columns) ≡ p ⌝ }
     requires places { λ p. ⌜ References p (now candidates) (length (now readers)) ⌝ }
     ensures { λ p _. ⌜ now (readers .exit) ≡ readersOf p (now (candidates .entry)) ⌝ }
 {
@@ -222,23 +168,16 @@ fn find_readers<'a>(
 
 // Adds the last edges of rule (iv): from the chain of a symbol, or of its canonical, to the readers of the references that name it.
 fn add_read_edges<'a>(
-    runtime: u32,
-    dynamic: u32,
     bounds: &'a [u32],
     columns: &'a [u32],
-    importers: &'a [u32],
-    kinds: &'a [u32],
-    targets: &'a [u32],
-    dependencies: &'a [u32],
-    members: &'a [u32],
     readers: &[u32],
     from: &mut [u32],
     to: &mut [u32],
     count: usize,
 ) -> usize
     ghost { Project }
-    requires project { λ p. ⌜ read (table runtime dynamic (now bounds) (now columns)) (now importers) (now kinds) (now targets) (now dependencies) (now members) ≡ p ⌝ }
-    requires room { λ p. ⌜ EdgeRoom p 65536 (now from) (now to) count ⌝ }
+    requires project { λ p. ⌜ table 0 0 (now bounds) (now columns) ≡ p ⌝ }
+    requires room { λ p. ⌜ SymbolRoom p 65536 (now from) (now to) count ⌝ }
     requires readers { λ p. ⌜ length (now readers) ≡ length (p .referenceStatement) ⌝ }
     ensures { λ p r. ⌜ Adds (ReadEdge p (now (readers .entry))) 65536 (now (from .entry)) (now (to .entry)) count (now (from .exit)) (now (to .exit)) r ⌝ }
 {
@@ -271,6 +210,31 @@ fn add_read_edges<'a>(
     )
 }
 
+// Adds the edges of rule (iv).
+fn add_symbol_edges<'a>(
+    bounds: &'a [u32],
+    columns: &'a [u32],
+    candidates: &[u32],
+    from: &mut [u32],
+    to: &mut [u32],
+    count: usize,
+) -> usize
+    ghost { Project }
+    requires project { λ p. ⌜ table 0 0 (now bounds) (now columns) ≡ p ⌝ }
+    requires room { λ p. ⌜ SymbolRoom p 98304 (now from) (now to) count ⌝ }
+    requires candidates { λ p. ⌜ length (now candidates) ≡ modules p ⌝ }
+    ensures { λ p r. ⌜ Adds (SymbolEdge p (now (candidates .entry))) 98304 (now (from .entry)) (now (to .entry)) count (now (from .exit)) (now (to .exit)) r ⌝ }
+{
+    let symbols = rows(bounds, columns, OWNER);
+    let mut names = [0u32; ROW_LIMIT];
+    number(&mut names[..symbols]);
+    let chains = add_chain_edges(bounds, columns, &names[..symbols], from, to, count);
+    let references = rows(bounds, columns, REFERENCE_STATEMENT);
+    let mut readers = [0u32; ROW_LIMIT];
+    find_readers(bounds, columns, candidates, &mut readers[..references]);
+    add_read_edges(bounds, columns, &readers[..references], from, to, chains)
+}
+
 // Writes the edges of a table. How many there are.
 pub fn request_edges<'a>(
     runtime: u32,
@@ -299,37 +263,13 @@ pub fn request_edges<'a>(
     ensures { λ p r. ⌜ Requests p (now (from .entry)) (now (to .entry)) (now (from .exit)) (now (to .exit)) r ⌝ }
 {
     let n = candidates.len();
-    let symbols = rows(bounds, columns, OWNER);
-    let references = rows(bounds, columns, REFERENCE_STATEMENT);
     let mut numbers = [0u32; MODULE_LIMIT];
     number(&mut numbers[..n]);
-    let mut names = [0u32; ROW_LIMIT];
-    number(&mut names[..symbols]);
     let mut asked = [0u32; MODULE_LIMIT];
     number_chosen(sensitive, eligible, &mut asked[..n]);
-    let mut readers = [0u32; ROW_LIMIT];
-    find_readers(
-        runtime,
-        dynamic,
-        bounds,
-        columns,
-        importers,
-        kinds,
-        targets,
-        dependencies,
-        members,
-        candidates,
-        &mut readers[..references],
-    );
     let components = add_component_edges(
-        runtime,
-        dynamic,
-        bounds,
-        columns,
-        importers,
-        kinds,
-        targets,
-        dependencies,
+        column(bounds, columns, CHUNK),
+        column(bounds, columns, MEMBER_CHUNK),
         members,
         labels,
         &numbers[..n],
@@ -338,51 +278,15 @@ pub fn request_edges<'a>(
         to,
         0,
     );
-    let imports = add_import_edges(
-        runtime,
-        dynamic,
-        bounds,
-        columns,
-        importers,
-        kinds,
-        targets,
-        dependencies,
-        members,
+    let leads = add_import_edges(
         edge_from,
         edge_to,
+        column(bounds, columns, DEPENDENCY_MODULE),
+        dependencies,
         &numbers[..n],
         from,
         to,
         components,
     );
-    let chains = add_chain_edges(
-        runtime,
-        dynamic,
-        bounds,
-        columns,
-        importers,
-        kinds,
-        targets,
-        dependencies,
-        members,
-        &names[..symbols],
-        from,
-        to,
-        imports,
-    );
-    add_read_edges(
-        runtime,
-        dynamic,
-        bounds,
-        columns,
-        importers,
-        kinds,
-        targets,
-        dependencies,
-        members,
-        &readers[..references],
-        from,
-        to,
-        chains,
-    )
+    add_symbol_edges(bounds, columns, candidates, from, to, leads)
 }

@@ -86,6 +86,14 @@ fn print_takings(list: &[u32], lengths: &[u32]) {
     print_list(list, list.len());
 }
 
+// Shows a worklist that was written, or the refusal.
+fn show_written(list: &[u32], lengths: &[u32], answer: Answer) {
+    match answer {
+        Answer::Refused(number) => refused(number),
+        Answer::Counted(count) => print_takings(first_of(list, count), first_of(lengths, count)),
+    }
+}
+
 // Shows the worklist of a table.
 fn show_table<'a>(
     runtime: u32,
@@ -106,12 +114,7 @@ fn show_table<'a>(
         &mut list,
         &mut lengths,
     );
-    match answer {
-        Answer::Refused(number) => refused(number),
-        Answer::Counted(count) => {
-            print_takings(first_of(&list, count), first_of(&lengths, count))
-        }
-    }
+    show_written(&list, &lengths, answer);
 }
 
 // Shows that of a project that was read, with n values in its columns.
@@ -145,16 +148,21 @@ fn show_text(text: &[u8]) {
     }
 }
 
+// Shows that of an open file.
+fn show_open(fd: i32) {
+    let mut text = [0u8; TEXT_BYTES];
+    let n = io::read_full(fd, &mut text);
+    show_text(&text[..n]);
+}
+
 // Shows that of the file of a name.
 fn show_file(name: &[u8]) {
     let fd = os::open_read(name);
     if fd < 0 {
         return refused(7);
     }
-    let mut text = [0u8; TEXT_BYTES];
-    let n = io::read_full(fd, &mut text);
+    show_open(fd);
     libc::close(fd);
-    show_text(&text[..n]);
 }
 
 // Shows that of an argument, below its name.

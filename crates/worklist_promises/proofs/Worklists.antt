@@ -2,19 +2,14 @@
 -- Assumes nothing.
 use mathlib.Core.Path.{refl, ap, _∙_}
 use Prim.Native.Nat.{ℕ}
-use native.Mathlib.Omega.{arith}
 use lib.ListN.{length, take, drop}
 use lib.Seq.{take-at}
-use Rattle.lists.proofs.Laws.{mem-elem}
-use Rattle.lists.proofs.Distinct.{few-distinct}
 use Rattle.tables.specs.Readings.{modules}
 use Rattle.tables.specs.Answers.{after}
 use Rattle.table.specs.Table.{answer}
-use Rattle.chunk_cycles.specs.Cycles.{labelsOf}
-use Rattle.wrap_rules.specs.Plan.{ordersOf}
-use Rattle.wrap_rules.proofs.Plans.{start-length}
 use Rattle.takings.specs.Taking.{setOf}
 use Rattle.takings.proofs.Takings.{last}
+use Rattle.takings_from_seeds.proofs.Runs.{run-length}
 use Rattle.worklist_run.proofs.Planned.{takings-plan}
 use Rattle.worklist_promises.specs.Worklists.{EveryListHoldsWhatIsAsked, WorklistsAreShort, WorklistsGiveThePlan, TakingsCallsListThePlan}
 
@@ -24,9 +19,7 @@ everyListHoldsWhatIsAsked p seeds list lengths r k l = last (r .each k l)
 
 pub worklistsAreShort : WorklistsAreShort
 unfolding WorklistsAreShort
-worklistsAreShort p seeds list lengths r =
-    let t = last (r .all) in
-    few-distinct (modules p) list (t .once) (λ x h. omega (arith, t .inside x (mem-elem x list h), start-length (ordersOf p) (labelsOf p) p seeds))
+worklistsAreShort = run-length
 
 pub worklistsGiveThePlan : WorklistsGiveThePlan
 unfolding WorklistsGiveThePlan

@@ -164,6 +164,12 @@ run-planned-requires c κs =
       ),
     )
 
+same-length : tie.Need-same-length
+same-length c = c .before .before .before .before .run-planned .kept .1 .1 .1 .1 .1 .1 .1 .1 .1 .1 .1 .0
+
+same-length-2 : tie.Need-same-length-2
+same-length-2 c = c .before .before .before .before .run-planned .kept .1 .1 .1 .1 .1 .1 .1 .1 .1 .1 .1 .1 .0
+
 returns-6 : tie.Need-returns-6
 returns-6 c =
     let e = c .before .before .before .before .before .before .before .before .before .before .before .before .before .before .before .before .before .before .before .before .before .before .before .before .before .before .before .before .before .before .before .before .before .before .before in
@@ -179,4 +185,4 @@ returns-6 c =
 pub load-run-with-records-spec : {M : Type 1} → statement M
 load-run-with-records-spec =
     tie.close
-    (tie.spec (λ c κs. search needs) returns (λ c κs. search needs) (λ c κs. search needs) (λ c κs. search needs) find-entry-requires returns-2 (λ c κs. search needs) returns-3 returns-4 returns-5 (λ c. search needs) (λ c. search needs) read-current-requires (λ c κs. search needs) array-share-prefix-read-targets slice-aggregate-run-planned array-share-prefix-read-dependencies slice-aggregate-run-planned-2 run-planned-requires (λ c. search needs) (λ c. search needs) returns-6)
+    (tie.spec (λ c κs. search needs) returns (λ c κs. search needs) (λ c κs. search needs) (λ c κs. search needs) find-entry-requires returns-2 (λ c κs. search needs) returns-3 returns-4 returns-5 (λ c. sym (length-replicate {A = ℕ} rowLimit 0)) (λ c. sym (length-replicate {A = ℕ} rowLimit 0)) read-current-requires (λ c κs. search needs) array-share-prefix-read-targets slice-aggregate-run-planned array-share-prefix-read-dependencies slice-aggregate-run-planned-2 run-planned-requires same-length same-length-2 returns-6)

@@ -159,4 +159,4 @@ returns-4 c =
 pub load-step-with-records-spec : {M : Type 1} → statement M
 load-step-with-records-spec =
     tie.close
-    (tie.spec (λ c κs. search needs) returns (λ c κs. search needs) (λ c κs. search needs) (λ c κs. search needs) find-entry-requires returns-2 (λ c κs. search needs) returns-3 (λ c. search needs) (λ c. search needs) read-current-requires (λ c κs. search needs) array-share-prefix-read-targets slice-aggregate-step-planned array-share-prefix-read-dependencies slice-aggregate-step-planned-2 step-planned-requires returns-4)
+    (tie.spec (λ c κs. search needs) returns (λ c κs. search needs) (λ c κs. search needs) (λ c κs. search needs) find-entry-requires returns-2 (λ c κs. search needs) returns-3 (λ c. sym (length-replicate {A = ℕ} rowLimit 0)) (λ c. sym (length-replicate {A = ℕ} rowLimit 0)) read-current-requires (λ c κs. search needs) array-share-prefix-read-targets slice-aggregate-step-planned array-share-prefix-read-dependencies slice-aggregate-step-planned-2 step-planned-requires returns-4)

@@ -6,7 +6,7 @@ use Prim.Native.Nat.{ℕ, _+_, _≤_}
 use native.Mathlib.Omega.{arith}
 use lib.ListN.{length}
 use Rattle.tables.specs.Project.{Project, missing}
-use Rattle.table.specs.Table.{table, read}
+use Rattle.table.specs.Table.{table}
 use Rattle.table.proofs.Cut.{given1, asked1, given2, asked2, given3}
 use Rattle.marks.specs.Steps.{looked}
 use Rattle.request_edges.specs.inner.Edges.{Rows, Adds}
@@ -16,7 +16,7 @@ use Rattle.request_graph.proofs.core.add_read_edges.Statement.{statemen
 use Rattle.request_graph.proofs.core.add_read_edges.Tie as tie
 
 abbrev of : tie.Start → Project
-of e = let a = e .args in read (table (a .runtime) (a .dynamic) (a .bounds .now) (a .columns .now)) (a .importers .now) (a .kinds .now) (a .targets .now) (a .dependencies .now) (a .members .now)
+of e = table 0 0 (e .args .bounds .now) (e .args .columns .now)
 
 column-requires : tie.Need-column-requires
 column-requires c κs = search needs
@@ -25,20 +25,20 @@ column-requires-2 : tie.Need-column-requires-2
 column-requires-2 c κs = search needs
 
 add-edges-requires : tie.Need-add-edges-requires
-unfolding table read
+unfolding table
 add-edges-requires c κs =
-    let e = c .before .before .before .before .before .before .before .before .before .before .before .before .before .before in
-    let ok = e .pre .0 .accepted in
+    let e = c .before .before .before .before .before .before .before .before .before in
+    let ok = e .pre .0 in
     let q = c .before .before .before .column .ensures in (
       asked1 (λ (symbol : List ℕ). length (e .args .readers .now) ≡ length symbol) q (e .pre .1 ∙ sym (ok .sizes .referenceSymbol)),
       (asked1 (λ (symbol : List ℕ). e .args .count + length symbol ≤ length (e .args .from .now)) q (omega (arith, e .pre .0 .room, ok .sizes .referenceSymbol, ok .sizes .referenceStatement)), (e .pre .0 .same, (omega arith, omega arith))),
     )
 
 add-from-looked-requires : tie.Need-add-from-looked-requires
-unfolding table read
+unfolding table
 add-from-looked-requires c κs =
-    let e = c .before .before .before .before .before .before .before .before .before .before .before .before .before .before .before .before .before .before .before .before .before in
-    let ok = e .pre .0 .accepted in
+    let e = c .before .before .before .before .before .before .before .before .before .before .before .before .before .before .before .before in
+    let ok = e .pre .0 in
     let q = c .before .before .before .before .before .before .before .before .before .before .column .ensures in
     let v = c .before .before .before .before .before .before .add-edges .ensures in
     let few : c .before .before .before .before .before .before .add-edges .result ≤ e .args .count + 16384 = omega (arith, v .few, ap length q, ok .sizes .referenceSymbol, ok .sizes .referenceStatement) in (
@@ -61,12 +61,12 @@ column-requires-4 c κs = search needs
 -- how many edges there are after the references
 module _ (k : tie.After-add-from-looked) where
   abbrev start : tie.Start
-  start = k .before .before .before .before .before .before .before .before .before .before .before .before .before .before .before .before .before .before .before .before .before .before
+  start = k .before .before .before .before .before .before .before .before .before .before .before .before .before .before .before .before .before
 
   few-first : k .add-from-looked .result ≤ start .args .count + 32768
-  unfolding table read
+  unfolding table
   few-first =
-      let ok = start .pre .0 .accepted in
+      let ok = start .pre .0 in
       let q = k .before .before .before .before .before .before .before .before .before .before .before .column .ensures in
       omega (arith, k .before .before .before .before .before .before .before .add-edges .ensures .few, k .add-from-looked .ensures .few, ap length q, ok .sizes .referenceSymbol, ok .sizes .referenceStatement)
 
@@ -77,11 +77,11 @@ module _ (k : tie.After-add-from-looked) where
   tos = k .add-from-looked .ensures .tos ∙ k .before .before .before .before .before .before .before .add-edges .ensures .tos
 
 add-to-looked-requires : tie.Need-add-to-looked-requires
-unfolding table read
+unfolding table
 add-to-looked-requires c κs =
     let k = c .before .before .before .before .before .before .before .before in
     let e = start k in
-    let ok = e .pre .0 .accepted in
+    let ok = e .pre .0 in
     let d = c .before .before .before .column3 .ensures in
     let r = c .before .before .column4 .ensures in (
       asked2 (λ (reference depended : List ℕ). length reference ≡ length depended) r d (sym (ok .sizes .depended)),
@@ -95,11 +95,11 @@ add-to-looked-requires c κs =
     )
 
 add-looked-requires : tie.Need-add-looked-requires
-unfolding table read
+unfolding table
 add-looked-requires c κs =
     let k = c .before .before .before .before .before .before .before .before .before .before .before .before .before .before .before in
     let e = start k in
-    let ok = e .pre .0 .accepted in
+    let ok = e .pre .0 in
     let d = c .before .before .before .before .before .before .before .before .before .before .column3 .ensures in
     let r = c .before .before .before .before .before .before .before .before .before .column4 .ensures in
     let v = c .before .before .before .before .before .before .add-to-looked .ensures in
@@ -121,12 +121,12 @@ same-length-2 : tie.Need-same-length-2
 same-length-2 c = c .before .before .before .before .add-looked .ensures .tos ∙ c .before .before .before .before .before .before .before .before .before .before .before .add-to-looked .ensures .tos ∙ tos (c .before .before .before .before .before .before .before .before .before .before .before .before .before .before .before .before .before .before .before .before)
 
 returns : tie.Need-returns
-unfolding table read
+unfolding table
 returns c =
-    let e = c .before .before .before .before .before .before .before .before .before .before .before .before .before .before .before .before .before .before .before .before .before .before .before .before .before .before .before .before .before .before .before .before .before .before .before .before .before .before .before .before .before .before in
+    let e = c .before .before .before .before .before .before .before .before .before .before .before .before .before .before .before .before .before .before .before .before .before .before .before .before .before .before .before .before .before .before .before .before .before .before .before .before .before in
     let a = e .args in
     let p = of e in
-    let ok = e .pre .0 .accepted in
+    let ok = e .pre .0 in
     let s = c .before .before .before .before .before .before .before .before .before .before .before .before .before .before .before .before .before .before .before .before .before .before .before .before .before .before .before .before .before .before .before .column .ensures in
     let n = c .before .before .before .before .before .before .before .before .before .before .before .before .before .before .before .before .before .before .before .before .before .before .before .before .before .before .before .before .before .before .column2 .ensures in
     let d = c .before .before .before .before .before .before .before .before .before .before .before .before .before .before .before .column3 .ensures in

@@ -6,7 +6,7 @@ use Prim.Native.Nat.{ℕ, _≤_}
 use native.Mathlib.Omega.{arith}
 use lib.ListN.{length, take}
 use Rattle.tables.specs.Project.{Project, missing}
-use Rattle.table.specs.Table.{table, read}
+use Rattle.table.specs.Table.{table}
 use Rattle.table.proofs.Cut.{given1, asked1, given2}
 use Rattle.marks.specs.Steps.{looked}
 use borrow.Author.Needs.{needs}
@@ -16,7 +16,7 @@ use Rattle.request_graph.proofs.core.find_readers.Statement.{statement}
 use Rattle.request_graph.proofs.core.find_readers.Tie as tie
 
 abbrev of : tie.Start → Project
-of e = let a = e .args in read (table (a .runtime) (a .dynamic) (a .bounds .now) (a .columns .now)) (a .importers .now) (a .kinds .now) (a .targets .now) (a .dependencies .now) (a .members .now)
+of e = table 0 0 (e .args .bounds .now) (e .args .columns .now)
 
 abbrev size : tie.Start → ℕ
 size e = length (e .args .candidates .now)
@@ -25,32 +25,32 @@ abbrev rows : tie.Start → ℕ
 rows e = length (e .args .readers .now)
 
 few : (e : tie.Start) → size e ≤ 4096
-few e = omega (arith, e .pre .size, e .pre .accepted .sizes .normal)
+few e = omega (arith, e .pre .size, e .pre .sizes .normal)
 
 few-rows : (e : tie.Start) → rows e ≤ 16384
-few-rows e = omega (arith, e .pre .places, e .pre .accepted .sizes .referenceStatement)
+few-rows e = omega (arith, e .pre .places, e .pre .sizes .referenceStatement)
 
-reading-lent : (k : tie.After-number-chosen) → Lent 4096 (size (k .before .before .before .before .before .before .before .before .before .before .before .before)) (k .number-chosen .last .1 .1 .0)
-reading-lent k = record { fits = few (k .before .before .before .before .before .before .before .before .before .before .before .before); kept = k .number-chosen .kept .1 .1 .0 }
+reading-lent : (k : tie.After-number-chosen) → Lent 4096 (size (k .before .before .before .before .before .before .before)) (k .number-chosen .last .1 .1 .0)
+reading-lent k = record { fits = few (k .before .before .before .before .before .before .before); kept = k .number-chosen .kept .1 .1 .0 }
 
-modules-lent : (k : tie.After-look-up) → Lent 16384 (rows (k .before .before .before .before .before .before .before .before .before .before .before .before .before .before .before .before .before)) (k .look-up .last .1 .1 .0)
-modules-lent k = record { fits = few-rows (k .before .before .before .before .before .before .before .before .before .before .before .before .before .before .before .before .before); kept = k .look-up .kept .1 .1 .0 }
+modules-lent : (k : tie.After-look-up) → Lent 16384 (rows (k .before .before .before .before .before .before .before .before .before .before .before .before)) (k .look-up .last .1 .1 .0)
+modules-lent k = record { fits = few-rows (k .before .before .before .before .before .before .before .before .before .before .before .before); kept = k .look-up .kept .1 .1 .0 }
 
 column-requires : tie.Need-column-requires
 column-requires c κs = search needs
 
 array-borrow-prefix-reading : tie.Need-array-borrow-prefix-reading
-array-borrow-prefix-reading c = few (c .before .before .before .before .before .before .before .before .before .before)
+array-borrow-prefix-reading c = few (c .before .before .before .before .before)
 
 slice-aggregate-number-chosen : tie.Need-slice-aggregate-number-chosen
-slice-aggregate-number-chosen c = let e = c .before .before .before .before .before .before .before .before .before .before .before in sym (part-length 4096 (size e) (few e))
+slice-aggregate-number-chosen c = let e = c .before .before .before .before .before .before in sym (part-length 4096 (size e) (few e))
 
 number-chosen-requires : tie.Need-number-chosen-requires
-unfolding table read
+unfolding table
 number-chosen-requires c κs =
-    let e = c .before .before .before .before .before .before .before .before .before .before .before in
+    let e = c .before .before .before .before .before .before in
     let n = part-length 4096 (size e) (few e) in
-    (sym n, (asked1 (λ (reads : List ℕ). length reads ≡ length (take (size e) (lib.ListN.replicate 4096 0))) (c .before .column .ensures) (e .pre .accepted .sizes .reads ∙ sym (e .pre .size) ∙ sym n), omega (arith, n, few e)))
+    (sym n, (asked1 (λ (reads : List ℕ). length reads ≡ length (take (size e) (lib.ListN.replicate 4096 0))) (c .before .column .ensures) (e .pre .sizes .reads ∙ sym (e .pre .size) ∙ sym n), omega (arith, n, few e)))
 
 column-requires-2 : tie.Need-column-requires-2
 column-requires-2 c κs = search needs
@@ -59,15 +59,15 @@ column-requires-3 : tie.Need-column-requires-3
 column-requires-3 c κs = search needs
 
 array-borrow-prefix-modules : tie.Need-array-borrow-prefix-modules
-array-borrow-prefix-modules c = few-rows (c .before .before .before .before .before .before .before .before .before .before .before .before .before .before .before)
+array-borrow-prefix-modules c = few-rows (c .before .before .before .before .before .before .before .before .before .before)
 
 slice-aggregate-look-up : tie.Need-slice-aggregate-look-up
-slice-aggregate-look-up c = let e = c .before .before .before .before .before .before .before .before .before .before .before .before .before .before .before .before in sym (part-length 16384 (rows e) (few-rows e))
+slice-aggregate-look-up c = let e = c .before .before .before .before .before .before .before .before .before .before .before in sym (part-length 16384 (rows e) (few-rows e))
 
 look-up-requires : tie.Need-look-up-requires
-unfolding table read
+unfolding table
 look-up-requires c κs =
-    let e = c .before .before .before .before .before .before .before .before .before .before .before .before .before .before .before .before in
+    let e = c .before .before .before .before .before .before .before .before .before .before .before in
     asked1 (λ (statement : List ℕ). length (take (rows e) (lib.ListN.replicate 16384 0)) ≡ length statement) (c .before .before .column2 .ensures) (part-length 16384 (rows e) (few-rows e) ∙ e .pre .places)
 
 array-share-prefix-modules : tie.Need-array-share-prefix-modules
@@ -89,9 +89,9 @@ same-length : tie.Need-same-length
 same-length c = search needs
 
 returns : tie.Need-returns
-unfolding table read
+unfolding table
 returns c =
-    let e = c .before .before .before .before .before .before .before .before .before .before .before .before .before .before .before .before .before .before .before .before .before .before .before .before in
+    let e = c .before .before .before .before .before .before .before .before .before .before .before .before .before .before .before .before .before .before .before in
     let k = c .before .before .before .before .before .before .before in
     let h = c .before .before .before .before .before .before .before .before .before .before .before .before in
     let modules : view 16384 (rows e) (k .look-up .last .1 .1 .0) ≡ looked missing (of e .statementModule) (of e .referenceStatement) =

@@ -1,20 +1,40 @@
 -- `worklist_plan::core::run_edged` meets its contract: the edges of the request graph are written and threaded, and the modules are taken over them.
 -- Assumes nothing.
-use mathlib.Core.Path.{_≡_, sym, ap, subst, _∙_}
-use mathlib.Core.List.{List}
-use Prim.Native.Nat.{ℕ, _+_, _≤_}
+use mathlib.Core.Path.{_≡_, refl, sym, subst, _∙_}
+use mathlib.Core.List.{List, _++_}
+use Prim.Native.Nat.{ℕ, _≤_}
 use native.Mathlib.Omega.{arith}
-use lib.ListN.{length, take, replicate, length-replicate}
+use lib.ListN.{length, take, drop, replicate, length-replicate}
+use lib.Seq.{length-take-le}
 use Rattle.tables.specs.Threads.{Threads}
 use Rattle.marks.proofs.Parts.{Lent, view, part-length, view-room, view-is, view-length}
 use Rattle.worklist_step.specs.inner.Step.{nodes}
 use Rattle.worklist_taking.specs.inner.State.{GraphOf}
-use Rattle.worklist_plan.proofs.Graphing.{from-length, to-length, edges-threadable, edges-graph}
+use Rattle.request_edges.specs.inner.Edges.{Threadable}
+use Rattle.request_graph.specs.inner.Requests.{EdgeRoom, Requests}
+use Rattle.worklist_plan.proofs.Graphing.{edges-threadable, edges-graph}
 use Rattle.tables.specs.Project.{Project}
 use Rattle.table.specs.Table.{table, read}
 use borrow.Author.Needs.{needs}
 use Rattle.worklist_plan.proofs.core.run_edged.Statement.{statement}
 use Rattle.worklist_plan.proofs.core.run_edged.Tie as tie
+
+-- the most edges, and the places of the graph: they stay folded, so that no array of so many zeros is ever computed
+many : ℕ
+many = 155648
+
+places : ℕ
+places = 49152
+
+zeros-many : length {A = ℕ} (replicate many 0) ≡ many
+zeros-many = length-replicate {A = ℕ} many 0
+
+nodes-are : places ≡ nodes
+unfolding places
+nodes-are = refl
+
+zeros-places : length {A = ℕ} (replicate places 0) ≡ nodes
+zeros-places = length-replicate {A = ℕ} places 0 ∙ nodes-are
 
 -- the entry and its project
 
@@ -35,13 +55,26 @@ module _ (k : tie.After-request-edges) where
   abbrev to : List ℕ
   to = k .request-edges .last .1 .1 .1 .1 .1 .1 .1 .1 .1 .1 .1 .1 .1 .1 .1 .1 .0
 
-  from-size : length from ≡ 155648
-  from-size = k .request-edges .kept .1 .1 .1 .1 .1 .1 .1 .1 .1 .1 .1 .1 .1 .1 .1 .0 ∙ length-replicate {A = ℕ} 155648 0
+  edges : Requests (of entry) (replicate many 0) (replicate many 0) from to count
+  unfolding many
+  edges = k .request-edges .ensures
 
-  to-size : length to ≡ 155648
-  to-size = k .request-edges .kept .1 .1 .1 .1 .1 .1 .1 .1 .1 .1 .1 .1 .1 .1 .1 .1 .0 ∙ length-replicate {A = ℕ} 155648 0
+  from-kept : length from ≡ length {A = ℕ} (replicate many 0)
+  unfolding many
+  from-kept = k .request-edges .kept .1 .1 .1 .1 .1 .1 .1 .1 .1 .1 .1 .1 .1 .1 .1 .0
 
-  few-edges : count ≤ 155648
+  to-kept : length to ≡ length {A = ℕ} (replicate many 0)
+  unfolding many
+  to-kept = k .request-edges .kept .1 .1 .1 .1 .1 .1 .1 .1 .1 .1 .1 .1 .1 .1 .1 .1 .0
+
+  from-size : length from ≡ many
+  from-size = from-kept ∙ zeros-many
+
+  to-size : length to ≡ many
+  to-size = to-kept ∙ zeros-many
+
+  few-edges : count ≤ many
+  unfolding many
   few-edges = k .request-edges .ensures .few
 
   room : count ≤ length from
@@ -51,10 +84,16 @@ module _ (k : tie.After-request-edges) where
   to-room = omega (arith, few-edges, to-size)
 
   from-is : length (take count from) ≡ count
-  from-is = from-length (of entry) (replicate 155648 0) (replicate 155648 0) from to count (k .request-edges .ensures) room (to-size ∙ sym from-size)
+  from-is = length-take-le count from room
 
   to-is : length (take count to) ≡ count
-  to-is = to-length (of entry) (replicate 155648 0) (replicate 155648 0) from to count (k .request-edges .ensures) room (to-size ∙ sym from-size)
+  to-is = length-take-le count to to-room
+
+  part-is : count ≡ length {A = ℕ} (take count (replicate many 0))
+  part-is = sym (part-length many count few-edges)
+
+  threadable : Threadable (take count from) (replicate places 0) (take count (replicate many 0))
+  threadable = edges-threadable (of entry) (replicate many 0) (replicate many 0) from to count edges room (to-size ∙ sym from-size) (replicate places 0) (take count (replicate many 0)) zeros-places (sym part-is)
 
 -- the threads
 module _ (k : tie.After-thread-edges) where
@@ -67,22 +106,40 @@ module _ (k : tie.After-thread-edges) where
   abbrev nexts : List ℕ
   nexts = k .thread-edges .last .1 .1 .0
 
-  nexts-lent : Lent 155648 (count written) nexts
-  nexts-lent = record { fits = few-edges written; kept = k .thread-edges .kept .1 .1 .0 }
+  nexts-kept : length nexts ≡ length {A = ℕ} (take (count written) (replicate many 0))
+  unfolding many
+  nexts-kept = k .thread-edges .kept .1 .1 .0
+
+  nexts-lent : Lent many (count written) nexts
+  nexts-lent = record { fits = few-edges written; kept = nexts-kept }
+
+  heads-kept : length heads ≡ length {A = ℕ} (replicate places 0)
+  unfolding places
+  heads-kept = k .thread-edges .kept .1 .0
 
   heads-size : length heads ≡ nodes
-  heads-size = k .thread-edges .kept .1 .0 ∙ length-replicate {A = ℕ} 49152 0
+  heads-size = heads-kept ∙ zeros-places
 
-  graph : GraphOf (of (entry written)) (take (count written) (from written)) (take (count written) (to written)) heads (view 155648 (count written) nexts)
+  nexts-room : count written ≤ length (nexts ++ drop (count written) (replicate many 0))
+  nexts-room = view-room nexts-lent
+
+  nexts-is : count written ≡ length (view many (count written) nexts)
+  nexts-is = sym (view-length nexts-lent)
+
+  graph : GraphOf (of (entry written)) (take (count written) (from written)) (take (count written) (to written)) heads (view many (count written) nexts)
   graph =
-      edges-graph (of (entry written)) (replicate 155648 0) (replicate 155648 0) (from written) (to written) (count written) (written .request-edges .ensures) (room written) (to-size written ∙ sym (from-size written)) heads (view 155648 (count written) nexts) heads-size
+      edges-graph (of (entry written)) (replicate many 0) (replicate many 0) (from written) (to written) (count written) (edges written) (room written) (to-size written ∙ sym (from-size written)) heads (view many (count written) nexts) heads-size
       (subst (Threads (take (count written) (from written)) heads) (sym (view-is nexts-lent)) (k .thread-edges .ensures))
 
+asked : (e : tie.Start) → EdgeRoom (of e) many (replicate many 0) (replicate many 0) 0
+asked e = record { accepted = e .pre .0 .sets .accepted; room = omega (arith, zeros-many); same = refl }
+
 request-edges-requires : tie.Need-request-edges-requires
+unfolding many
 request-edges-requires c κs =
     let e = c .before .before .before .before .before .before .before .before .before .before .before .before .before .before .before .before .before .before .before in
     let s = e .pre .0 .sets in (
-      record { accepted = s .accepted; room = omega (arith, length-replicate {A = ℕ} 155648 0); same = length-replicate {A = ℕ} 155648 0 ∙ sym (length-replicate {A = ℕ} 155648 0) },
+      asked e,
       (e .pre .0 .rows, record { label = e .pre .0 .label; sensitiveSet = s .sensitiveSet; eligibleSet = s .eligibleSet; candidateSet = s .candidateSet }),
     )
 
@@ -93,15 +150,16 @@ slice-aggregate-thread-edges : tie.Need-slice-aggregate-thread-edges
 slice-aggregate-thread-edges c = sym (from-is (c .before .before .before))
 
 array-borrow-prefix-nexts : tie.Need-array-borrow-prefix-nexts
+unfolding many
 array-borrow-prefix-nexts c = few-edges (c .before .before .before .before)
 
 slice-aggregate-thread-edges-3 : tie.Need-slice-aggregate-thread-edges-3
-slice-aggregate-thread-edges-3 c = let k = c .before .before .before .before .before in sym (part-length 155648 (count k) (few-edges k))
+unfolding many
+slice-aggregate-thread-edges-3 c = part-is (c .before .before .before .before .before)
 
 thread-edges-requires : tie.Need-thread-edges-requires
-thread-edges-requires c κs =
-    let k = c .before .before .before .before .before in
-    edges-threadable (of (entry k)) (replicate 155648 0) (replicate 155648 0) (from k) (to k) (count k) (k .request-edges .ensures) (room k) (to-size k ∙ sym (from-size k)) (replicate 49152 0) (take (count k) (replicate 155648 0)) (length-replicate {A = ℕ} 49152 0) (part-length 155648 (count k) (few-edges k))
+unfolding many places
+thread-edges-requires c κs = threadable (c .before .before .before .before .before)
 
 array-share-prefix-from-2 : tie.Need-array-share-prefix-from-2
 array-share-prefix-from-2 c = room (c .before .before .before .before .before .before .before .before)
@@ -119,12 +177,15 @@ slice-aggregate-run-linked-3 : tie.Need-slice-aggregate-run-linked-3
 slice-aggregate-run-linked-3 c = sym (heads-size (c .before .before .before .before .before))
 
 array-share-prefix-nexts : tie.Need-array-share-prefix-nexts
-array-share-prefix-nexts c = view-room (nexts-lent (c .before .before .before .before .before))
+unfolding many
+array-share-prefix-nexts c = nexts-room (c .before .before .before .before .before)
 
 slice-aggregate-run-linked-4 : tie.Need-slice-aggregate-run-linked-4
-slice-aggregate-run-linked-4 c = sym (view-length (nexts-lent (c .before .before .before .before .before .before)))
+unfolding many
+slice-aggregate-run-linked-4 c = nexts-is (c .before .before .before .before .before .before)
 
 run-linked-requires : tie.Need-run-linked-requires
+unfolding many
 run-linked-requires c κs = let k = c .before .before .before .before .before .before .before .before in let e = entry (written k) in (e .pre .0 .sets, (graph k, e .pre .1))
 
 same-length : tie.Need-same-length
