@@ -5,6 +5,8 @@ use libc::STDIN_FILENO;
 use libc::STDOUT_FILENO;
 use listing::Reading;
 use listing::read;
+use parts::first_of;
+use parts::part_of;
 use plan_check::check_plan;
 use plan_conditions::Judgement;
 use table::COLUMNS;
@@ -73,25 +75,6 @@ fn mark_members(members: &[u32], marks: &mut [u32], n: usize) -> bool {
         marks[m] = 1;
     }
     true
-}
-
-// The first n values.
-fn first_of(values: &[u32], n: usize) -> &[u32] {
-    if values.len() < n {
-        return values;
-    }
-    &values[0..n]
-}
-
-// The part of a text from one position to another.
-fn part_of(text: &[u8], from: usize, to: usize) -> &[u8] {
-    if text.len() < to {
-        return text;
-    }
-    if to < from {
-        return text;
-    }
-    &text[from..to]
 }
 
 fn wide(x: u32) -> u64 {

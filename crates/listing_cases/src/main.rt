@@ -11,6 +11,8 @@ use lines::put_line;
 use lines::rising;
 use listing::Reading;
 use listing::read;
+use parts::first_of;
+use parts::part_of;
 use refusal::refusal_number;
 use table::COLUMNS;
 use table::RECORD_KIND;
@@ -135,14 +137,6 @@ fn print(word: &[u8], entry: &[u32], numbers: &[u32]) {
     write_first(&out, n);
 }
 
-// The first n values.
-fn first_of(values: &[u32], n: usize) -> &[u32] {
-    if values.len() < n {
-        return values;
-    }
-    &values[0..n]
-}
-
 // The number of the project test.
 fn tested<'a>(settings: [u32; 2], bounds: &'a [u32], columns: &'a [u32], names: &'a [u8]) -> u32 {
     refusal_number(
@@ -155,17 +149,6 @@ fn tested<'a>(settings: [u32; 2], bounds: &'a [u32], columns: &'a [u32], names: 
         column(bounds, columns, RECORD_KIND),
         column(bounds, columns, RECORD_TARGET),
     )
-}
-
-// The part of a text from one position to another.
-fn part_of(text: &[u8], from: usize, to: usize) -> &[u8] {
-    if text.len() < to {
-        return text;
-    }
-    if to < from {
-        return text;
-    }
-    &text[from..to]
 }
 
 // How many bytes a part of a text has.

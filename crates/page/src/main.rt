@@ -7,6 +7,8 @@ use lines::put_line;
 use listing::Reading;
 use listing::read;
 use order_analysis::analyze_execution_order;
+use parts::first_of;
+use parts::part_of;
 use table::COLUMNS;
 use table::ENTRY;
 use table::MODULE_LIMIT;
@@ -32,14 +34,6 @@ fn refused(number: u32) {
     let mut out = [0u8; 64];
     let answer = put_line(&mut out, b"refused", &[], &[number]);
     write_counted(&out, answer);
-}
-
-// The first n values.
-fn first_of(values: &[u32], n: usize) -> &[u32] {
-    if values.len() < n {
-        return values;
-    }
-    &values[0..n]
 }
 
 // Prints the page of an entry. One that isn't analysed has none.
@@ -120,17 +114,6 @@ fn pages<'a>(runtime: u32, dynamic: u32, bounds: &'a [u32], columns: &'a [u32], 
         Answer::Refused(number) => refused(number),
         Answer::Counted(_) => planned_pages(runtime, dynamic, bounds, columns, names, &plan),
     }
-}
-
-// The part of a text from one position to another.
-fn part_of(text: &[u8], from: usize, to: usize) -> &[u8] {
-    if text.len() < to {
-        return text;
-    }
-    if to < from {
-        return text;
-    }
-    &text[from..to]
 }
 
 // Prints the pages of a project that was read, with n values in its columns.

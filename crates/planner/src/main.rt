@@ -13,6 +13,8 @@ use listing::Reading;
 use listing::read;
 use order_analysis::analyze_execution_order;
 use order_risk::order_risk;
+use parts::first_of;
+use parts::part_of;
 use sort_modules::sort_modules;
 use table::COLUMNS;
 use table::ENTRY;
@@ -36,14 +38,6 @@ fn print(word: &[u8], entry: &[u32], numbers: &[u32]) {
     let mut out = [0u8; 32768];
     let answer = put_line(&mut out, word, entry, numbers);
     write_counted(&out, answer);
-}
-
-// The first n values.
-fn first_of(values: &[u32], n: usize) -> &[u32] {
-    if values.len() < n {
-        return values;
-    }
-    &values[0..n]
 }
 
 // Prints a line of as many values as were counted.
@@ -311,17 +305,6 @@ fn lines<'a>(runtime: u32, dynamic: u32, bounds: &'a [u32], columns: &'a [u32], 
         &mut sorted,
     );
     sorted_lines(runtime, dynamic, bounds, columns, names, &sorted, answer);
-}
-
-// The part of a text from one position to another.
-fn part_of(text: &[u8], from: usize, to: usize) -> &[u8] {
-    if text.len() < to {
-        return text;
-    }
-    if to < from {
-        return text;
-    }
-    &text[from..to]
 }
 
 // Prints the lines of a project that was read, with n values in its columns.

@@ -7,6 +7,8 @@ use listing::Reading;
 use listing::read;
 use load_trial::load_run;
 use order_analysis::analyze_execution_order;
+use parts::first_of;
+use parts::part_of;
 use table::COLUMNS;
 use table::MODULE_LIMIT;
 use table::NORMAL;
@@ -57,25 +59,6 @@ fn read_entry() -> u32 {
     let mut text = [0u8; 64];
     let n = os::arg(1, &mut text);
     number_of(&text[..n])
-}
-
-// The first n values.
-fn first_of(values: &[u32], n: usize) -> &[u32] {
-    if values.len() < n {
-        return values;
-    }
-    &values[0..n]
-}
-
-// The part of a text from one position to another.
-fn part_of(text: &[u8], from: usize, to: usize) -> &[u8] {
-    if text.len() < to {
-        return text;
-    }
-    if to < from {
-        return text;
-    }
-    &text[from..to]
 }
 
 // A step's line.

@@ -4,6 +4,8 @@ use io::print_decimal;
 use libc::STDOUT_FILENO;
 use listing::Reading;
 use listing::read;
+use parts::first_of;
+use parts::part_of;
 use table::COLUMNS;
 use table::MODULE_LIMIT;
 use table::SEED;
@@ -24,31 +26,12 @@ fn refused(number: u32) {
     io::write_all(STDOUT_FILENO, b"\n");
 }
 
-// The first n values.
-fn first_of(values: &[u32], n: usize) -> &[u32] {
-    if values.len() < n {
-        return values;
-    }
-    &values[0..n]
-}
-
 // The values from place k on.
 fn rest_of(values: &[u32], k: usize) -> &[u32] {
     if values.len() < k {
         return values;
     }
     &values[k..]
-}
-
-// The part of a text from one position to another.
-fn part_of(text: &[u8], from: usize, to: usize) -> &[u8] {
-    if text.len() < to {
-        return text;
-    }
-    if to < from {
-        return text;
-    }
-    &text[from..to]
 }
 
 // Prints a module, a space before it.

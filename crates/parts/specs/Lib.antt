@@ -1,0 +1,2 @@
+-- Parts of a text.
+pub mod Part
