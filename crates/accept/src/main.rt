@@ -1,5 +1,7 @@
 // Reads a project's text from standard input, a plan and seeds from the arguments, each module numbers with a comma behind each, and says in words
 // whether the plan is accepted or what it breaks first.
+#![tactic(auto)]
+
 use io::print_decimal;
 use libc::{STDIN_FILENO, STDOUT_FILENO};
 use listing::{Reading, read};

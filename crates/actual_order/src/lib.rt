@@ -1,4 +1,6 @@
 // Actual order of an entry, and its hosts.
+#![tactic(auto)]
+
 ghost use Rattle.arrangement.specs.OfProject.{lent_named, lent_named_with};
 ghost use Rattle.actual_order.specs.Promise.{ActualOrder};
 

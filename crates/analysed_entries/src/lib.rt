@@ -1,2 +1,4 @@
 // The analysed entries of a table.
+#![tactic(auto)]
+
 pub mod inner;

@@ -1,6 +1,8 @@
 // The answers of the operations as the numbers that callers from C get: the count, or 2^32 plus the number of a refusal; of the check of a plan
 // 0, the number of a broken condition times 2^16 plus the module, or 2^32 plus the number of a refusal; of a step of a tried load its module times 2^16 plus
 // its host, 2^31 where none is left, or 2^32 plus the number of a refusal.
+#![tactic(auto)]
+
 ghost use Rattle.std.specs.Prelude.{◌≡◌};
 ghost use Rattle.table.specs.Table.{answer};
 ghost use Rattle.answer_codes.specs.Exported.{coded, coded_judgement, coded_step};

@@ -1,2 +1,4 @@
 // The members of each chunk as rolldown arranges them.
+#![tactic(auto)]
+
 pub mod inner;

@@ -1,1 +1,2 @@
 // Demand 3 for callers: statements alone, no code.
+#![tactic(auto)]

@@ -1,4 +1,6 @@
 // Cyclic chunks: labels, and whether a chunk reaches a cyclic one.
+#![tactic(auto)]
+
 ghost use Rattle.table.specs.Table.{lent, lent_with};
 ghost use Rattle.chunk_cycles.specs.Promise.{LabelsPromise, ReachPromise};
 

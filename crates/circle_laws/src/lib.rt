@@ -1,1 +1,2 @@
 // No code: what holds of the import circles.
+#![tactic(auto)]

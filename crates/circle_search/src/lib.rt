@@ -1,1 +1,2 @@
 // The search of the import circles: definitions and theory, no code.
+#![tactic(auto)]

@@ -1,2 +1,4 @@
 // The labels of chunks, over any graph.
+#![tactic(auto)]
+
 pub mod inner;

@@ -1,2 +1,4 @@
 // Record targets and dependencies as they are read, made once a call.
+#![tactic(auto)]
+
 pub mod inner;

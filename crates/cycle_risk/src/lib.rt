@@ -1,10 +1,12 @@
 // The cycle risk of an entry.
+#![tactic(auto)]
+
 ghost use Rattle.table.specs.Table.{lent, lent_with};
 ghost use Rattle.at_risk.specs.Promise.{EntryCycleRisk};
 
 use analysed_entries::inner::find_entry;
-use inner::mark_cycle_risk;
 use current_columns::inner::read_current;
+use inner::mark_cycle_risk;
 use refusal::refusal_number;
 use table::{
     DEPENDENCY, MEMBER, NORMAL, RECORD_KIND, RECORD_MODULE, RECORD_TARGET, ROW_LIMIT, column, rows,

@@ -1,3 +1,5 @@
 // Which modules are eligible.
+#![tactic(auto)]
+
 pub mod inner;
 pub mod of_table;

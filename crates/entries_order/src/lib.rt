@@ -1,10 +1,12 @@
 // Many entries walked together.
+#![tactic(auto)]
+
 ghost use Rattle.table.specs.Table.{lent, lent_with};
 ghost use Rattle.entries_order.specs.Promise.{EntriesOrder};
 
 use column_tests::inner::all_below;
-use inner::list_entries;
 use current_columns::inner::read_current;
+use inner::list_entries;
 use refusal::refusal_number;
 use table::{
     DEPENDENCY, MEMBER, NORMAL, RECORD_KIND, RECORD_MODULE, RECORD_TARGET, ROW_LIMIT, column, rows,

@@ -1,9 +1,11 @@
 // Expected order of an entry.
+#![tactic(auto)]
+
 ghost use Rattle.table.specs.Table.{lent, lent_with};
 ghost use Rattle.expected_order.specs.Promise.{ExpectedOrder};
 
-use inner::list_expected;
 use current_columns::inner::read_current;
+use inner::list_expected;
 use refusal::refusal_number;
 use table::{
     DEPENDENCY, MEMBER, MODULE_LIMIT, NORMAL, RECORD_KIND, RECORD_MODULE, RECORD_TARGET, ROW_LIMIT,

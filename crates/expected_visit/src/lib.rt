@@ -1,2 +1,4 @@
 // The visit of a module in the expected order: over kind 0 records and normal targets.
+#![tactic(auto)]
+
 pub mod inner;

@@ -1,4 +1,6 @@
 // The file names on standard input, a name a line, read byte by byte.
+#![tactic(auto)]
+
 ghost use Rattle.std.specs.Prelude.{◌≡◌, cond, ◌+◌, ltb};
 ghost use Rattle.file_names.specs.Steps.{begun, turn_of_line, turn_at, names_after, kept_after, stepped, finished};
 

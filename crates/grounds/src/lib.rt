@@ -1,9 +1,11 @@
 // The ground of each module's sensitivity.
+#![tactic(auto)]
+
 ghost use Rattle.table.specs.Table.{lent, lent_with};
 ghost use Rattle.grounds.specs.Promise.{ModuleGrounds};
 
-use inner::mark_grounds;
 use current_columns::inner::read_current;
+use inner::mark_grounds;
 use refusal::refusal_number;
 use table::{
     DEPENDENCY, MEMBER, NORMAL, RECORD_KIND, RECORD_MODULE, RECORD_TARGET, ROW_LIMIT, column, rows,

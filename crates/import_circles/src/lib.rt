@@ -1,9 +1,11 @@
 // Import circles: which modules import each other in a ring.
+#![tactic(auto)]
+
 ghost use Rattle.table.specs.Table.{lent, lent_with};
 ghost use Rattle.import_circles.specs.Promise.{ImportCircles};
 
-use inner::list_circles;
 use current_columns::inner::read_current;
+use inner::list_circles;
 use refusal::refusal_number;
 use table::{
     DEPENDENCY, MEMBER, RECORD_KIND, RECORD_MODULE, RECORD_TARGET, ROW_LIMIT, column, rows,

@@ -1,4 +1,6 @@
 // The operations for C and Rust, on a project that is lent as a table. The answers are numbers, as `answer_codes` says.
+#![tactic(auto)]
+
 ghost use Rattle.std.specs.Prelude.{◌≡◌, []};
 ghost use Rattle.table.specs.Table.{lent};
 ghost use Rattle.arrangement.specs.OfProject.{lent_named};

@@ -1,4 +1,6 @@
 // The writer of a result line, and the list of a set's members.
+#![tactic(auto)]
+
 ghost use Rattle.std.specs.Prelude.{◌≡◌, length};
 ghost use Rattle.tables.specs.Answers.{after};
 ghost use Rattle.table.specs.Table.{answer};

@@ -1,4 +1,6 @@
 // The reader of a project's text.
+#![tactic(auto)]
+
 ghost use Rattle.listing.specs.Reading.{Reads};
 
 mod columns;

@@ -5,6 +5,8 @@
 //
 // A printed line is: `case`, its number, the list that it changes, the reading's number, the count of values, the number of the project test and how
 // many bytes the names have; few names are written behind it.
+#![tactic(auto)]
+
 use libc::{STDIN_FILENO, STDOUT_FILENO};
 use lines::{put_line, rising};
 use listing::{Reading, read};

@@ -1,1 +1,2 @@
 // No code: what a buyer is told of a load with the plan carried out.
+#![tactic(auto)]

@@ -1,4 +1,6 @@
 // Trying a plan before loading it: the steps of an entry's load with the plan's modules wrapped.
+#![tactic(auto)]
+
 ghost use Rattle.std.specs.Prelude.{◌≡◌};
 ghost use Rattle.arrangement.specs.OfProject.{lent_named, lent_named_with};
 ghost use Rattle.load_trial.specs.Promise.{load_step, LoadRun};

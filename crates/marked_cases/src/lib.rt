@@ -1,1 +1,2 @@
 // No code: document 01's marked cases as one table under one theorem.
+#![tactic(auto)]

@@ -1,4 +1,6 @@
 // The list `name` of a text, which follows the others: where its lines lie.
+#![tactic(auto)]
+
 ghost use Rattle.std.specs.Prelude.{◌≡◌};
 ghost use Rattle.names.specs.Names.{names_fit};
 ghost use Rattle.name_list.specs.Lying.{NamesLie};

@@ -1,4 +1,6 @@
 // The names of a project's modules: the tests of their form.
+#![tactic(auto)]
+
 ghost use Rattle.std.specs.Prelude.{◌≡◌};
 ghost use Rattle.names.specs.Names.{names_in, names_sized};
 

@@ -1,9 +1,11 @@
 // The whole analysis.
+#![tactic(auto)]
+
 ghost use Rattle.arrangement.specs.OfProject.{lent_named, lent_named_with};
 ghost use Rattle.order_analysis.specs.Promise.{WholeAnalysis};
 
-use inner::analyze_named;
 use current_columns::inner::read_current;
+use inner::analyze_named;
 use refusal::refusal_number;
 use table::{
     DEPENDENCY, MEMBER, NORMAL, RECORD_KIND, RECORD_MODULE, RECORD_TARGET, ROW_LIMIT, column, rows,

@@ -1,4 +1,6 @@
 // The order risk of an entry.
+#![tactic(auto)]
+
 ghost use Rattle.arrangement.specs.OfProject.{lent_named, lent_named_with};
 ghost use Rattle.at_risk.specs.Promise.{EntryOrderRisk};
 

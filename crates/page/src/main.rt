@@ -1,5 +1,7 @@
 // Reads a project's text from standard input and prints the pages of its analysed entries, in row order with nothing between. The plan and the grounds are made
 // once, and the orders once an entry.
+#![tactic(auto)]
+
 use grounds::grounds;
 use libc::{STDIN_FILENO, STDOUT_FILENO};
 use lines::put_line;

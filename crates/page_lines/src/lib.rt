@@ -1,2 +1,4 @@
 // A line of the workshop page.
+#![tactic(auto)]
+
 pub mod inner;

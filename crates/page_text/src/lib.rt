@@ -1,2 +1,4 @@
 // The page of an entry as bytes.
+#![tactic(auto)]
+
 pub mod inner;

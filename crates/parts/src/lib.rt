@@ -1,4 +1,6 @@
 // Parts of what a program has read. Nothing is asked of the numbers.
+#![tactic(auto)]
+
 ghost use Rattle.std.specs.Prelude.{◌≡◌, take};
 ghost use Rattle.parts.specs.Part.{part_of};
 

@@ -1,4 +1,6 @@
 // The plan from seeds by a worklist: modules are taken one by one from a list, and what the four rules ask for with each is listed.
+#![tactic(auto)]
+
 ghost use Rattle.table.specs.Table.{lent, lent_with};
 ghost use Rattle.wrap_plan.specs.Promise.{PlanFromSeeds};
 

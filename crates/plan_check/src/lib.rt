@@ -1,4 +1,6 @@
 // Plans made elsewhere: whether one is accepted, or what it breaks first.
+#![tactic(auto)]
+
 ghost use Rattle.std.specs.Prelude.{◌≡◌};
 ghost use Rattle.table.specs.Table.{lent, lent_with};
 ghost use Rattle.plan_check.specs.Promise.{judgement};

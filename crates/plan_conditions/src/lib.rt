@@ -1,4 +1,6 @@
 // What makes a plan acceptable: its form, and six conditions in their order.
+#![tactic(auto)]
+
 pub mod inner;
 
 // What is said of a plan: it is accepted; or the number of the first broken condition, from 1 on (eligible, seeds, rules (i) to (iv)), and the lowest

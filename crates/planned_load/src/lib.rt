@@ -1,4 +1,6 @@
 // A load with a plan carried out: its run, and its steps.
+#![tactic(auto)]
+
 pub mod inner;
 
 // What a step of a tried load answers: the module that is listed next and its host; or that none is left; or the number of a refusal.

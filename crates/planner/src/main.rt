@@ -1,5 +1,7 @@
 // Reads a project's text from standard input and prints its module order, its import circles, the orders and both risks of each analysed entry, the grounds of the
 // sensitive modules, and the plan.
+#![tactic(auto)]
+
 use actual_order::actual_order;
 use cycle_risk::cycle_risk;
 use expected_order::expected_order;

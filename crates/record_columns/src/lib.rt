@@ -1,4 +1,6 @@
 // Import records, lent as a slice of records, under thin functions.
+#![tactic(auto)]
+
 ghost use Rattle.std.specs.Prelude.{◌≡◌, ◌<◌, length, slice_index_or};
 ghost use Rattle.record_columns.specs.Rows.{no_row};
 

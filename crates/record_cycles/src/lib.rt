@@ -1,4 +1,6 @@
 // Cyclic chunks, with the import records lent as a slice of records in the place of the table's own, which aren't read.
+#![tactic(auto)]
+
 ghost use Rattle.table.specs.Table.{lent_with};
 ghost use Rattle.record_columns.specs.Rows.{importer_column, kind_column, target_column};
 ghost use Rattle.chunk_cycles.specs.Promise.{LabelsPromise, ReachPromise};

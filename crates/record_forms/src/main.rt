@@ -1,4 +1,6 @@
 // Document 01's listing, its two import records lent as a slice of records to each record form. The table's own record columns hold what no project may: they aren't read.
+#![tactic(auto)]
+
 use io::print_decimal;
 use libc::STDOUT_FILENO;
 use plan_conditions::Judgement;

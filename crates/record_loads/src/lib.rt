@@ -1,4 +1,6 @@
 // Tried loads, with the import records lent as a slice of records in the place of the table's own, which aren't read.
+#![tactic(auto)]
+
 ghost use Rattle.std.specs.Prelude.{◌≡◌};
 ghost use Rattle.arrangement.specs.OfProject.{lent_named_with};
 ghost use Rattle.load_trial.specs.Promise.{load_step, LoadRun};

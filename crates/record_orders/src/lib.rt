@@ -1,4 +1,6 @@
 // The orders of a project, with the import records lent as a slice of records in the place of the table's own, which aren't read.
+#![tactic(auto)]
+
 ghost use Rattle.table.specs.Table.{lent_with};
 ghost use Rattle.sort_modules.specs.Promise.{SortModules};
 ghost use Rattle.import_circles.specs.Promise.{ImportCircles};

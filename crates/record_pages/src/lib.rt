@@ -1,4 +1,6 @@
 // Pages of entries, with the import records lent as a slice of records in the place of the table's own, which aren't read.
+#![tactic(auto)]
+
 ghost use Rattle.arrangement.specs.OfProject.{lent_named_with};
 ghost use Rattle.wall_line.specs.Promise.{PageLine};
 ghost use Rattle.wall_page.specs.Promise.{EntryPage};

@@ -1,4 +1,6 @@
 // Plans from seeds, with the import records lent as a slice of records in the place of the table's own, which aren't read.
+#![tactic(auto)]
+
 ghost use Rattle.std.specs.Prelude.{◌≡◌};
 ghost use Rattle.table.specs.Table.{lent_with};
 ghost use Rattle.record_columns.specs.Rows.{importer_column, kind_column, target_column};

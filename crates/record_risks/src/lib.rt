@@ -1,4 +1,6 @@
 // Grounds and risks, with the import records lent as a slice of records in the place of the table's own, which aren't read.
+#![tactic(auto)]
+
 ghost use Rattle.table.specs.Table.{lent_with};
 ghost use Rattle.arrangement.specs.OfProject.{lent_named_with};
 ghost use Rattle.record_columns.specs.Rows.{importer_column, kind_column, target_column};

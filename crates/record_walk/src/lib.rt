@@ -1,1 +1,2 @@
 // No code: the walk by hand that proves every record form.
+#![tactic(auto)]

@@ -1,4 +1,6 @@
 // The tests 1 to 4 and 10 of a table, with its names and import records beside it.
+#![tactic(auto)]
+
 ghost use Rattle.std.specs.Prelude.{◌≡◌};
 ghost use Rattle.table.specs.Table.{table, bounds_fit, with_records, table_number, tested_too, lent_with};
 ghost use Rattle.tables.specs.Refusal.{refusal};

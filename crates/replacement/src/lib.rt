@@ -1,2 +1,4 @@
 // Replaced modules: columns that are read through `newer`.
+#![tactic(auto)]
+
 pub mod inner;

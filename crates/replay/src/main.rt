@@ -6,6 +6,8 @@
 // 0 and the count or 1 and the refusal's number, and how many places each of two outputs has; how many seeds or entries and these; and for each output how
 // many places are written and these. `-` is the missing mark. In a list, `5*0` stands for five zeros, `3*8+2` for 8 10 12, `3*8~2` for 8 6 4, `6*8+1/2` for
 // 8 8 9 9 10 10; and `5.` for the five values that stand there in the case before. Without names a case has a 0 for them.
+#![tactic(auto)]
+
 use libc::{STDIN_FILENO, STDOUT_FILENO};
 use plan_conditions::Judgement;
 use table::{RECORD_KIND, RECORD_MODULE, RECORD_TARGET, column};

@@ -1,4 +1,6 @@
 // The lines of a season's report.
+#![tactic(auto)]
+
 ghost use Rattle.report_lines.specs.Report.{outcome_line, Put};
 
 use lines::put_line;

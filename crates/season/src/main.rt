@@ -1,4 +1,6 @@
 // Reads the names of projects' files from standard input, a name a line, and prints each project's share as it is made, then the totals.
+#![tactic(auto)]
+
 ghost use Rattle.std.specs.Prelude.{◌≡◌, ◌-◌, ◌≤◌, length};
 ghost use Rattle.share_totals.specs.Sums.{added};
 ghost use Rattle.share_totals.specs.Within.{Fits, Within};

@@ -1,2 +1,4 @@
 // Which modules are sensitive.
+#![tactic(auto)]
+
 pub mod inner;

@@ -1,4 +1,6 @@
 // The share of a project's text.
+#![tactic(auto)]
+
 ghost use Rattle.std.specs.Prelude.{◌≡◌, ◌-◌, ◌≤◌, length, get_or, take, drop};
 ghost use Rattle.arrangement.specs.OfProject.{lent_named};
 ghost use Rattle.shares.specs.Promise.{outcome_of};

@@ -1,4 +1,6 @@
 // A project's outcome, and the totals of a season.
+#![tactic(auto)]
+
 pub mod inner;
 
 // The counts of eligible and of planned modules with the quotient and the remainder of 1,000 times the second by the first, or the number of

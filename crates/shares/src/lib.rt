@@ -1,4 +1,6 @@
 // The share of a project's eligible modules that are planned.
+#![tactic(auto)]
+
 ghost use Rattle.std.specs.Prelude.{◌≡◌, ◌≤◌, ◌∷◌, length, drop};
 ghost use Rattle.arrangement.specs.OfProject.{lent_named, lent_named_with};
 ghost use Rattle.shares.specs.Promise.{outcome_of, WrittenShare};

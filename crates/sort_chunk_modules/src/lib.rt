@@ -1,4 +1,6 @@
 // Chunk contents as rolldown arranges them.
+#![tactic(auto)]
+
 ghost use Rattle.table.specs.Table.{lent, lent_with};
 ghost use Rattle.sort_chunk_modules.specs.Promise.{SortChunkModules};
 

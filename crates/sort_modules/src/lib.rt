@@ -1,9 +1,11 @@
 // Module numbers and sorted list.
+#![tactic(auto)]
+
 ghost use Rattle.table.specs.Table.{lent, lent_with};
 ghost use Rattle.sort_modules.specs.Promise.{SortModules};
 
-use inner::sort_table;
 use current_columns::inner::read_current;
+use inner::sort_table;
 use refusal::refusal_number;
 use table::{
     DEPENDENCY, MEMBER, MODULE_LIMIT, NORMAL, RECORD_KIND, RECORD_MODULE, RECORD_TARGET, ROW_LIMIT,

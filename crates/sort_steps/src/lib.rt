@@ -1,2 +1,4 @@
 // The steps of a visit in the module sort.
+#![tactic(auto)]
+
 pub mod inner;

@@ -1,5 +1,7 @@
 // Reads a project's text from standard input and an entry, its module row, from the argument, and prints the steps of the entry's load with the whole
 // analysis' plan, a line each: place, module, host.
+#![tactic(auto)]
+
 use io::print_decimal;
 use libc::{STDIN_FILENO, STDOUT_FILENO};
 use listing::{Reading, read};

@@ -1,4 +1,6 @@
 // A project lent as two slices: where each column starts, with where the last ends, and all columns one after the other.
+#![tactic(auto)]
+
 ghost use Rattle.std.specs.Prelude.{◌≡◌, length, get_or};
 ghost use Rattle.table.specs.Table.{column_at};
 

@@ -1,2 +1,4 @@
 // The share of a tested table.
+#![tactic(auto)]
+
 pub mod inner;

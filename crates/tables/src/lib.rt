@@ -1,4 +1,6 @@
 // The project's tables.
+#![tactic(auto)]
+
 pub mod inner;
 
 // A module's number.

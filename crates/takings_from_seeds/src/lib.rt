@@ -1,4 +1,6 @@
 // The worklist from seeds, shown: the list when all are taken, and how long it was after each number of takings.
+#![tactic(auto)]
+
 ghost use Rattle.table.specs.Table.{lent, lent_with};
 ghost use Rattle.takings_from_seeds.specs.Promise.{TakingsFromSeeds};
 

@@ -1,5 +1,7 @@
 // Prints the worklist of each project that an argument names, from the project's own seeds, after each taking: the number of takings, the taken modules, a bar and
 // the waiting ones.
+#![tactic(auto)]
+
 use io::print_decimal;
 use libc::STDOUT_FILENO;
 use listing::{Reading, read};

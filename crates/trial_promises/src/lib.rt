@@ -1,1 +1,2 @@
 // Tried loads: statements alone, no code.
+#![tactic(auto)]

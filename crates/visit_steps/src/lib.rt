@@ -1,2 +1,4 @@
 // The counters of a traversal, and the steps of a visit by value.
+#![tactic(auto)]
+
 pub mod inner;

@@ -1,1 +1,2 @@
 // No code: the post-order walk and the closing of a set, each defined once, and their theory.
+#![tactic(auto)]

@@ -1,10 +1,12 @@
 // One line of an entry's page.
+#![tactic(auto)]
+
 ghost use Rattle.arrangement.specs.OfProject.{lent_named, lent_named_with};
 ghost use Rattle.wall_line.specs.Promise.{PageLine};
 
 use analysed_entries::inner::find_entry;
-use inner::put_named_line;
 use current_columns::inner::read_current;
+use inner::put_named_line;
 use refusal::refusal_number;
 use table::{
     DEPENDENCY, MEMBER, RECORD_KIND, RECORD_MODULE, RECORD_TARGET, ROW_LIMIT, column, rows,

@@ -1,10 +1,12 @@
 // The page of an entry by grounds and a plan that were made before: a program makes these once for all entries.
+#![tactic(auto)]
+
 ghost use Rattle.arrangement.specs.OfProject.{lent_named, lent_named_with};
 ghost use Rattle.wall_page.specs.Promise.{EntryPage};
 
 use analysed_entries::inner::find_entry;
-use inner::put_named_page;
 use current_columns::inner::read_current;
+use inner::put_named_page;
 use refusal::refusal_number;
 use table::{
     DEPENDENCY, MEMBER, NORMAL, RECORD_KIND, RECORD_MODULE, RECORD_TARGET, ROW_LIMIT, column, rows,

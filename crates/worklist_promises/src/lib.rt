@@ -1,1 +1,2 @@
 // No code: what a buyer is told of planning by a worklist.
+#![tactic(auto)]

@@ -1,1 +1,2 @@
 // No code: what holds of a worklist between two takings, and that a step keeps it.
+#![tactic(auto)]

@@ -1,9 +1,11 @@
 // The wrap plan: the plan from seeds, closed under the four rules.
+#![tactic(auto)]
+
 ghost use Rattle.table.specs.Table.{lent, lent_with};
 ghost use Rattle.wrap_plan.specs.Promise.{PlanFromSeeds};
 
-use inner::plan_seeds;
 use current_columns::inner::read_current;
+use inner::plan_seeds;
 use refusal::refusal_number;
 use seeds::inner::seeds_fit;
 use table::{

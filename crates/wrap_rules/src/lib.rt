@@ -1,1 +1,2 @@
 // No code: the four rules of "Plan from seeds", the plan, and their theory.
+#![tactic(auto)]
