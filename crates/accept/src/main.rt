@@ -11,7 +11,7 @@ use plan_conditions::Judgement;
 use table::{COLUMNS, MODULE_LIMIT, NORMAL, rows};
 
 // What an argument is: so many numbers, or something else.
-#[derive(Drop)]
+#[derive(Clone, Copy)]
 enum Numbers {
     Read(usize),
     Broken,

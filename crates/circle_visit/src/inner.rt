@@ -9,7 +9,7 @@ use crate::places::{place_of, put_all, put_at};
 use tables::ModuleIdx;
 
 // How many paths were found, and how many places they take.
-#[derive(Drop)]
+#[derive(Clone, Copy)]
 pub struct Found {
     pub count: usize,
     pub used: usize,

@@ -12,7 +12,7 @@ pub const NAME_BYTES: usize = 255;
 
 // What is known of an input: how many lines may still come, how many bytes the line at hand has so far (256 stands for any greater count),
 // whether one of them is 0, and whether a byte followed the last line that may come.
-#[derive(Drop)]
+#[derive(Clone, Copy)]
 pub struct Names {
     pub left: u32,
     pub length: usize,
@@ -21,14 +21,14 @@ pub struct Names {
 }
 
 // What a byte, or the end of the input, makes due: nothing, the file whose name is that many of the bytes kept, or a refusal.
-#[derive(Drop)]
+#[derive(Clone, Copy)]
 pub enum Turn {
     Nothing,
     File(usize),
     Refused(u32),
 }
 
-#[derive(Drop)]
+#[derive(Clone, Copy)]
 pub struct Step {
     pub names: Names,
     pub turn: Turn,

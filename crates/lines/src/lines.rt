@@ -28,7 +28,7 @@ fn field_len(v: u32) -> usize
     number_len(v)
 }
 
-#[derive(Drop)]
+#[derive(Clone, Copy)]
 pub enum Room {
     Left(usize),
     Short,

@@ -11,7 +11,7 @@ use table::COLUMNS;
 use text_rows::inner::{Cursor, read_lists};
 
 // What reading a text answers: 01's number of a refusal; or how many values the columns have, and where the names begin and end in the text.
-#[derive(Drop)]
+#[derive(Clone, Copy)]
 pub enum Reading {
     Refused(u32),
     Read(usize, usize, usize),

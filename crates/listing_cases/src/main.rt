@@ -16,11 +16,11 @@ use table::{COLUMNS, RECORD_KIND, RECORD_MODULE, RECORD_TARGET, column};
 use tables::Answer;
 
 // A number, and the place behind the byte that ends it.
-#[derive(Drop)]
+#[derive(Clone, Copy)]
 struct Word(u32, usize);
 
 // How many bytes a text has so far, and where its next piece begins.
-#[derive(Drop)]
+#[derive(Clone, Copy)]
 struct Place(usize, usize);
 
 // The place behind the line that goes on at `at`.

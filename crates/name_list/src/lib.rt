@@ -9,7 +9,7 @@ use names::names_in;
 use text_rows::inner::{Place, match_line};
 
 // What stands behind the other lists: names from one position to another, or something else.
-#[derive(Drop)]
+#[derive(Clone, Copy)]
 pub enum Found {
     Names(usize, usize),
     Broken,

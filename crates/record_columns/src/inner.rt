@@ -6,7 +6,7 @@ use crate::{Record, count, importer_at, kind_at, target_at};
 use table::ROW_LIMIT;
 
 // The columns of a list of records, from place 0, and how many rows the list has.
-#[derive(Drop)]
+#[derive(Clone, Copy)]
 pub struct Columns {
     pub rows: usize,
     pub importers: [u32; ROW_LIMIT],

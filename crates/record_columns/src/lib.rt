@@ -7,7 +7,7 @@ ghost use Rattle.record_columns.specs.Rows.{no_row};
 pub mod inner;
 
 // An import record: 01's row `module kind target`.
-#[derive(Drop)]
+#[derive(Clone, Copy)]
 pub struct Record {
     pub importer: u32,
     pub kind: u32,

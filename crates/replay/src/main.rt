@@ -14,12 +14,12 @@ use table::{RECORD_KIND, RECORD_MODULE, RECORD_TARGET, column};
 use tables::Answer;
 
 // A number, and where the next may begin.
-#[derive(Drop)]
+#[derive(Clone, Copy)]
 struct Word(u32, usize);
 
 // Values of a list still to be taken: how many, the first of them, by how much the next differs and how many are equal, of them how many with this
 // one; whether they are those that stand there; and where the next run may begin.
-#[derive(Drop)]
+#[derive(Clone, Copy)]
 struct Run {
     left: u32,
     value: u32,
@@ -31,7 +31,7 @@ struct Run {
 }
 
 // How long a case's lists are, and where its settings begin.
-#[derive(Drop)]
+#[derive(Clone, Copy)]
 struct Sizes {
     bounds: u32,
     columns: u32,
@@ -40,11 +40,11 @@ struct Sizes {
 }
 
 // A place of an output, and where the next number may begin.
-#[derive(Drop)]
+#[derive(Clone, Copy)]
 struct Place(usize, usize);
 
 // How many calls agreed, of how many, and where the next case or call begins.
-#[derive(Drop)]
+#[derive(Clone, Copy)]
 struct Done(u64, u64, usize);
 
 // The first place from `at` on that is no space and no line end.

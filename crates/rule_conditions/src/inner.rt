@@ -23,7 +23,7 @@ use table::{MODULE_LIMIT, ROW_LIMIT};
 use tables::inner::thread;
 
 // The lowest modules that the rules (iii) and (iv) ask for and a plan lacks, the mark where there is none.
-#[derive(Drop)]
+#[derive(Clone, Copy)]
 pub struct Lacking {
     pub importer: u32,
     pub reader: u32,

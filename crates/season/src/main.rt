@@ -19,21 +19,21 @@ use tables::Answer;
 const TEXT_BYTES: usize = 65537;
 
 // What is known of the names, and the totals so far.
-#[derive(Drop)]
+#[derive(Clone, Copy)]
 pub struct Season {
     pub names: Names,
     pub totals: Totals,
 }
 
 // What is known after a piece of the input, and whether more may come.
-#[derive(Drop)]
+#[derive(Clone, Copy)]
 pub struct Taken {
     pub season: Season,
     pub more: bool,
 }
 
 // How many bytes were read, or that a read failed.
-#[derive(Drop)]
+#[derive(Clone, Copy)]
 pub enum Got {
     Bytes(usize),
     Failed,

@@ -9,7 +9,7 @@ use tables::inner::{is_static, resolve};
 use tables::{ModuleIdx, Target};
 
 // How many modules are listed, and the next number, which counts externals too.
-#[derive(Drop)]
+#[derive(Clone, Copy)]
 pub struct Counters {
     pub placed: usize,
     pub next: u32,

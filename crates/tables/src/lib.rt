@@ -4,7 +4,7 @@
 pub mod inner;
 
 // A module's number.
-#[derive(Drop)]
+#[derive(Clone, Copy)]
 pub struct ModuleIdx(u32);
 
 impl ModuleIdx {
@@ -15,7 +15,7 @@ impl ModuleIdx {
 }
 
 // What a record's target is.
-#[derive(Drop)]
+#[derive(Clone, Copy)]
 pub enum Target {
     Missing,
     External(u32),
@@ -23,7 +23,7 @@ pub enum Target {
 }
 
 // What an operation answers: 01's number of a refusal, or the count.
-#[derive(Drop)]
+#[derive(Clone, Copy)]
 pub enum Answer {
     Refused(u32),
     Counted(usize),

@@ -6,7 +6,7 @@ ghost use Rattle.text_rows.specs.inner.Steps.{Told, CellIs};
 
 use tables::ModuleIdx;
 
-#[derive(Drop)]
+#[derive(Clone, Copy)]
 pub enum Field {
     // The value, and the position behind what was read.
     Value(u32, usize),

@@ -15,7 +15,7 @@ pub fn width(l: usize) -> usize
     WIDTHS[l]
 }
 
-#[derive(Drop)]
+#[derive(Clone, Copy)]
 pub enum Rows {
     // How far the values go, and the position behind the empty line.
     Done(usize, usize),
@@ -67,7 +67,7 @@ fn read_rows(s: &[u8], at: usize, last: usize, out: &mut [u32; 32768], from: usi
     Rows::Bad
 }
 
-#[derive(Drop)]
+#[derive(Clone, Copy)]
 pub enum Place {
     At(usize),
     Differs,
@@ -95,7 +95,7 @@ pub fn match_line(s: &[u8], at: usize, name: &[u8]) -> Place
 }
 
 // Where a reading stands: the position in the text and that in the values; or the text is not of the form.
-#[derive(Drop)]
+#[derive(Clone, Copy)]
 pub enum Cursor {
     On(usize, usize),
     Off,

@@ -7,7 +7,7 @@ ghost use Rattle.visit_steps.specs.inner.Steps.{Spans, part, Next, Entered, Left
 use tables::ModuleIdx;
 
 // The counters of a traversal, lent to each visit: how many are placed, and the next number. Here the two are equal.
-#[derive(Drop)]
+#[derive(Clone, Copy)]
 pub struct ActualOrderTraversal {
     pub placed: usize,
     pub next: u32,
@@ -25,7 +25,7 @@ fn one_more(before: ActualOrderTraversal) -> ActualOrderTraversal
 }
 
 // What a visit still visits: whether it entered its place, whether there is one more, which one, and the rows behind that one.
-#[derive(Drop)]
+#[derive(Clone, Copy)]
 pub struct Pending {
     pub entered: bool,
     pub more: bool,

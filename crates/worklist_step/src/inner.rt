@@ -10,7 +10,7 @@ use request_queue::inner::{push, reach};
 use tables::ModuleIdx;
 
 // How many places of the graph are met, and how many modules are listed.
-#[derive(Drop)]
+#[derive(Clone, Copy)]
 pub struct Counts {
     pub met: usize,
     pub listed: usize,
