@@ -20,7 +20,7 @@ get_d-mem (x ∷ xs) (suc i) h = Memᴰ.tail (get_d-mem xs i (omega arith))
 -- a member has a place
 pub mem-at : {x : ℕ} (xs : List ℕ) → Memᴰ x xs → (k : ℕ) × (k < length xs) × (get_or xs k 0 ≡ x)
 mem-at [] h = absurd (Memᴰ.not-nil h)
-mem-at (y ∷ xs) h = ⊎_elim (λ e. (zero, omega arith, sym e)) (λ t. let r = mem-at xs t in (suc r.0, omega (arith, r.1), r.2)) (Memᴰ.cases_cons h)
+mem-at {x = x} (y ∷ xs) h = ⊎_elim (λ e. (zero, omega arith, sym e)) (λ t. let r = mem-at {x = x} xs t in (suc r.0, omega (arith, r.1), r.2)) (Memᴰ.cases_cons h)
 
 pub not-elem : (x : ℕ) (xs : List ℕ) → elem x xs ≡ false → Memᴰ x xs → ⊥
 not-elem x xs e h = true≢false (sym (mem-elem x xs h) ∙ e)

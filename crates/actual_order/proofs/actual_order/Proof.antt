@@ -11,16 +11,16 @@ use Rattle.actual_order.proofs.actual_order.Tie as tie
 
 returns : tie.Need-returns
 returns c =
-    let a = c.before.before.before.before.before.before.before.before.before.before.before.before.before.before.before.args in
-    let done = c.before.before.before.before.actual-order-with-records in
+    let a = c.args in
+    let done = c.actual_order_with_records in
     let out = done.new.1.1.1.1.1.1.1.1.1 in
     let order : List ℕ = out.0 in
     let hosts : List ℕ = out.1.0 in
     subst (λ (t : Lent). ActualOrder t a.root a.order.now a.hosts.now done.result order hosts)
-    (lent-named-cut a.runtime a.dynamic a.bounds.now a.columns.now a.names.now c.before.before.before.before.before.before.before.before.before.column.ensures c.before.before.before.before.before.before.before.before.column2.ensures c.before.before.before.before.before.before.before.column3.ensures)
+    (lent-named-cut a.runtime a.dynamic a.bounds.now a.columns.now a.names.now c.column.ensures c.column-2.ensures c.column-3.ensures)
     done.ensures
 
-pub actual-order-spec : {M : Type 1} → statement M
-actual-order-spec =
+pub actual_order_spec : {M : Type 1} → statement M
+actual_order_spec =
     tie.close
     (tie.spec (λ c κs. search rules) (λ c κs. search rules) (λ c κs. search rules) (λ c κs. search rules) (λ c. search rules) (λ c. search rules) returns)

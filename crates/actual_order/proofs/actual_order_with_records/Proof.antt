@@ -41,143 +41,143 @@ current-of e = current (written e)
 abbrev of : tie.Start → Project
 of e = named (current-of e) e.args.names.now
 
-abbrev entry : tie.After-column2 → tie.Start
+abbrev entry : tie.After-column-members → tie.Start
 entry k = k.before.before.before.before.before.before.before.before.before.before.before.before
 
-accepts : (k : tie.After-column2) → (lents (entry k)).number ≡ 0
-accepts k = sym k.before.before.before.refusal-number.ensures ∙ k.before.before.if1.false
+accepts : (k : tie.After-column-members) → (lents (entry k)).number ≡ 0
+accepts k = sym k.refusal_number-refused.ensures ∙ k.if-refused-ne0.false
 
-tested : (k : tie.After-column2) → Accepted (written (entry k))
+tested : (k : tie.After-column-members) → Accepted (written (entry k))
 tested k = let a = (entry k).args in lent-accepted a.bounds.now a.columns.now a.names.now (written (entry k)) (accepts k)
 
-ok : (k : tie.After-column2) → Accepted (current-of (entry k))
+ok : (k : tie.After-column-members) → Accepted (current-of (entry k))
 ok k = let a = (entry k).args in lent-current a.bounds.now a.columns.now a.names.now (written (entry k)) (accepts k)
 
 -- the entry is looked for in the project as it is written
-as_written : (k : tie.After-column2) → let a = (entry k).args in read (table a.runtime a.dynamic a.bounds.now a.columns.now) a.importers.now a.kinds.now a.targets.now k.before.column.result.now k.column2.result.now ≡ written (entry k)
+as_written : (k : tie.After-column-members) → let a = (entry k).args in read (table a.runtime a.dynamic a.bounds.now a.columns.now) a.importers.now a.kinds.now a.targets.now k.column-dependencies.result.now k.column-members.result.now ≡ written (entry k)
 as_written k =
     let a = (entry k).args in
-    records-cut a.runtime a.dynamic a.bounds.now a.columns.now a.importers.now a.kinds.now a.targets.now k.before.column.ensures k.column2.ensures
+    records-cut a.runtime a.dynamic a.bounds.now a.columns.now a.importers.now a.kinds.now a.targets.now k.column-dependencies.ensures k.column-members.ensures
 
-found : (k : tie.After-find-entry) → Found (current-of (entry k.before)) (entry k.before).args.root k.find-entry.result
+found : (k : tie.After-find_entry-chunk) → Found (current-of (entry k.before)) (entry k.before).args.root k.find_entry-chunk.result
 found k =
     let e = entry k.before in
-    found-read (written e) e.args.root k.find-entry.result (subst (λ (p : Project). Found p e.args.root k.find-entry.result) (as_written k.before) k.find-entry.ensures)
+    found-read (written e) e.args.root k.find_entry-chunk.result (subst (λ (p : Project). Found p e.args.root k.find_entry-chunk.result) (as_written k.before) k.find_entry-chunk.ensures)
 
-abbrev here : (c : tie.Else2) → let e = entry c.before.before in (is_analysed (of e) e.args.root ≡ true) × Entry (current-of e) e.args.root c.before.find-entry.result
+abbrev here : (c : tie.Else-chunk) → let e = entry c.before.before in (is_analysed (of e) e.args.root ≡ true) × Entry (current-of e) e.args.root c.find_entry-chunk.result
 here c =
     let e = entry c.before.before in
-    let s = (found c.before).some c.if2.false in
+    let s = (found c.before).some c.if-chunk.false in
     (analysed-named (current-of e) e.args.names.now e.args.root ∙ s.0, s.1)
 
 -- the module count, and the part of the hosts that has a place a module
 
-abbrev count : tie.After-rows → ℕ
-count k = k.rows.result
+abbrev count : tie.After-rows-modules → ℕ
+count k = k.rows-modules.result
 
-counted : (k : tie.After-rows) → count k ≡ modules (of (entry k.before.before.before))
+counted : (k : tie.After-rows-modules) → count k ≡ modules (of (entry k.before.before.before))
 unfolding table read current named
-counted k = k.rows.ensures
+counted k = k.rows-modules.ensures
 
-counted-read : (k : tie.After-rows) → count k ≡ modules (current-of (entry k.before.before.before))
+counted-read : (k : tie.After-rows-modules) → count k ≡ modules (current-of (entry k.before.before.before))
 unfolding table read current
-counted-read k = k.rows.ensures
+counted-read k = k.rows-modules.ensures
 
-part : (c : tie.Else4) → let k = c.before.before in length (take (count k) (entry k.before.before.before).args.hosts.now) ≡ count k
-part c = let k = c.before.before in length-take-le (count k) (entry k.before.before.before).args.hosts.now c.if4.false
+part : (c : tie.Else-hosts-modules) → let k = c.before.before in length (take (count k) (entry k.before.before.before).args.hosts.now) ≡ count k
+part c = let k = c.before.before in length-take-le (count k) (entry k.before.before.before).args.hosts.now c.if-hosts-modules.false
 
 -- the columns that were read, and the project that the core reads with them
 
-abbrev made-targets : tie.After-read-current → List ℕ
-made-targets k = k.read-current.new.1.1.1.1.1.1.1.0
+abbrev made-targets : tie.After-read_current → List ℕ
+made-targets k = k.read_current.new.1.1.1.1.1.1.1.0
 
-abbrev made-dependencies : tie.After-read-current → List ℕ
-made-dependencies k = k.read-current.new.1.1.1.1.1.1.1.1.0
+abbrev made-dependencies : tie.After-read_current → List ℕ
+made-dependencies k = k.read_current.new.1.1.1.1.1.1.1.1.0
 
-own : (k : tie.After-read-dependencies3) → let a = k.before.before.before.before.before.before.before.before.before.before.before.before.before.before.before.before.before.before.before.before.before.before.before.before.before.args in read (table a.runtime a.dynamic a.bounds.now a.columns.now) a.importers.now a.kinds.now (take (length a.targets.now) (made-targets k.before.before.before.before.before)) (take k.before.before.rows2.result (made-dependencies k.before.before.before.before.before)) k.before.before.before.before.before.before.before.before.before.before.before.before.before.column2.result.now ≡ current-of k.before.before.before.before.before.before.before.before.before.before.before.before.before.before.before.before.before.before.before.before.before.before.before.before.before
+own : (k : tie.After-read_dependencies-3-1) → let a = k.args in read (table a.runtime a.dynamic a.bounds.now a.columns.now) a.importers.now a.kinds.now (take (length a.targets.now) (made-targets k.before.before.before.before.before)) (take k.rows-dependency_rows.result (made-dependencies k.before.before.before.before.before)) k.column-members.result.now ≡ current-of k.before.before.before.before.before.before.before.before.before.before.before.before.before.before.before.before.before.before.before.before.before.before.before.before.before
 own k =
-    let a = k.before.before.before.before.before.before.before.before.before.before.before.before.before.before.before.before.before.before.before.before.before.before.before.before.before.args in
-    current-cut a.runtime a.dynamic a.bounds.now a.columns.now a.importers.now a.kinds.now a.targets.now k.before.before.before.before.before.read-current.ensures k.before.before.rows2.ensures k.before.before.before.before.before.before.before.before.before.before.before.before.before.column2.ensures
+    let a = k.args in
+    current-cut a.runtime a.dynamic a.bounds.now a.columns.now a.importers.now a.kinds.now a.targets.now k.read_current.ensures k.rows-dependency_rows.ensures k.column-members.ensures
 
-returns : tie.Need-returns
-returns c = let e = c.before.before.before.before.before.before.before.before.before.before in project-refused (lents e) e.args.root e.args.order.now e.args.hosts.now c.before.refusal-number.result c.before.refusal-number.ensures c.if1.true
+returns : tie.Need-returns-then-refused-ne0
+returns c = let e = c.before.before.before.before.before.before.before.before.before.before in project-refused (lents e) e.args.root e.args.order.now e.args.hosts.now c.refusal_number-refused.result c.refusal_number-refused.ensures c.if-refused-ne0.true
 
-find-entry-requires : tie.Need-find-entry-requires
+find-entry-requires : tie.Need-find_entry-chunk-requires
 find-entry-requires c κs = subst Accepted (sym (as_written c)) (tested c)
 
-returns-2 : tie.Need-returns-2
+returns-2 : tie.Need-returns-then-chunk
 returns-2 c =
     let k = c.before.before in
     let e = entry k in
-    root-refused (lents e) e.args.root e.args.order.now e.args.hosts.now (accepts k) (analysed-named (current-of e) e.args.names.now e.args.root ∙ (found c.before).none c.if2.true)
+    root-refused (lents e) e.args.root e.args.order.now e.args.hosts.now (accepts k) (analysed-named (current-of e) e.args.names.now e.args.root ∙ (found c.before).none c.if-chunk.true)
 
-returns-3 : tie.Need-returns-3
+returns-3 : tie.Need-returns-then-order-modules
 returns-3 c =
     let k = c.before.before.before.before in
     let e = entry k in
-    order-refused (lents e) e.args.root e.args.order.now e.args.hosts.now (accepts k) (here c.before.before).0 (omega (arith, counted c.before, c.if3.true))
+    order-refused (lents e) e.args.root e.args.order.now e.args.hosts.now (accepts k) (here c.before.before).0 (omega (arith, counted c.before, c.if-order-modules.true))
 
-returns-4 : tie.Need-returns-4
+returns-4 : tie.Need-returns-then-hosts-modules
 returns-4 c =
     let k = c.before.before.before.before.before in
     let e = entry k in
     let n = counted c.before.before in
-    hosts-refused (lents e) e.args.root e.args.order.now e.args.hosts.now (accepts k) (here c.before.before.before).0 (omega (arith, n, c.before.if3.false)) (omega (arith, n, c.if4.true))
+    hosts-refused (lents e) e.args.root e.args.order.now e.args.hosts.now (accepts k) (here c.before.before.before).0 (omega (arith, n, c.if-order-modules.false)) (omega (arith, n, c.if-hosts-modules.true))
 
-read-current-requires : tie.Need-read-current-requires
+read-current-requires : tie.Need-read_current-requires
 read-current-requires c κs = (tested c.before.before.before.before.before.before.before, (length-replicate {A = ℕ} row_limit 0, length-replicate {A = ℕ} row_limit 0))
 
-array-share-prefix-read-targets : tie.Need-array-share-prefix-read-targets
+array-share-prefix-read-targets : tie.Need-slice_bounds-read_targets-end
 array-share-prefix-read-targets c =
-    let a = c.before.before.before.before.before.before.before.before.before.before.before.before.before.before.before.before.before.before.before.before.before.before.before.args in
-    targets-room a.runtime a.dynamic a.bounds.now a.columns.now a.importers.now a.kinds.now a.targets.now (tested c.before.before.before.before.before.before.before.before.before.before.before) c.before.before.before.read-current.ensures
+    let a = c.args in
+    targets-room a.runtime a.dynamic a.bounds.now a.columns.now a.importers.now a.kinds.now a.targets.now (tested c.before.before.before.before.before.before.before.before.before.before.before) c.read_current.ensures
 
-slice-aggregate-arrange-and-list : tie.Need-slice-aggregate-arrange-and-list
+slice-aggregate-arrange-and-list : tie.Need-slice_bounds-arrange_and_list-end
 slice-aggregate-arrange-and-list c =
-    let a = c.before.before.before.before.before.before.before.before.before.before.before.before.before.before.before.before.before.before.before.before.before.before.before.before.args in
-    targets-size a.runtime a.dynamic a.bounds.now a.columns.now a.importers.now a.kinds.now a.targets.now (tested c.before.before.before.before.before.before.before.before.before.before.before.before) c.before.before.before.before.read-current.ensures
+    let a = c.args in
+    targets-size a.runtime a.dynamic a.bounds.now a.columns.now a.importers.now a.kinds.now a.targets.now (tested c.before.before.before.before.before.before.before.before.before.before.before.before) c.read_current.ensures
 
-array-share-prefix-read-dependencies : tie.Need-array-share-prefix-read-dependencies
+array-share-prefix-read-dependencies : tie.Need-slice_bounds-read_dependencies-end
 array-share-prefix-read-dependencies c =
-    let a = c.before.before.before.before.before.before.before.before.before.before.before.before.before.before.before.before.before.before.before.before.before.before.before.before.args in
-    dependencies-room a.runtime a.dynamic a.bounds.now a.columns.now a.importers.now a.kinds.now a.targets.now (tested c.before.before.before.before.before.before.before.before.before.before.before.before) c.before.before.before.before.read-current.ensures c.before.rows2.ensures
+    let a = c.args in
+    dependencies-room a.runtime a.dynamic a.bounds.now a.columns.now a.importers.now a.kinds.now a.targets.now (tested c.before.before.before.before.before.before.before.before.before.before.before.before) c.read_current.ensures c.rows-dependency_rows.ensures
 
-slice-aggregate-arrange-and-list-2 : tie.Need-slice-aggregate-arrange-and-list-2
+slice-aggregate-arrange-and-list-2 : tie.Need-slice_bounds-arrange_and_list-end-2
 slice-aggregate-arrange-and-list-2 c =
-    let a = c.before.before.before.before.before.before.before.before.before.before.before.before.before.before.before.before.before.before.before.before.before.before.before.before.before.args in
-    dependencies-size a.runtime a.dynamic a.bounds.now a.columns.now a.importers.now a.kinds.now a.targets.now (tested c.before.before.before.before.before.before.before.before.before.before.before.before.before) c.before.before.before.before.before.read-current.ensures c.before.before.rows2.ensures
+    let a = c.args in
+    dependencies-size a.runtime a.dynamic a.bounds.now a.columns.now a.importers.now a.kinds.now a.targets.now (tested c.before.before.before.before.before.before.before.before.before.before.before.before.before) c.read_current.ensures c.rows-dependency_rows.ensures
 
-slice-aggregate-arrange-and-list-3 : tie.Need-slice-aggregate-arrange-and-list-3
+slice-aggregate-arrange-and-list-3 : tie.Need-slice_bounds-arrange_and_list-end-4
 slice-aggregate-arrange-and-list-3 c = sym (part c.before.before.before.before.before.before.before.before.before.before)
 
-slice-relend-prefix-arrange-and-list : tie.Need-slice-relend-prefix-arrange-and-list
-slice-relend-prefix-arrange-and-list c = c.before.before.before.before.before.before.before.before.before.if4.false
+slice-relend-prefix-arrange-and-list : tie.Need-slice_bounds-arrange_and_list-end-3
+slice-relend-prefix-arrange-and-list c = c.if-hosts-modules.false
 
-arrange-and-list-requires : tie.Need-arrange-and-list-requires
+arrange-and-list-requires : tie.Need-arrange_and_list-count-requires
 arrange-and-list-requires c κs =
     let k = c.before.before.before.before.before.before.before.before.before.before.before.before.before.before.before in
     let a = (entry k).args in
     let n = c.before.before.before.before.before.before.before.before.before.before.before.before in
-    subst (λ (p : Project). (names_in (modules p) a.names.now ≡ true) × Listing p a.root c.before.before.before.before.before.before.before.before.before.before.before.before.before.before.find-entry.result (length a.order.now) (length (take (count n) a.hosts.now))) (sym (own c.before.before)) (
+    subst (λ (p : Project). (names_in (modules p) a.names.now ≡ true) × Listing p a.root c.find_entry-chunk.result (length a.order-1.now) (length (take (count n) a.hosts-1.now))) (sym (own c.before.before)) (
       lent-fit a.bounds.now a.columns.now a.names.now (written (entry k)) (accepts k),
-      record { accepted = ok k; entry = (here c.before.before.before.before.before.before.before.before.before.before.before.before.before).1; size = part c.before.before.before.before.before.before.before.before.before.before ∙ counted-read n; room = omega (arith, counted-read n, c.before.before.before.before.before.before.before.before.before.before.before.if3.false) },
+      record { accepted = ok k; entry = (here c.before.before.before.before.before.before.before.before.before.before.before.before.before).1; size = part c.before.before.before.before.before.before.before.before.before.before ∙ counted-read n; room = omega (arith, counted-read n, c.if-order-modules.false) },
     )
 
-returns-5 : tie.Need-returns-5
+returns-5 : tie.Need-returns
 returns-5 c =
     let k = c.before.before.before.before.before.before.before.before.before.before.before.before.before.before.before.before.before.before.before.before in
     let e = entry k in
     let a = e.args in
     let n = c.before.before.before.before.before.before.before.before.before.before.before.before.before.before.before.before.before in
-    let done = c.before.before.before.before.arrange-and-list in
+    let done = c.arrange_and_list-count in
     let out = done.new.1.1.1.1.1.1.1.1.1.1 in
     let order : List ℕ = out.0 in
     let hosts : List ℕ = out.1.0 in
     subst (λ (i : ℕ). ActualOrder (lents e) a.root a.order.now a.hosts.now (Counted done.result) order (hosts ++ drop i a.hosts.now)) (sym (counted n))
-    (run-counted (lents e) a.root a.order.now a.hosts.now (accepts k) (here c.before.before.before.before.before.before.before.before.before.before.before.before.before.before.before.before.before.before).0 (omega (arith, counted n, c.before.before.before.before.before.before.before.before.before.before.before.before.before.before.before.before.if3.false)) (omega (arith, counted n, c.before.before.before.before.before.before.before.before.before.before.before.before.before.before.before.if4.false))
+    (run-counted (lents e) a.root a.order.now a.hosts.now (accepts k) (here c.before.before.before.before.before.before.before.before.before.before.before.before.before.before.before.before.before.before).0 (omega (arith, counted n, c.if-order-modules.false)) (omega (arith, counted n, c.if-hosts-modules.false))
     (subst (λ (p : Project). Listed (run_of (named p a.names.now) (named p a.names.now).wrap a.root) a.order.now order hosts done.result) (own c.before.before.before.before.before.before.before) done.ensures))
 
-pub actual-order-with-records-spec : {M : Type 1} → statement M
-actual-order-with-records-spec =
+pub actual_order_with_records_spec : {M : Type 1} → statement M
+actual_order_with_records_spec =
     tie.close
     (tie.spec (λ c κs. search rules) returns (λ c κs. search rules) (λ c κs. search rules) find-entry-requires returns-2 (λ c κs. search rules) returns-3 returns-4 (λ c. search rules) (λ c. search rules) read-current-requires (λ c κs. search rules) array-share-prefix-read-targets slice-aggregate-arrange-and-list array-share-prefix-read-dependencies slice-aggregate-arrange-and-list-2 slice-relend-prefix-arrange-and-list slice-aggregate-arrange-and-list-3 arrange-and-list-requires (λ c. search rules) (λ c. search rules) returns-5)

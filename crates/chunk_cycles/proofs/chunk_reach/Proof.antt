@@ -10,13 +10,13 @@ use Rattle.chunk_cycles.proofs.chunk_reach.Tie as tie
 
 returns : tie.Need-returns
 returns c =
-    let a = c.before.before.before.before.before.before.before.args in
-    let done = c.chunk-reach-with-records in
+    let a = c.args in
+    let done = c.chunk_reach_with_records in
     subst (λ (t : Lent). ReachPromise t a.chunk done.result)
-    (lent_cut a.runtime a.dynamic a.bounds.now a.columns.now a.names.now c.before.before.before.column.ensures c.before.before.column2.ensures c.before.column3.ensures)
+    (lent_cut a.runtime a.dynamic a.bounds.now a.columns.now a.names.now c.column.ensures c.column-2.ensures c.column-3.ensures)
     done.ensures
 
-pub chunk-reach-spec : {M : Type 1} → statement M
-chunk-reach-spec =
+pub chunk_reach_spec : {M : Type 1} → statement M
+chunk_reach_spec =
     tie.close
     (tie.spec (λ c κs. search rules) (λ c κs. search rules) (λ c κs. search rules) (λ c κs. search rules) returns)

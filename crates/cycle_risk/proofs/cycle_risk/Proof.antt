@@ -11,14 +11,14 @@ use Rattle.cycle_risk.proofs.cycle_risk.Tie as tie
 
 returns : tie.Need-returns
 returns c =
-    let a = c.before.before.before.before.before.before.before.before.before.before.before.args in
-    let done = c.before.before.cycle-risk-with-records in
+    let a = c.args in
+    let done = c.cycle_risk_with_records in
     let made : List ℕ = done.new.1.1.1.1.1.1.1.1.1.0 in
     subst (λ (t : Lent). EntryCycleRisk t a.root a.marks.now done.result made)
-    (lent_cut a.runtime a.dynamic a.bounds.now a.columns.now a.names.now c.before.before.before.before.before.before.column.ensures c.before.before.before.before.before.column2.ensures c.before.before.before.before.column3.ensures)
+    (lent_cut a.runtime a.dynamic a.bounds.now a.columns.now a.names.now c.column.ensures c.column-2.ensures c.column-3.ensures)
     done.ensures
 
-pub cycle-risk-spec : {M : Type 1} → statement M
-cycle-risk-spec =
+pub cycle_risk_spec : {M : Type 1} → statement M
+cycle_risk_spec =
     tie.close
     (tie.spec (λ c κs. search rules) (λ c κs. search rules) (λ c κs. search rules) (λ c κs. search rules) (λ c. search rules) returns)

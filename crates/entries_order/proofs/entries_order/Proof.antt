@@ -11,15 +11,15 @@ use Rattle.entries_order.proofs.entries_order.Tie as tie
 
 returns : tie.Need-returns
 returns c =
-    let done = c.before.before.entries-order-with-records in
+    let done = c.entries_order_with_records in
     let k = c.before.before.before.before in
-    let a = k.before.before.before.before.before.before.before.before.args in
+    let a = k.args in
     let order : List ℕ = done.new.1.1.1.1.1.1.1.1.1.0 in
     subst (λ (t : Lent). EntriesOrder t a.entries.now a.order.now done.result order)
-    (lent_cut a.runtime a.dynamic a.bounds.now a.columns.now a.names.now k.before.before.column.ensures k.before.column2.ensures k.column3.ensures)
+    (lent_cut a.runtime a.dynamic a.bounds.now a.columns.now a.names.now k.column.ensures k.column-2.ensures k.column-3.ensures)
     done.ensures
 
-pub entries-order-spec : {M : Type 1} → statement M
-entries-order-spec =
+pub entries_order_spec : {M : Type 1} → statement M
+entries_order_spec =
     tie.close
     (tie.spec (λ c κs. search rules) (λ c κs. search rules) (λ c κs. search rules) (λ c κs. search rules) (λ c. search rules) returns)

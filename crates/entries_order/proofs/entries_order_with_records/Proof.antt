@@ -30,86 +30,86 @@ written e = let a = e.args in with_records (table a.runtime a.dynamic a.bounds.n
 abbrev of : tie.Start → Project
 of e = current (written e)
 
-abbrev entry : tie.After-rows → tie.Start
+abbrev entry : tie.After-rows-modules → tie.Start
 entry k = k.before.before.before.before.before.before.before.before.before.before.before
 
-accepts : (k : tie.After-rows) → (lents (entry k)).number ≡ 0
-accepts k = sym k.before.before.refusal-number.ensures ∙ k.before.if1.false
+accepts : (k : tie.After-rows-modules) → (lents (entry k)).number ≡ 0
+accepts k = sym k.refusal_number-refused.ensures ∙ k.if-refused-ne0.false
 
-tested : (k : tie.After-rows) → Accepted (written (entry k))
+tested : (k : tie.After-rows-modules) → Accepted (written (entry k))
 tested k = let a = (entry k).args in lent-accepted a.bounds.now a.columns.now a.names.now (written (entry k)) (accepts k)
 
-ok : (k : tie.After-rows) → Accepted (of (entry k))
+ok : (k : tie.After-rows-modules) → Accepted (of (entry k))
 ok k = let a = (entry k).args in lent-current a.bounds.now a.columns.now a.names.now (written (entry k)) (accepts k)
 
 -- the module count
 
-abbrev count : tie.After-rows → ℕ
-count k = k.rows.result
+abbrev count : tie.After-rows-modules → ℕ
+count k = k.rows-modules.result
 
-counted : (k : tie.After-rows) → count k ≡ modules (of (entry k))
+counted : (k : tie.After-rows-modules) → count k ≡ modules (of (entry k))
 unfolding table read current
-counted k = k.rows.ensures
+counted k = k.rows-modules.ensures
 
 -- the test of the entries is the project's
-entries-tested : (k : tie.After-all-below) → k.all-below.result ≡ below (modules (of (entry k.before))) (entry k.before).args.entries.now
-entries-tested k = subst (λ (n : ℕ). k.all-below.result ≡ below n (entry k.before).args.entries.now) (counted k.before) k.all-below.ensures
+entries-tested : (k : tie.After-all_below) → k.all_below.result ≡ below (modules (of (entry k.before))) (entry k.before).args.entries.now
+entries-tested k = subst (λ (n : ℕ). k.all_below.result ≡ below n (entry k.before).args.entries.now) (counted k.before) k.all_below.ensures
 
-fits : (c : tie.Else2) → below (modules (of (entry c.before.before))) (entry c.before.before).args.entries.now ≡ true
-fits c = sym (entries-tested c.before) ∙ not-false c.before.all-below.result c.if2.false
+fits : (c : tie.Else-not-all_below) → below (modules (of (entry c.before.before))) (entry c.before.before).args.entries.now ≡ true
+fits c = sym (entries-tested c.before) ∙ not-false c.all_below.result c.if-not-all_below.false
 
 -- the columns that were read, and the project that the core reads with them
 
-abbrev made-targets : tie.After-read-current → List ℕ
-made-targets k = k.read-current.new.1.1.1.1.1.1.1.0
+abbrev made-targets : tie.After-read_current → List ℕ
+made-targets k = k.read_current.new.1.1.1.1.1.1.1.0
 
-abbrev made-dependencies : tie.After-read-current → List ℕ
-made-dependencies k = k.read-current.new.1.1.1.1.1.1.1.1.0
+abbrev made-dependencies : tie.After-read_current → List ℕ
+made-dependencies k = k.read_current.new.1.1.1.1.1.1.1.1.0
 
-own : (k : tie.After-column) → let a = k.before.before.before.before.before.before.before.before.before.before.before.before.before.before.before.before.before.before.before.before.before.before.before.args in read (table a.runtime a.dynamic a.bounds.now a.columns.now) a.importers.now a.kinds.now (take (length a.targets.now) (made-targets k.before.before.before.before.before.before)) (take k.before.before.before.rows2.result (made-dependencies k.before.before.before.before.before.before)) k.column.result.now ≡ of k.before.before.before.before.before.before.before.before.before.before.before.before.before.before.before.before.before.before.before.before.before.before.before
+own : (k : tie.After-column) → let a = k.args in read (table a.runtime a.dynamic a.bounds.now a.columns.now) a.importers.now a.kinds.now (take (length a.targets.now) (made-targets k.before.before.before.before.before.before)) (take k.rows-dependency_rows.result (made-dependencies k.before.before.before.before.before.before)) k.column.result.now ≡ of k.before.before.before.before.before.before.before.before.before.before.before.before.before.before.before.before.before.before.before.before.before.before.before
 own k =
-    let a = k.before.before.before.before.before.before.before.before.before.before.before.before.before.before.before.before.before.before.before.before.before.before.before.args in
-    current-cut a.runtime a.dynamic a.bounds.now a.columns.now a.importers.now a.kinds.now a.targets.now k.before.before.before.before.before.before.read-current.ensures k.before.before.before.rows2.ensures k.column.ensures
+    let a = k.args in
+    current-cut a.runtime a.dynamic a.bounds.now a.columns.now a.importers.now a.kinds.now a.targets.now k.read_current.ensures k.rows-dependency_rows.ensures k.column.ensures
 
-returns : tie.Need-returns
-returns c = let e = c.before.before.before.before.before.before.before.before.before.before in project-refused (lents e) e.args.entries.now e.args.order.now c.before.refusal-number.result c.before.refusal-number.ensures c.if1.true
+returns : tie.Need-returns-then-refused-ne0
+returns c = let e = c.before.before.before.before.before.before.before.before.before.before in project-refused (lents e) e.args.entries.now e.args.order.now c.refusal_number-refused.result c.refusal_number-refused.ensures c.if-refused-ne0.true
 
-returns-2 : tie.Need-returns-2
+returns-2 : tie.Need-returns-then-not-all_below
 returns-2 c =
     let k = c.before.before in
     let e = entry k in
-    entries-refused (lents e) e.args.entries.now e.args.order.now (accepts k) (sym (entries-tested c.before) ∙ not-true c.before.all-below.result c.if2.true)
+    entries-refused (lents e) e.args.entries.now e.args.order.now (accepts k) (sym (entries-tested c.before) ∙ not-true c.all_below.result c.if-not-all_below.true)
 
-returns-3 : tie.Need-returns-3
+returns-3 : tie.Need-returns-then-order-modules
 returns-3 c =
     let k = c.before.before.before in
     let e = entry k in
-    room-refused (lents e) e.args.entries.now e.args.order.now (accepts k) (fits c.before) (omega (arith, counted k, c.if3.true))
+    room-refused (lents e) e.args.entries.now e.args.order.now (accepts k) (fits c.before) (omega (arith, counted k, c.if-order-modules.true))
 
-read-current-requires : tie.Need-read-current-requires
+read-current-requires : tie.Need-read_current-requires
 read-current-requires c κs = (tested c.before.before.before.before.before, (length-replicate {A = ℕ} row_limit 0, length-replicate {A = ℕ} row_limit 0))
 
-array-share-prefix-read-targets : tie.Need-array-share-prefix-read-targets
+array-share-prefix-read-targets : tie.Need-slice_bounds-read_targets-end
 array-share-prefix-read-targets c =
-    let a = c.before.before.before.before.before.before.before.before.before.before.before.before.before.before.before.before.before.before.before.before.args in
-    targets-room a.runtime a.dynamic a.bounds.now a.columns.now a.importers.now a.kinds.now a.targets.now (tested c.before.before.before.before.before.before.before.before.before) c.before.before.before.read-current.ensures
+    let a = c.args in
+    targets-room a.runtime a.dynamic a.bounds.now a.columns.now a.importers.now a.kinds.now a.targets.now (tested c.before.before.before.before.before.before.before.before.before) c.read_current.ensures
 
-slice-aggregate-list-entries : tie.Need-slice-aggregate-list-entries
+slice-aggregate-list-entries : tie.Need-slice_bounds-list_entries-end
 slice-aggregate-list-entries c =
-    let a = c.before.before.before.before.before.before.before.before.before.before.before.before.before.before.before.before.before.before.before.before.before.args in
-    targets-size a.runtime a.dynamic a.bounds.now a.columns.now a.importers.now a.kinds.now a.targets.now (tested c.before.before.before.before.before.before.before.before.before.before) c.before.before.before.before.read-current.ensures
+    let a = c.args in
+    targets-size a.runtime a.dynamic a.bounds.now a.columns.now a.importers.now a.kinds.now a.targets.now (tested c.before.before.before.before.before.before.before.before.before.before) c.read_current.ensures
 
-array-share-prefix-read-dependencies : tie.Need-array-share-prefix-read-dependencies
+array-share-prefix-read-dependencies : tie.Need-slice_bounds-read_dependencies-end
 array-share-prefix-read-dependencies c =
-    let a = c.before.before.before.before.before.before.before.before.before.before.before.before.before.before.before.before.before.before.before.before.before.args in
-    dependencies-room a.runtime a.dynamic a.bounds.now a.columns.now a.importers.now a.kinds.now a.targets.now (tested c.before.before.before.before.before.before.before.before.before.before) c.before.before.before.before.read-current.ensures c.before.rows2.ensures
+    let a = c.args in
+    dependencies-room a.runtime a.dynamic a.bounds.now a.columns.now a.importers.now a.kinds.now a.targets.now (tested c.before.before.before.before.before.before.before.before.before.before) c.read_current.ensures c.rows-dependency_rows.ensures
 
-slice-aggregate-list-entries-2 : tie.Need-slice-aggregate-list-entries-2
+slice-aggregate-list-entries-2 : tie.Need-slice_bounds-list_entries-end-2
 slice-aggregate-list-entries-2 c =
-    let a = c.before.before.before.before.before.before.before.before.before.before.before.before.before.before.before.before.before.before.before.before.before.before.args in
-    dependencies-size a.runtime a.dynamic a.bounds.now a.columns.now a.importers.now a.kinds.now a.targets.now (tested c.before.before.before.before.before.before.before.before.before.before.before) c.before.before.before.before.before.read-current.ensures c.before.before.rows2.ensures
+    let a = c.args in
+    dependencies-size a.runtime a.dynamic a.bounds.now a.columns.now a.importers.now a.kinds.now a.targets.now (tested c.before.before.before.before.before.before.before.before.before.before.before) c.read_current.ensures c.rows-dependency_rows.ensures
 
-list-entries-requires : tie.Need-list-entries-requires
+list-entries-requires : tie.Need-list_entries-count-requires
 list-entries-requires c κs =
     let k = c.before.before.before.before.before.before.before.before.before.before.before.before.before in
     let e = entry k in
@@ -117,19 +117,19 @@ list-entries-requires c κs =
     (record {
       accepted = ok k;
       inside = entries-inside (lents e) e.args.entries.now e.args.order.now (fits c.before.before.before.before.before.before.before.before.before.before.before);
-      room = omega (arith, counted k, c.before.before.before.before.before.before.before.before.before.before.if3.false);
+      room = omega (arith, counted k, c.if-order-modules.false);
     })
 
-returns-4 : tie.Need-returns-4
+returns-4 : tie.Need-returns
 returns-4 c =
     let k = c.before.before.before.before.before.before.before.before.before.before.before.before.before.before.before.before in
     let e = entry k in
-    let done = c.before.before.list-entries in
+    let done = c.list_entries-count in
     let order : List ℕ = done.new.1.1.1.1.1.1.1.1.1.1.0 in
-    order-written (lents e) e.args.entries.now e.args.order.now (accepts k) (fits c.before.before.before.before.before.before.before.before.before.before.before.before.before.before) (omega (arith, counted k, c.before.before.before.before.before.before.before.before.before.before.before.before.before.if3.false))
+    order-written (lents e) e.args.entries.now e.args.order.now (accepts k) (fits c.before.before.before.before.before.before.before.before.before.before.before.before.before.before) (omega (arith, counted k, c.if-order-modules.false))
     (subst (λ (p : Project). Written (expected_of_entries p e.args.entries.now) e.args.order.now order done.result) (own c.before.before.before.before) done.ensures)
 
-pub entries-order-with-records-spec : {M : Type 1} → statement M
-entries-order-with-records-spec =
+pub entries_order_with_records_spec : {M : Type 1} → statement M
+entries_order_with_records_spec =
     tie.close
     (tie.spec (λ c κs. search rules) returns (λ c κs. search rules) (λ c κs. search rules) returns-2 returns-3 (λ c. search rules) (λ c. search rules) read-current-requires (λ c κs. search rules) array-share-prefix-read-targets slice-aggregate-list-entries array-share-prefix-read-dependencies slice-aggregate-list-entries-2 (λ c κs. search rules) list-entries-requires (λ c. search rules) returns-4)

@@ -11,14 +11,14 @@ use Rattle.expected_order.proofs.expected_order.Tie as tie
 
 returns : tie.Need-returns
 returns c =
-    let a = c.before.before.before.before.before.before.before.before.before.before.before.args in
-    let done = c.before.before.expected-order-with-records in
+    let a = c.args in
+    let done = c.expected_order_with_records in
     let order : List ℕ = done.new.1.1.1.1.1.1.1.1.1.0 in
     subst (λ (t : Lent). ExpectedOrder t a.root a.expected.now done.result order)
-    (lent_cut a.runtime a.dynamic a.bounds.now a.columns.now a.names.now c.before.before.before.before.before.before.column.ensures c.before.before.before.before.before.column2.ensures c.before.before.before.before.column3.ensures)
+    (lent_cut a.runtime a.dynamic a.bounds.now a.columns.now a.names.now c.column.ensures c.column-2.ensures c.column-3.ensures)
     done.ensures
 
-pub expected-order-spec : {M : Type 1} → statement M
-expected-order-spec =
+pub expected_order_spec : {M : Type 1} → statement M
+expected_order_spec =
     tie.close
     (tie.spec (λ c κs. search rules) (λ c κs. search rules) (λ c κs. search rules) (λ c κs. search rules) (λ c. search rules) returns)

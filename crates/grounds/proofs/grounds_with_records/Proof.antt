@@ -33,98 +33,98 @@ written e = let a = e.args in with_records (table a.runtime a.dynamic a.bounds.n
 abbrev of : tie.Start → Project
 of e = current (written e)
 
-abbrev entry : tie.After-rows → tie.Start
+abbrev entry : tie.After-rows-n → tie.Start
 entry k = k.before.before.before.before.before.before.before.before.before.before
 
-accepts : (k : tie.After-rows) → (lents (entry k)).number ≡ 0
-accepts k = sym k.before.before.refusal-number.ensures ∙ k.before.if1.false
+accepts : (k : tie.After-rows-n) → (lents (entry k)).number ≡ 0
+accepts k = sym k.refusal_number-number.ensures ∙ k.if-number-ne0.false
 
-tested : (k : tie.After-rows) → Accepted (written (entry k))
+tested : (k : tie.After-rows-n) → Accepted (written (entry k))
 tested k = let a = (entry k).args in lent-accepted a.bounds.now a.columns.now a.names.now (written (entry k)) (accepts k)
 
-ok : (k : tie.After-rows) → Accepted (of (entry k))
+ok : (k : tie.After-rows-n) → Accepted (of (entry k))
 ok k = let a = (entry k).args in lent-current a.bounds.now a.columns.now a.names.now (written (entry k)) (accepts k)
 
 -- the module count
 
-abbrev count : tie.After-rows → ℕ
-count k = k.rows.result
+abbrev count : tie.After-rows-n → ℕ
+count k = k.rows-n.result
 
-counted : (k : tie.After-rows) → count k ≡ modules (of (entry k))
+counted : (k : tie.After-rows-n) → count k ≡ modules (of (entry k))
 unfolding table read current
-counted k = k.rows.ensures
+counted k = k.rows-n.ensures
 
 -- the part of the slice that has a place a module
-part : (c : tie.Else2) → length (take (count c.before) (entry c.before).args.marks.now) ≡ count c.before
-part c = length-take-le (count c.before) (entry c.before).args.marks.now c.if2.false
+part : (c : tie.Else-marks-n) → length (take (count c.before) (entry c.before).args.marks.now) ≡ count c.before
+part c = length-take-le (count c.before) (entry c.before).args.marks.now c.if-marks-n.false
 
 -- the columns that were read, and the project that the core reads with them
 
-abbrev made-targets : tie.After-read-current → List ℕ
-made-targets k = k.read-current.new.1.1.1.1.1.1.1.0
+abbrev made-targets : tie.After-read_current → List ℕ
+made-targets k = k.read_current.new.1.1.1.1.1.1.1.0
 
-abbrev made-dependencies : tie.After-read-current → List ℕ
-made-dependencies k = k.read-current.new.1.1.1.1.1.1.1.1.0
+abbrev made-dependencies : tie.After-read_current → List ℕ
+made-dependencies k = k.read_current.new.1.1.1.1.1.1.1.1.0
 
-own : (k : tie.After-column) → let a = k.before.before.before.before.before.before.before.before.before.before.before.before.before.before.before.before.before.before.before.before.args in read (table a.runtime a.dynamic a.bounds.now a.columns.now) a.importers.now a.kinds.now (take (length a.targets.now) (made-targets k.before.before.before.before.before.before)) (take k.before.before.before.rows2.result (made-dependencies k.before.before.before.before.before.before)) k.column.result.now ≡ of k.before.before.before.before.before.before.before.before.before.before.before.before.before.before.before.before.before.before.before.before
+own : (k : tie.After-column) → let a = k.args in read (table a.runtime a.dynamic a.bounds.now a.columns.now) a.importers.now a.kinds.now (take (length a.targets.now) (made-targets k.before.before.before.before.before.before)) (take k.rows-dependency_rows.result (made-dependencies k.before.before.before.before.before.before)) k.column.result.now ≡ of k.before.before.before.before.before.before.before.before.before.before.before.before.before.before.before.before.before.before.before.before
 own k =
-    let a = k.before.before.before.before.before.before.before.before.before.before.before.before.before.before.before.before.before.before.before.before.args in
-    current-cut a.runtime a.dynamic a.bounds.now a.columns.now a.importers.now a.kinds.now a.targets.now k.before.before.before.before.before.before.read-current.ensures k.before.before.before.rows2.ensures k.column.ensures
+    let a = k.args in
+    current-cut a.runtime a.dynamic a.bounds.now a.columns.now a.importers.now a.kinds.now a.targets.now k.read_current.ensures k.rows-dependency_rows.ensures k.column.ensures
 
-returns : tie.Need-returns
-returns c = let e = c.before.before.before.before.before.before.before.before.before in project-refused (lents e) e.args.marks.now c.before.refusal-number.result c.before.refusal-number.ensures c.if1.true
+returns : tie.Need-returns-then-number-ne0
+returns c = let e = c.before.before.before.before.before.before.before.before.before in project-refused (lents e) e.args.marks.now c.refusal_number-number.result c.refusal_number-number.ensures c.if-number-ne0.true
 
-returns-2 : tie.Need-returns-2
-returns-2 c = let k = c.before in let e = entry k in room-refused (lents e) e.args.marks.now (accepts k) (omega (arith, counted k, c.if2.true))
+returns-2 : tie.Need-returns-then-marks-n
+returns-2 c = let k = c.before in let e = entry k in room-refused (lents e) e.args.marks.now (accepts k) (omega (arith, counted k, c.if-marks-n.true))
 
-read-current-requires : tie.Need-read-current-requires
+read-current-requires : tie.Need-read_current-requires
 read-current-requires c κs = (tested c.before.before.before, (length-replicate {A = ℕ} row_limit 0, length-replicate {A = ℕ} row_limit 0))
 
-array-share-prefix-read-targets : tie.Need-array-share-prefix-read-targets
+array-share-prefix-read-targets : tie.Need-slice_bounds-read_targets-end
 array-share-prefix-read-targets c =
-    let a = c.before.before.before.before.before.before.before.before.before.before.before.before.before.before.before.before.before.args in
-    targets-room a.runtime a.dynamic a.bounds.now a.columns.now a.importers.now a.kinds.now a.targets.now (tested c.before.before.before.before.before.before.before) c.before.before.before.read-current.ensures
+    let a = c.args in
+    targets-room a.runtime a.dynamic a.bounds.now a.columns.now a.importers.now a.kinds.now a.targets.now (tested c.before.before.before.before.before.before.before) c.read_current.ensures
 
-slice-aggregate-mark-grounds : tie.Need-slice-aggregate-mark-grounds
+slice-aggregate-mark-grounds : tie.Need-slice_bounds-mark_grounds-end
 slice-aggregate-mark-grounds c =
-    let a = c.before.before.before.before.before.before.before.before.before.before.before.before.before.before.before.before.before.before.args in
-    targets-size a.runtime a.dynamic a.bounds.now a.columns.now a.importers.now a.kinds.now a.targets.now (tested c.before.before.before.before.before.before.before.before) c.before.before.before.before.read-current.ensures
+    let a = c.args in
+    targets-size a.runtime a.dynamic a.bounds.now a.columns.now a.importers.now a.kinds.now a.targets.now (tested c.before.before.before.before.before.before.before.before) c.read_current.ensures
 
-array-share-prefix-read-dependencies : tie.Need-array-share-prefix-read-dependencies
+array-share-prefix-read-dependencies : tie.Need-slice_bounds-read_dependencies-end
 array-share-prefix-read-dependencies c =
-    let a = c.before.before.before.before.before.before.before.before.before.before.before.before.before.before.before.before.before.before.args in
-    dependencies-room a.runtime a.dynamic a.bounds.now a.columns.now a.importers.now a.kinds.now a.targets.now (tested c.before.before.before.before.before.before.before.before) c.before.before.before.before.read-current.ensures c.before.rows2.ensures
+    let a = c.args in
+    dependencies-room a.runtime a.dynamic a.bounds.now a.columns.now a.importers.now a.kinds.now a.targets.now (tested c.before.before.before.before.before.before.before.before) c.read_current.ensures c.rows-dependency_rows.ensures
 
-slice-aggregate-mark-grounds-2 : tie.Need-slice-aggregate-mark-grounds-2
+slice-aggregate-mark-grounds-2 : tie.Need-slice_bounds-mark_grounds-end-2
 slice-aggregate-mark-grounds-2 c =
-    let a = c.before.before.before.before.before.before.before.before.before.before.before.before.before.before.before.before.before.before.before.args in
-    dependencies-size a.runtime a.dynamic a.bounds.now a.columns.now a.importers.now a.kinds.now a.targets.now (tested c.before.before.before.before.before.before.before.before.before) c.before.before.before.before.before.read-current.ensures c.before.before.rows2.ensures
+    let a = c.args in
+    dependencies-size a.runtime a.dynamic a.bounds.now a.columns.now a.importers.now a.kinds.now a.targets.now (tested c.before.before.before.before.before.before.before.before.before) c.read_current.ensures c.rows-dependency_rows.ensures
 
-slice-relend-prefix-mark-grounds : tie.Need-slice-relend-prefix-mark-grounds
-slice-relend-prefix-mark-grounds c = c.before.before.before.before.before.before.before.before.before.if2.false
+slice-relend-prefix-mark-grounds : tie.Need-slice_bounds-mark_grounds-end-3
+slice-relend-prefix-mark-grounds c = c.if-marks-n.false
 
-slice-aggregate-mark-grounds-3 : tie.Need-slice-aggregate-mark-grounds-3
+slice-aggregate-mark-grounds-3 : tie.Need-slice_bounds-mark_grounds-end-4
 slice-aggregate-mark-grounds-3 c = sym (part c.before.before.before.before.before.before.before.before.before.before)
 
-mark-grounds-requires : tie.Need-mark-grounds-requires
+mark-grounds-requires : tie.Need-mark_grounds-count-requires
 mark-grounds-requires c κs =
     let k = c.before.before.before.before.before.before.before.before.before.before.before in
     let e = entry k in
     subst (λ (p : Project). Places p (modules p) (length (take (count k) e.args.marks.now))) (sym (own c.before)) (record { accepted = ok k; size = part c.before.before.before.before.before.before.before.before.before.before ∙ counted k })
 
-returns-3 : tie.Need-returns-3
+returns-3 : tie.Need-returns
 returns-3 c =
     let k = c.before.before.before.before.before.before.before.before.before.before.before.before.before.before in
     let e = entry k in
-    let done = c.before.before.mark-grounds in
+    let done = c.mark_grounds-count in
     let made : List ℕ = done.new.1.1.1.1.1.1.1.1.1.0 in
     let whole = own c.before.before.before.before in
     subst (λ (n : ℕ). ModuleGrounds (lents e) e.args.marks.now (Counted done.result) (made ++ drop n e.args.marks.now)) (sym (counted k))
-    (grounds-counted (lents e) e.args.marks.now (accepts k) (omega (arith, counted k, c.before.before.before.before.before.before.before.before.before.before.before.before.before.if2.false)) made done.result
+    (grounds-counted (lents e) e.args.marks.now (accepts k) (omega (arith, counted k, c.if-marks-n.false)) made done.result
     (subst (λ (p : Project). made ≡ grounds_of p) whole done.ensures.0)
     (subst (λ (p : Project). done.result ≡ ones (grounds_of p)) whole done.ensures.1))
 
-pub grounds-with-records-spec : {M : Type 1} → statement M
-grounds-with-records-spec =
+pub grounds_with_records_spec : {M : Type 1} → statement M
+grounds_with_records_spec =
     tie.close
     (tie.spec (λ c κs. search rules) returns (λ c κs. search rules) returns-2 (λ c. search rules) (λ c. search rules) read-current-requires (λ c κs. search rules) array-share-prefix-read-targets slice-aggregate-mark-grounds array-share-prefix-read-dependencies slice-aggregate-mark-grounds-2 (λ c κs. search rules) slice-relend-prefix-mark-grounds slice-aggregate-mark-grounds-3 mark-grounds-requires (λ c. search rules) returns-3)

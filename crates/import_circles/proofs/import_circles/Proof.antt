@@ -22,27 +22,27 @@ column-requires-2 c κs = search rules
 column-requires-3 : tie.Need-column-requires-3
 column-requires-3 c κs = search rules
 
-import-circles-with-records-requires : tie.Need-import-circles-with-records-requires
+import-circles-with-records-requires : tie.Need-import_circles_with_records-requires
 import-circles-with-records-requires c κs = search rules
 
-same_length : tie.Need-same-length
+same_length : tie.Need-shape_of-paths
 same_length c = search rules
 
-same-length-2 : tie.Need-same-length-2
+same-length-2 : tie.Need-shape_of-lengths
 same-length-2 c = search rules
 
 returns : tie.Need-returns
 returns c =
-    let a = c.before.before.before.before.before.before.before.before.before.before.before.before.before.before.before.args in
-    let done = c.before.before.before.before.import-circles-with-records in
+    let a = c.args in
+    let done = c.import_circles_with_records in
     let paths : List ℕ = done.new.1.1.1.1.1.1.1.1.0 in
     let lengths : List ℕ = done.new.1.1.1.1.1.1.1.1.1.0 in
     subst (λ (t : Lent). ImportCircles t a.paths.now a.lengths.now done.result paths lengths)
-    (lent_cut a.runtime a.dynamic a.bounds.now a.columns.now a.names.now c.before.before.before.before.before.before.before.before.before.column.ensures c.before.before.before.before.before.before.before.before.column2.ensures c.before.before.before.before.before.before.before.column3.ensures)
+    (lent_cut a.runtime a.dynamic a.bounds.now a.columns.now a.names.now c.column.ensures c.column-2.ensures c.column-3.ensures)
     done.ensures
 
-pub import-circles-spec : {M : Type 1} → statement M
-import-circles-spec =
+pub import_circles_spec : {M : Type 1} → statement M
+import_circles_spec =
     tie.close
     (tie.spec
     column-requires

@@ -34,89 +34,89 @@ written e = let a = e.args in with_records (table a.runtime a.dynamic a.bounds.n
 abbrev of : tie.Start → Project
 of e = current (written e)
 
-accepts : (k : tie.Else1) → (lents k.before.before.before.before.before.before.before.before.before.before).number ≡ 0
-accepts k = sym k.before.refusal-number.ensures ∙ k.if1.false
+accepts : (k : tie.Else-refused-ne0) → (lents k.before.before.before.before.before.before.before.before.before.before).number ≡ 0
+accepts k = sym k.refusal_number-refused.ensures ∙ k.if-refused-ne0.false
 
-tested : (k : tie.Else1) → Accepted (written k.before.before.before.before.before.before.before.before.before.before)
-tested k = let a = k.before.before.before.before.before.before.before.before.before.before.args in lent-accepted a.bounds.now a.columns.now a.names.now (written k.before.before.before.before.before.before.before.before.before.before) (accepts k)
+tested : (k : tie.Else-refused-ne0) → Accepted (written k.before.before.before.before.before.before.before.before.before.before)
+tested k = let a = k.args in lent-accepted a.bounds.now a.columns.now a.names.now (written k.before.before.before.before.before.before.before.before.before.before) (accepts k)
 
-ok : (k : tie.Else1) → Accepted (of k.before.before.before.before.before.before.before.before.before.before)
-ok k = let a = k.before.before.before.before.before.before.before.before.before.before.args in lent-current a.bounds.now a.columns.now a.names.now (written k.before.before.before.before.before.before.before.before.before.before) (accepts k)
+ok : (k : tie.Else-refused-ne0) → Accepted (of k.before.before.before.before.before.before.before.before.before.before)
+ok k = let a = k.args in lent-current a.bounds.now a.columns.now a.names.now (written k.before.before.before.before.before.before.before.before.before.before) (accepts k)
 
 -- the columns that were read, and the project that the core reads with them
 
-abbrev made-targets : tie.After-read-current → List ℕ
-made-targets k = k.read-current.new.1.1.1.1.1.1.1.0
+abbrev made-targets : tie.After-read_current → List ℕ
+made-targets k = k.read_current.new.1.1.1.1.1.1.1.0
 
-abbrev made-dependencies : tie.After-read-current → List ℕ
-made-dependencies k = k.read-current.new.1.1.1.1.1.1.1.1.0
+abbrev made-dependencies : tie.After-read_current → List ℕ
+made-dependencies k = k.read_current.new.1.1.1.1.1.1.1.1.0
 
-own : (k : tie.After-column) → let a = k.before.before.before.before.before.before.before.before.before.before.before.before.before.before.before.before.before.before.before.args in read (table a.runtime a.dynamic a.bounds.now a.columns.now) a.importers.now a.kinds.now (take (length a.targets.now) (made-targets k.before.before.before.before.before.before)) (take k.before.before.before.rows.result (made-dependencies k.before.before.before.before.before.before)) k.column.result.now ≡ of k.before.before.before.before.before.before.before.before.before.before.before.before.before.before.before.before.before.before.before
+own : (k : tie.After-column) → let a = k.args in read (table a.runtime a.dynamic a.bounds.now a.columns.now) a.importers.now a.kinds.now (take (length a.targets.now) (made-targets k.before.before.before.before.before.before)) (take k.rows-dependency_rows.result (made-dependencies k.before.before.before.before.before.before)) k.column.result.now ≡ of k.before.before.before.before.before.before.before.before.before.before.before.before.before.before.before.before.before.before.before
 own k =
-    let a = k.before.before.before.before.before.before.before.before.before.before.before.before.before.before.before.before.before.before.before.args in
-    current-cut a.runtime a.dynamic a.bounds.now a.columns.now a.importers.now a.kinds.now a.targets.now k.before.before.before.before.before.before.read-current.ensures k.before.before.before.rows.ensures k.column.ensures
+    let a = k.args in
+    current-cut a.runtime a.dynamic a.bounds.now a.columns.now a.importers.now a.kinds.now a.targets.now k.read_current.ensures k.rows-dependency_rows.ensures k.column.ensures
 
-refusal-number-requires : tie.Need-refusal-number-requires
+refusal-number-requires : tie.Need-refusal_number-refused-requires
 refusal-number-requires c κs = search rules
 
-returns : tie.Need-returns
-returns c = let e = c.before.before.before.before.before.before.before.before.before.before in project-refused (lents e) e.args.paths.now e.args.lengths.now c.before.refusal-number.result c.before.refusal-number.ensures c.if1.true
+returns : tie.Need-returns-then-refused-ne0
+returns c = let e = c.before.before.before.before.before.before.before.before.before.before in project-refused (lents e) e.args.paths.now e.args.lengths.now c.refusal_number-refused.result c.refusal_number-refused.ensures c.if-refused-ne0.true
 
-slice-aggregate-read-current : tie.Need-slice-aggregate-read-current
+slice-aggregate-read-current : tie.Need-slice_bounds-read_current-end
 slice-aggregate-read-current c = search rules
 
-slice-aggregate-read-current-2 : tie.Need-slice-aggregate-read-current-2
+slice-aggregate-read-current-2 : tie.Need-slice_bounds-read_current-end-2
 slice-aggregate-read-current-2 c = search rules
 
-read-current-requires : tie.Need-read-current-requires
+read-current-requires : tie.Need-read_current-requires
 read-current-requires c κs = (tested c.before.before, (length-replicate {A = ℕ} row_limit 0, length-replicate {A = ℕ} row_limit 0))
 
-rows-requires : tie.Need-rows-requires
+rows-requires : tie.Need-rows-dependency_rows-requires
 rows-requires c κs = search rules
 
-array-share-prefix-read-targets : tie.Need-array-share-prefix-read-targets
+array-share-prefix-read-targets : tie.Need-slice_bounds-read_targets-end
 array-share-prefix-read-targets c =
-    let a = c.before.before.before.before.before.before.before.before.before.before.before.before.before.before.before.before.args in
-    targets-room a.runtime a.dynamic a.bounds.now a.columns.now a.importers.now a.kinds.now a.targets.now (tested c.before.before.before.before.before.before) c.before.before.before.read-current.ensures
+    let a = c.args in
+    targets-room a.runtime a.dynamic a.bounds.now a.columns.now a.importers.now a.kinds.now a.targets.now (tested c.before.before.before.before.before.before) c.read_current.ensures
 
-slice-aggregate-list-circles : tie.Need-slice-aggregate-list-circles
+slice-aggregate-list-circles : tie.Need-slice_bounds-list_circles-end
 slice-aggregate-list-circles c =
-    let a = c.before.before.before.before.before.before.before.before.before.before.before.before.before.before.before.before.before.args in
-    targets-size a.runtime a.dynamic a.bounds.now a.columns.now a.importers.now a.kinds.now a.targets.now (tested c.before.before.before.before.before.before.before) c.before.before.before.before.read-current.ensures
+    let a = c.args in
+    targets-size a.runtime a.dynamic a.bounds.now a.columns.now a.importers.now a.kinds.now a.targets.now (tested c.before.before.before.before.before.before.before) c.read_current.ensures
 
-array-share-prefix-read-dependencies : tie.Need-array-share-prefix-read-dependencies
+array-share-prefix-read-dependencies : tie.Need-slice_bounds-read_dependencies-end
 array-share-prefix-read-dependencies c =
-    let a = c.before.before.before.before.before.before.before.before.before.before.before.before.before.before.before.before.before.args in
-    dependencies-room a.runtime a.dynamic a.bounds.now a.columns.now a.importers.now a.kinds.now a.targets.now (tested c.before.before.before.before.before.before.before) c.before.before.before.before.read-current.ensures c.before.rows.ensures
+    let a = c.args in
+    dependencies-room a.runtime a.dynamic a.bounds.now a.columns.now a.importers.now a.kinds.now a.targets.now (tested c.before.before.before.before.before.before.before) c.read_current.ensures c.rows-dependency_rows.ensures
 
-slice-aggregate-list-circles-2 : tie.Need-slice-aggregate-list-circles-2
+slice-aggregate-list-circles-2 : tie.Need-slice_bounds-list_circles-end-2
 slice-aggregate-list-circles-2 c =
-    let a = c.before.before.before.before.before.before.before.before.before.before.before.before.before.before.before.before.before.before.args in
-    dependencies-size a.runtime a.dynamic a.bounds.now a.columns.now a.importers.now a.kinds.now a.targets.now (tested c.before.before.before.before.before.before.before.before) c.before.before.before.before.before.read-current.ensures c.before.before.rows.ensures
+    let a = c.args in
+    dependencies-size a.runtime a.dynamic a.bounds.now a.columns.now a.importers.now a.kinds.now a.targets.now (tested c.before.before.before.before.before.before.before.before) c.read_current.ensures c.rows-dependency_rows.ensures
 
 column-requires : tie.Need-column-requires
 column-requires c κs = search rules
 
-list-circles-requires : tie.Need-list-circles-requires
+list-circles-requires : tie.Need-list_circles-requires
 list-circles-requires c κs = subst Accepted (sym (own c.before.before)) (ok c.before.before.before.before.before.before.before.before.before.before.before)
 
-same_length : tie.Need-same-length
+same_length : tie.Need-shape_of-paths
 same_length c = search rules
 
-same-length-2 : tie.Need-same-length-2
+same-length-2 : tie.Need-shape_of-lengths
 same-length-2 c = search rules
 
-returns-2 : tie.Need-returns-2
+returns-2 : tie.Need-returns
 returns-2 c =
     let e = c.before.before.before.before.before.before.before.before.before.before.before.before.before.before.before.before.before.before.before.before.before.before.before.before.before.before in
-    let done = c.before.before.before.before.list-circles in
+    let done = c.list_circles in
     let paths : List ℕ = done.new.1.1.1.1.1.1.1.1.1.0 in
     let lengths : List ℕ = done.new.1.1.1.1.1.1.1.1.1.1.0 in
     circles-gathered (lents e) e.args.paths.now e.args.lengths.now (accepts c.before.before.before.before.before.before.before.before.before.before.before.before.before.before.before.before)
     (subst (λ (p : Project). Gathered (circles_of p) e.args.paths.now e.args.lengths.now done.result paths lengths) (own c.before.before.before.before.before.before.before) done.ensures)
 
-pub import-circles-with-records-spec : {M : Type 1} → statement M
-import-circles-with-records-spec =
+pub import_circles_with_records_spec : {M : Type 1} → statement M
+import_circles_with_records_spec =
     tie.close
     (tie.spec
     refusal-number-requires

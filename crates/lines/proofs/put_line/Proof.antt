@@ -8,105 +8,105 @@ use borrow.Author.Rules.{rules}
 use Rattle.lines.proofs.put_line.Statement.{statement}
 use Rattle.lines.proofs.put_line.Tie as tie
 
-returns : tie.Need-returns
+returns : tie.Need-returns-then-out-word
 returns c =
-    let a = c.before.before.before.before.before.args in
+    let a = c.args in
     let n = line-length a.word.now a.entry.now a.numbers.now in
-    refused a.out.now a.word.now a.entry.now a.numbers.now (omega (arith, n, c.if1.true))
+    refused a.out.now a.word.now a.entry.now a.numbers.now (omega (arith, n, c.if-out-word.true))
 
-sub-room-after : tie.Need-overflow-sub-room-after
+sub-room-after : tie.Need-overflow_sub-out
 sub-room-after c = search rules
 
-sub-room-after-2 : tie.Need-overflow-sub-room-after-2
+sub-room-after-2 : tie.Need-overflow_sub-out-2
 sub-room-after-2 c = search rules
 
-room-after-requires : tie.Need-room-after-requires
+room-after-requires : tie.Need-room_after-behind_word-requires
 room-after-requires c κs = search rules
 
-enum-known-behind-word : tie.Need-enum-known-behind-word
+enum-known-behind-word : tie.Need-enum_known-behind_word
 enum-known-behind-word c = search rules
 
-enum_told : tie.Need-enum-told
+enum_told : tie.Need-enum_told-1
 enum_told c = search rules
 
-returns-2 : tie.Need-returns-2
+returns-2 : tie.Need-returns-in_default
 returns-2 c =
-    let a = c.before.before.before.before.before.before.before.before.args in
+    let a = c.args in
     let n = line-length a.word.now a.entry.now a.numbers.now in
-    let o : RoomIs (length a.out.now - length a.word.now - 1) a.entry.now Short = rw c.enum_told.given.1 at c.before.before.room_after.ensures in
-    refused a.out.now a.word.now a.entry.now a.numbers.now (omega (arith, n, o, c.before.before.before.if1.false))
+    let o : RoomIs (length a.out.now - length a.word.now - 1) a.entry.now Short = rw c.enum_told-1.given.1 at c.room_after-behind_word.ensures in
+    refused a.out.now a.word.now a.entry.now a.numbers.now (omega (arith, n, o, c.if-out-word.false))
 
-room-after-requires-2 : tie.Need-room-after-requires-2
+room-after-requires-2 : tie.Need-room_after-behind_all-requires
 room-after-requires-2 c κs = search rules
 
-enum-told-2 : tie.Need-enum-told-2
+enum-told-2 : tie.Need-enum_told-in-Left-behind_all
 enum-told-2 c = search rules
 
-enum-told-3 : tie.Need-enum-told-3
+enum-told-3 : tie.Need-enum_told-in_default-behind_all
 enum-told-3 c = search rules
 
-returns-3 : tie.Need-returns-3
+returns-3 : tie.Need-returns-in_default-behind_all
 returns-3 c =
-    let a = c.before.before.before.before.before.before.before.before.before.before.before.before.args in
-    let g = c.before.before.before.before.behind-word.given in
-    let o : RoomIs (length a.out.now - length a.word.now - 1) a.entry.now (Left g.0.0) = rw g.1 at c.before.before.before.before.before.before.room_after.ensures in
+    let a = c.args in
+    let g = c.behind_word-1.given in
+    let o : RoomIs (length a.out.now - length a.word.now - 1) a.entry.now (Left g.0.0) = rw g.1 at c.room_after-behind_word.ensures in
     let n = line-length a.word.now a.entry.now a.numbers.now in
-    let u : RoomIs g.0.0 a.numbers.now Short = rw c.enum-told3.given.1 at c.before.before.room-after2.ensures in
-    refused a.out.now a.word.now a.entry.now a.numbers.now (omega (arith, n, o, u, c.before.before.before.before.before.before.before.if1.false))
+    let u : RoomIs g.0.0 a.numbers.now Short = rw c.enum_told-in_default-behind_all-1.given.1 at c.room_after-behind_all.ensures in
+    refused a.out.now a.word.now a.entry.now a.numbers.now (omega (arith, n, o, u, c.if-out-word.false))
 
-put-bytes-requires : tie.Need-put-bytes-requires
+put-bytes-requires : tie.Need-put_bytes-at-requires
 put-bytes-requires c κs = search rules
 
-put-fields-requires : tie.Need-put-fields-requires
+put-fields-requires : tie.Need-put_fields-at-requires
 put-fields-requires c κs =
-    let a = c.before.before.before.before.before.before.before.before.before.before.before.before.before.before.before.before.before.args in
-    let g = c.before.before.before.before.before.before.before.before.before.behind-word.given in
-    let o : RoomIs (length a.out.now - length a.word.now - 1) a.entry.now (Left g.0.0) = rw g.1 at c.before.before.before.before.before.before.before.before.before.before.before.room_after.ensures in
-    let p = c.before.before.before.put-bytes in
-    omega (arith, o, c.before.before.before.before.before.before.before.before.before.before.before.before.if1.false, p.ensures.next, p.auto.0)
+    let a = c.args in
+    let g = c.behind_word-1.given in
+    let o : RoomIs (length a.out.now - length a.word.now - 1) a.entry.now (Left g.0.0) = rw g.1 at c.room_after-behind_word.ensures in
+    let p = c.put_bytes-at in
+    omega (arith, o, c.if-out-word.false, p.ensures.next, p.auto.0)
 
-put-fields-requires-2 : tie.Need-put-fields-requires-2
+put-fields-requires-2 : tie.Need-put_fields-at-requires-2
 put-fields-requires-2 c κs =
-    let a = c.before.before.before.before.before.before.before.before.before.before.before.before.before.before.before.before.before.before.before.before.before.args in
-    let g = c.before.before.before.before.before.before.before.before.before.before.before.before.before.behind-word.given in
-    let o : RoomIs (length a.out.now - length a.word.now - 1) a.entry.now (Left g.0.0) = rw g.1 at c.before.before.before.before.before.before.before.before.before.before.before.before.before.before.before.room_after.ensures in
-    let h = c.before.before.before.before.before.before.before.before.before.enum-told2.given in
-    let u : RoomIs g.0.0 a.numbers.now (Left h.0.0) = rw h.1 at c.before.before.before.before.before.before.before.before.before.before.before.room-after2.ensures in
-    let p = c.before.before.before.before.before.before.before.put-bytes in
-    let e = c.before.before.before.put-fields in
-    omega (arith, o, u, c.before.before.before.before.before.before.before.before.before.before.before.before.before.before.before.before.if1.false, p.ensures.next, p.auto.0, e.ensures.next, e.auto.0)
+    let a = c.args in
+    let g = c.behind_word-1.given in
+    let o : RoomIs (length a.out.now - length a.word.now - 1) a.entry.now (Left g.0.0) = rw g.1 at c.room_after-behind_word.ensures in
+    let h = c.enum_told-in-Left-behind_all-1.given in
+    let u : RoomIs g.0.0 a.numbers.now (Left h.0.0) = rw h.1 at c.room_after-behind_all.ensures in
+    let p = c.put_bytes-at in
+    let e = c.put_fields-at in
+    omega (arith, o, u, c.if-out-word.false, p.ensures.next, p.auto.0, e.ensures.next, e.auto.0)
 
-put-byte-requires : tie.Need-put-byte-requires
+put-byte-requires : tie.Need-put_byte-requires
 put-byte-requires c κs =
-    let a = c.before.before.before.before.before.before.before.before.before.before.before.before.before.before.before.before.before.before.before.before.before.before.before.before.before.args in
-    let g = c.before.before.before.before.before.before.before.before.before.before.before.before.before.before.before.before.before.behind-word.given in
-    let o : RoomIs (length a.out.now - length a.word.now - 1) a.entry.now (Left g.0.0) = rw g.1 at c.before.before.before.before.before.before.before.before.before.before.before.before.before.before.before.before.before.before.before.room_after.ensures in
-    let h = c.before.before.before.before.before.before.before.before.before.before.before.before.before.enum-told2.given in
-    let u : RoomIs g.0.0 a.numbers.now (Left h.0.0) = rw h.1 at c.before.before.before.before.before.before.before.before.before.before.before.before.before.before.before.room-after2.ensures in
-    let p = c.before.before.before.before.before.before.before.before.before.before.before.put-bytes in
-    let e = c.before.before.before.before.before.before.before.put-fields in
-    let f = c.before.before.before.put-fields2 in
-    omega (arith, o, u, c.before.before.before.before.before.before.before.before.before.before.before.before.before.before.before.before.before.before.before.before.if1.false, p.ensures.next, p.auto.0, e.ensures.next, e.auto.0, f.ensures.next, f.auto.0)
+    let a = c.args in
+    let g = c.behind_word-1.given in
+    let o : RoomIs (length a.out.now - length a.word.now - 1) a.entry.now (Left g.0.0) = rw g.1 at c.room_after-behind_word.ensures in
+    let h = c.enum_told-in-Left-behind_all-1.given in
+    let u : RoomIs g.0.0 a.numbers.now (Left h.0.0) = rw h.1 at c.room_after-behind_all.ensures in
+    let p = c.put_bytes-at in
+    let e = c.put_fields-at in
+    let f = c.put_fields-at-2 in
+    omega (arith, o, u, c.if-out-word.false, p.ensures.next, p.auto.0, e.ensures.next, e.auto.0, f.ensures.next, f.auto.0)
 
-same_length : tie.Need-same-length
+same_length : tie.Need-shape_of-out
 same_length c = search rules
 
-returns-4 : tie.Need-returns-4
+returns-4 : tie.Need-returns
 returns-4 c =
-    let a = c.before.before.before.before.before.before.before.before.before.before.before.before.before.before.before.before.before.before.before.before.before.before.before.before.before.before.before.before.args in
-    let g = c.before.before.before.before.before.before.before.before.before.before.before.before.before.before.before.before.before.before.before.before.behind-word.given in
-    let o : RoomIs (length a.out.now - length a.word.now - 1) a.entry.now (Left g.0.0) = rw g.1 at c.before.before.before.before.before.before.before.before.before.before.before.before.before.before.before.before.before.before.before.before.before.before.room_after.ensures in
-    let h = c.before.before.before.before.before.before.before.before.before.before.before.before.before.before.before.before.enum-told2.given in
-    let u : RoomIs g.0.0 a.numbers.now (Left h.0.0) = rw h.1 at c.before.before.before.before.before.before.before.before.before.before.before.before.before.before.before.before.before.before.room-after2.ensures in
+    let a = c.args in
+    let g = c.behind_word-1.given in
+    let o : RoomIs (length a.out.now - length a.word.now - 1) a.entry.now (Left g.0.0) = rw g.1 at c.room_after-behind_word.ensures in
+    let h = c.enum_told-in-Left-behind_all-1.given in
+    let u : RoomIs g.0.0 a.numbers.now (Left h.0.0) = rw h.1 at c.room_after-behind_all.ensures in
     let n = line-length a.word.now a.entry.now a.numbers.now in
-    let p = c.before.before.before.before.before.before.before.before.before.before.before.before.before.before.put-bytes in
-    let e = c.before.before.before.before.before.before.before.before.before.before.put-fields in
-    let f = c.before.before.before.before.before.before.put-fields2 in
-    let b = c.before.before.put_byte in
-    written a.out.now a.word.now a.entry.now a.numbers.now b.new.0 b.result (omega (arith, n, o, u, c.before.before.before.before.before.before.before.before.before.before.before.before.before.before.before.before.before.before.before.before.before.before.before.if1.false)) (put_whole a.out.now 0 a.word.now a.entry.now a.numbers.now p.new.0 p.result e.new.0 e.result f.new.0 f.result b.new.0 b.result p.ensures e.ensures f.ensures b.ensures)
+    let p = c.put_bytes-at in
+    let e = c.put_fields-at in
+    let f = c.put_fields-at-2 in
+    let b = c.put_byte in
+    written a.out.now a.word.now a.entry.now a.numbers.now b.new.0 b.result (omega (arith, n, o, u, c.if-out-word.false)) (put_whole a.out.now 0 a.word.now a.entry.now a.numbers.now p.new.0 p.result e.new.0 e.result f.new.0 f.result b.new.0 b.result p.ensures e.ensures f.ensures b.ensures)
 
-pub put-line-spec : {M : Type 1} → statement M
-put-line-spec =
+pub put_line_spec : {M : Type 1} → statement M
+put_line_spec =
     tie.close
     (tie.spec
     returns

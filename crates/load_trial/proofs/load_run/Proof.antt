@@ -11,16 +11,16 @@ use Rattle.load_trial.proofs.load_run.Tie as tie
 
 returns : tie.Need-returns
 returns c =
-    let a = c.before.before.before.before.before.before.before.before.before.before.before.before.before.before.before.before.args in
-    let done = c.before.before.before.before.load-run-with-records in
+    let a = c.args in
+    let done = c.load_run_with_records in
     let out = done.new.1.1.1.1.1.1.1.1.1.1 in
     let steps : List ℕ = out.0 in
     let hosts : List ℕ = out.1.0 in
     subst (λ (t : Lent). LoadRun t a.root a.plan.now a.steps.now a.hosts.now done.result steps hosts)
-    (lent-named-cut a.runtime a.dynamic a.bounds.now a.columns.now a.names.now c.before.before.before.before.before.before.before.before.before.column.ensures c.before.before.before.before.before.before.before.before.column2.ensures c.before.before.before.before.before.before.before.column3.ensures)
+    (lent-named-cut a.runtime a.dynamic a.bounds.now a.columns.now a.names.now c.column.ensures c.column-2.ensures c.column-3.ensures)
     done.ensures
 
-pub load-run-spec : {M : Type 1} → statement M
-load-run-spec =
+pub load_run_spec : {M : Type 1} → statement M
+load_run_spec =
     tie.close
     (tie.spec (λ c κs. search rules) (λ c κs. search rules) (λ c κs. search rules) (λ c κs. search rules) (λ c. search rules) (λ c. search rules) returns)

@@ -11,11 +11,11 @@ use Rattle.load_trial.proofs.load_step.Tie as tie
 
 returns : tie.Need-returns
 returns c =
-    let a = c.before.before.before.before.before.before.before.before.args in
-    let done = c.load-step-with-records in
+    let a = c.args in
+    let done = c.load_step_with_records in
     subst (λ (t : Lent). done.result ≡ load_step t a.root a.plan.now a.number)
-    (lent-named-cut a.runtime a.dynamic a.bounds.now a.columns.now a.names.now c.before.before.before.column.ensures c.before.before.column2.ensures c.before.column3.ensures)
+    (lent-named-cut a.runtime a.dynamic a.bounds.now a.columns.now a.names.now c.column.ensures c.column-2.ensures c.column-3.ensures)
     done.ensures
 
-pub load-step-spec : {M : Type 1} → statement M
-load-step-spec = tie.close (tie.spec (λ c κs. search rules) (λ c κs. search rules) (λ c κs. search rules) (λ c κs. search rules) returns)
+pub load_step_spec : {M : Type 1} → statement M
+load_step_spec = tie.close (tie.spec (λ c κs. search rules) (λ c κs. search rules) (λ c κs. search rules) (λ c κs. search rules) returns)

@@ -10,41 +10,41 @@ use Rattle.name_list.proofs.find_names.Statement.{statement}
 use Rattle.name_list.proofs.find_names.Tie as tie
 
 -- the line `name` stands there
-met : (k : tie.After-line) → LineIs k.before.before.before.before.before.before.args.text.now k.before.before.before.before.before.before.args.at (bytes "name") (At k.line.given.0.0)
-met k = rw k.line.given.1 at k.before.before.match-line.ensures
+met : (k : tie.In-At-2) → LineIs k.args.text.now k.args.at (bytes "name") (At k.line-1.given.0.0)
+met k = rw k.line-1.given.1 at k.match_line-line.ensures
 
-returns : tie.Need-returns
+returns : tie.Need-returns-then-text-at
 returns c =
-    let a = c.before.before.args in
-    no-list a.text.now a.at a.modules c.if1.true
+    let a = c.args in
+    no-list a.text.now a.at a.modules c.if-text-at.true
 
-returns-2 : tie.Need-returns-2
+returns-2 : tie.Need-returns-in_default
 returns-2 c =
-    let a = c.before.before.before.before.before.before.args in
-    no_line a.text.now a.at a.modules c.before.before.before.before.if1.false (rw c.enum_told.given.1 at c.before.before.match-line.ensures)
+    let a = c.args in
+    no_line a.text.now a.at a.modules c.if-text-at.false (rw c.enum_told-1.given.1 at c.match_line-line.ensures)
 
-returns-3 : tie.Need-returns-3
+returns-3 : tie.Need-returns-then-text-from
 returns-3 c =
-    let a = c.before.before.before.before.before.before.before.before.args in
-    no_end a.text.now a.at a.modules c.before.before.before.before.before.before.if1.false c.before.before.line.given.0.0 (met c.before.before) c.if2.true
+    let a = c.args in
+    no_end a.text.now a.at a.modules c.if-text-at.false c.line-1.given.0.0 (met c.before.before) c.if-text-from.true
 
-returns-4 : tie.Need-returns-4
+returns-4 : tie.Need-returns-then-text-to-ne10
 returns-4 c =
-    let a = c.before.before.before.before.before.before.before.before.before.before.args in
-    no-empty-line a.text.now a.at a.modules c.before.before.before.before.before.before.before.before.if1.false c.before.before.before.before.line.given.0.0 (met c.before.before.before.before) c.if3.true
+    let a = c.args in
+    no-empty-line a.text.now a.at a.modules c.if-text-at.false c.line-1.given.0.0 (met c.before.before.before.before) c.if-text-to-ne10.true
 
-returns-5 : tie.Need-returns-5
+returns-5 : tie.Need-returns-then-names_fit
 returns-5 c =
-    let a = c.before.before.before.before.before.before.before.before.before.before.before.before.before.args in
-    a-list a.text.now a.at a.modules c.before.before.before.before.before.before.before.before.before.before.before.if1.false c.before.before.before.before.before.before.before.line.given.0.0 (met c.before.before.before.before.before.before.before) c.before.before.before.before.before.if2.false c.before.before.before.if3.false (sym c.before.names-fit.ensures ∙ c.if4.true)
+    let a = c.args in
+    a-list a.text.now a.at a.modules c.if-text-at.false c.line-1.given.0.0 (met c.before.before.before.before.before.before.before) c.if-text-from.false c.if-text-to-ne10.false (sym c.names_fit.ensures ∙ c.if-names_fit.true)
 
-returns-6 : tie.Need-returns-6
+returns-6 : tie.Need-returns
 returns-6 c =
-    let a = c.before.before.before.before.before.before.before.before.before.before.before.before.before.args in
-    no-fit a.text.now a.at a.modules c.before.before.before.before.before.before.before.before.before.before.before.if1.false c.before.before.before.before.before.before.before.line.given.0.0 (met c.before.before.before.before.before.before.before) (sym c.before.names-fit.ensures ∙ c.if4.false)
+    let a = c.args in
+    no-fit a.text.now a.at a.modules c.if-text-at.false c.line-1.given.0.0 (met c.before.before.before.before.before.before.before) (sym c.names_fit.ensures ∙ c.if-names_fit.false)
 
-pub find-names-spec : {M : Type 1} → statement M
-find-names-spec =
+pub find_names_spec : {M : Type 1} → statement M
+find_names_spec =
     tie.close
     (tie.spec
     returns

@@ -7,11 +7,11 @@ use Rattle.name_list.proofs.Sections.{none-fit}
 use Rattle.name_list.proofs.names_fit.Statement.{statement}
 use Rattle.name_list.proofs.names_fit.Tie as tie
 
-returns : tie.Need-returns
-returns c = none-fit _ _ c.if1.true
+returns : tie.Need-returns-then-names-eq0
+returns c = none-fit _ _ c.if-names-eq0.true
 
-returns-2 : tie.Need-returns-2
-returns-2 c = c.names_in.ensures ∙ in-fit _ _ c.before.if1.false
+returns-2 : tie.Need-returns
+returns-2 c = c.names_in.ensures ∙ in-fit _ _ c.if-names-eq0.false
 
-pub names-fit-spec : {M : Type 1} → statement M
-names-fit-spec = tie.close (tie.spec returns (λ c κs. search rules) returns-2)
+pub names_fit_spec : {M : Type 1} → statement M
+names_fit_spec = tie.close (tie.spec returns (λ c κs. search rules) returns-2)

@@ -11,14 +11,14 @@ use Rattle.order_analysis.proofs.analyze_execution_order.Tie as tie
 
 returns : tie.Need-returns
 returns c =
-    let a = c.before.before.before.before.before.before.before.before.before.before.before.args in
-    let done = c.before.before.analyze-execution-order-with-records in
+    let a = c.args in
+    let done = c.analyze_execution_order_with_records in
     let plan : List ℕ = done.new.1.1.1.1.1.1.1.1.0 in
     subst (λ (t : Lent). WholeAnalysis t a.marks.now done.result plan)
-    (lent-named-cut a.runtime a.dynamic a.bounds.now a.columns.now a.names.now c.before.before.before.before.before.before.column.ensures c.before.before.before.before.before.column2.ensures c.before.before.before.before.column3.ensures)
+    (lent-named-cut a.runtime a.dynamic a.bounds.now a.columns.now a.names.now c.column.ensures c.column-2.ensures c.column-3.ensures)
     done.ensures
 
-pub analyze-execution-order-spec : {M : Type 1} → statement M
-analyze-execution-order-spec =
+pub analyze_execution_order_spec : {M : Type 1} → statement M
+analyze_execution_order_spec =
     tie.close
     (tie.spec (λ c κs. search rules) (λ c κs. search rules) (λ c κs. search rules) (λ c κs. search rules) (λ c. search rules) returns)

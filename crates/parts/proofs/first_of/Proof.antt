@@ -9,11 +9,11 @@ use borrow.Author.Rules.{rules}
 use Rattle.parts.proofs.first_of.Statement.{statement}
 use Rattle.parts.proofs.first_of.Tie as tie
 
-returns : tie.Need-returns
-returns c = let a = c.before.args in sym (take_all a.n a.values.now (omega (arith, c.if1.true)))
+returns : tie.Need-returns-then-values-n
+returns c = let a = c.args in sym (take_all a.n a.values.now (omega (arith, c.if-values-n.true)))
 
-returns-2 : tie.Need-returns-2
-returns-2 c = let a = c.before.before.args in let z : a.n - 0 ≡ a.n = omega arith in ap (λ (n : ℕ). take n a.values.now) z
+returns-2 : tie.Need-returns
+returns-2 c = let a = c.args in let z : a.n - 0 ≡ a.n = omega arith in ap (λ (n : ℕ). take n a.values.now) z
 
-pub first-of-spec : {M : Type 1} → statement M
-first-of-spec = tie.close (tie.spec returns (λ c. search rules) (λ c. search rules) (λ c. search rules) returns-2)
+pub first_of_spec : {M : Type 1} → statement M
+first_of_spec = tie.close (tie.spec returns (λ c. search rules) (λ c. search rules) (λ c. search rules) returns-2)

@@ -27,14 +27,14 @@ module _ (text : List ℕ) (from to : ℕ) where
   within : to ≤ length text → from ≤ to → part_of text from to ≡ take (to - from) (drop from text)
   within l m = by_tests true true (le-leb to (length text) l) (le-leb from to m)
 
-returns : tie.Need-returns
-returns c = let a = c.before.args in sym (past_end a.text.now a.from a.to (omega (arith, c.if1.true)))
+returns : tie.Need-returns-then-text-to
+returns c = let a = c.args in sym (past_end a.text.now a.from a.to (omega (arith, c.if-text-to.true)))
 
-returns-2 : tie.Need-returns-2
-returns-2 c = let a = c.before.before.args in sym (not-in-order a.text.now a.from a.to (omega (arith, c.before.if1.false)) (omega (arith, c.if2.true)))
+returns-2 : tie.Need-returns-then-to-from
+returns-2 c = let a = c.args in sym (not-in-order a.text.now a.from a.to (omega (arith, c.if-text-to.false)) (omega (arith, c.if-to-from.true)))
 
-returns-3 : tie.Need-returns-3
-returns-3 c = let a = c.before.before.before.args in sym (within a.text.now a.from a.to (omega (arith, c.before.before.if1.false)) (omega (arith, c.before.if2.false)))
+returns-3 : tie.Need-returns
+returns-3 c = let a = c.args in sym (within a.text.now a.from a.to (omega (arith, c.if-text-to.false)) (omega (arith, c.if-to-from.false)))
 
-pub part-of-spec : {M : Type 1} → statement M
-part-of-spec = tie.close (tie.spec returns returns-2 (λ c. search rules) (λ c. search rules) returns-3)
+pub part_of_spec : {M : Type 1} → statement M
+part_of_spec = tie.close (tie.spec returns returns-2 (λ c. search rules) (λ c. search rules) returns-3)

@@ -11,13 +11,13 @@ use Rattle.plan_check.proofs.check_plan.Tie as tie
 
 returns : tie.Need-returns
 returns c =
-    let a = c.before.before.before.before.before.before.before.before.before.args in
-    let done = c.check-plan-with-records in
+    let a = c.args in
+    let done = c.check_plan_with_records in
     subst (λ (t : Lent). done.result ≡ judgement t a.seeds.now a.plan.now)
-    (lent_cut a.runtime a.dynamic a.bounds.now a.columns.now a.names.now c.before.before.before.column.ensures c.before.before.column2.ensures c.before.column3.ensures)
+    (lent_cut a.runtime a.dynamic a.bounds.now a.columns.now a.names.now c.column.ensures c.column-2.ensures c.column-3.ensures)
     done.ensures
 
-pub check-plan-spec : {M : Type 1} → statement M
-check-plan-spec =
+pub check_plan_spec : {M : Type 1} → statement M
+check_plan_spec =
     tie.close
     (tie.spec (λ c κs. search rules) (λ c κs. search rules) (λ c κs. search rules) (λ c κs. search rules) returns)

@@ -31,88 +31,88 @@ written e = let a = e.args in with_records (table a.runtime a.dynamic a.bounds.n
 abbrev of : tie.Start → Project
 of e = current (written e)
 
-abbrev entry : tie.After-rows → tie.Start
+abbrev entry : tie.After-rows-n → tie.Start
 entry k = k.before.before.before.before.before.before.before.before.before.before.before
 
-counted : (k : tie.After-rows) → k.rows.result ≡ modules (of (entry k))
+counted : (k : tie.After-rows-n) → k.rows-n.result ≡ modules (of (entry k))
 unfolding table read current
-counted k = k.rows.ensures
+counted k = k.rows-n.ensures
 
-accepts : (k : tie.After-rows) → (lents (entry k)).number ≡ 0
-accepts k = sym k.before.before.refusal-number.ensures ∙ k.before.if1.false
+accepts : (k : tie.After-rows-n) → (lents (entry k)).number ≡ 0
+accepts k = sym k.refusal_number-number.ensures ∙ k.if-number-ne0.false
 
-tested : (k : tie.After-rows) → Accepted (written (entry k))
+tested : (k : tie.After-rows-n) → Accepted (written (entry k))
 tested k = let a = (entry k).args in lent-accepted a.bounds.now a.columns.now a.names.now (written (entry k)) (accepts k)
 
-ok : (k : tie.After-rows) → Accepted (of (entry k))
+ok : (k : tie.After-rows-n) → Accepted (of (entry k))
 ok k = let a = (entry k).args in lent-current a.bounds.now a.columns.now a.names.now (written (entry k)) (accepts k)
 
 -- the tests of the seeds and of the plan are the project's
 
-seeds-tested : (k : tie.After-seeds-fit) → k.seeds-fit.result ≡ seeds_fit (modules (of (entry k.before))) (entry k.before).args.seeds.now
-seeds-tested k = subst (λ (n : ℕ). k.seeds-fit.result ≡ seeds_fit n (entry k.before).args.seeds.now) (counted k.before) k.seeds-fit.ensures
+seeds-tested : (k : tie.After-seeds_fit) → k.seeds_fit.result ≡ seeds_fit (modules (of (entry k.before))) (entry k.before).args.seeds.now
+seeds-tested k = subst (λ (n : ℕ). k.seeds_fit.result ≡ seeds_fit n (entry k.before).args.seeds.now) (counted k.before) k.seeds_fit.ensures
 
-seeds-fit-all : (c : tie.Else2) → seeds_fit (modules (of (entry c.before.before))) (entry c.before.before).args.seeds.now ≡ true
-seeds-fit-all c = sym (seeds-tested c.before) ∙ not-false c.before.seeds-fit.result c.if2.false
+seeds-fit-all : (c : tie.Else-not-seeds_fit) → seeds_fit (modules (of (entry c.before.before))) (entry c.before.before).args.seeds.now ≡ true
+seeds-fit-all c = sym (seeds-tested c.before) ∙ not-false c.seeds_fit.result c.if-not-seeds_fit.false
 
-plan-tested : (k : tie.After-plan-fits) → k.plan-fits.result ≡ plan_fits (modules (of (entry k.before.before.before))) (entry k.before.before.before).args.plan.now
-plan-tested k = subst (λ (n : ℕ). k.plan-fits.result ≡ plan_fits n (entry k.before.before.before).args.plan.now) (counted k.before.before.before) k.plan-fits.ensures
+plan-tested : (k : tie.After-plan_fits) → k.plan_fits.result ≡ plan_fits (modules (of (entry k.before.before.before))) (entry k.before.before.before).args.plan.now
+plan-tested k = subst (λ (n : ℕ). k.plan_fits.result ≡ plan_fits n (entry k.before.before.before).args.plan.now) (counted k.before.before.before) k.plan_fits.ensures
 
-plan-fits-all : (c : tie.Else3) → plan_fits (modules (of (entry c.before.before.before.before))) (entry c.before.before.before.before).args.plan.now ≡ true
-plan-fits-all c = sym (plan-tested c.before) ∙ not-false c.before.plan-fits.result c.if3.false
+plan-fits-all : (c : tie.Else-not-plan_fits) → plan_fits (modules (of (entry c.before.before.before.before))) (entry c.before.before.before.before).args.plan.now ≡ true
+plan-fits-all c = sym (plan-tested c.before) ∙ not-false c.plan_fits.result c.if-not-plan_fits.false
 
 -- the columns that were read, and the project that the core reads with them
 
-abbrev made-targets : tie.After-read-current → List ℕ
-made-targets k = k.read-current.new.1.1.1.1.1.1.1.0
+abbrev made-targets : tie.After-read_current → List ℕ
+made-targets k = k.read_current.new.1.1.1.1.1.1.1.0
 
-abbrev made-dependencies : tie.After-read-current → List ℕ
-made-dependencies k = k.read-current.new.1.1.1.1.1.1.1.1.0
+abbrev made-dependencies : tie.After-read_current → List ℕ
+made-dependencies k = k.read_current.new.1.1.1.1.1.1.1.1.0
 
-own : (k : tie.After-column) → let e = k.before.before.before.before.before.before.before.before.before.before.before.before.before.before.before.before.before.before.before.before.before.before.before.before in let a = e.args in read (table a.runtime a.dynamic a.bounds.now a.columns.now) a.importers.now a.kinds.now (take (length a.targets.now) (made-targets k.before.before.before.before.before.before)) (take k.before.before.before.rows2.result (made-dependencies k.before.before.before.before.before.before)) k.column.result.now ≡ of e
+own : (k : tie.After-column) → let e = k.before.before.before.before.before.before.before.before.before.before.before.before.before.before.before.before.before.before.before.before.before.before.before.before in let a = e.args in read (table a.runtime a.dynamic a.bounds.now a.columns.now) a.importers.now a.kinds.now (take (length a.targets.now) (made-targets k.before.before.before.before.before.before)) (take k.rows-dependency_rows.result (made-dependencies k.before.before.before.before.before.before)) k.column.result.now ≡ of e
 own k =
-    let a = k.before.before.before.before.before.before.before.before.before.before.before.before.before.before.before.before.before.before.before.before.before.before.before.before.args in
-    current-cut a.runtime a.dynamic a.bounds.now a.columns.now a.importers.now a.kinds.now a.targets.now k.before.before.before.before.before.before.read-current.ensures k.before.before.before.rows2.ensures k.column.ensures
+    let a = k.args in
+    current-cut a.runtime a.dynamic a.bounds.now a.columns.now a.importers.now a.kinds.now a.targets.now k.read_current.ensures k.rows-dependency_rows.ensures k.column.ensures
 
-returns : tie.Need-returns
-returns c = let e = c.before.before.before.before.before.before.before.before.before.before in project-refused (lents e) e.args.seeds.now e.args.plan.now c.before.refusal-number.result c.before.refusal-number.ensures c.if1.true
+returns : tie.Need-returns-then-number-ne0
+returns c = let e = c.before.before.before.before.before.before.before.before.before.before in project-refused (lents e) e.args.seeds.now e.args.plan.now c.refusal_number-number.result c.refusal_number-number.ensures c.if-number-ne0.true
 
-returns-2 : tie.Need-returns-2
+returns-2 : tie.Need-returns-then-not-seeds_fit
 returns-2 c =
     let k = c.before.before in
     let e = entry k in
-    seeds-refused (lents e) e.args.seeds.now e.args.plan.now (accepts k) (sym (seeds-tested c.before) ∙ not-true c.before.seeds-fit.result c.if2.true)
+    seeds-refused (lents e) e.args.seeds.now e.args.plan.now (accepts k) (sym (seeds-tested c.before) ∙ not-true c.seeds_fit.result c.if-not-seeds_fit.true)
 
-returns-3 : tie.Need-returns-3
+returns-3 : tie.Need-returns-then-not-plan_fits
 returns-3 c =
     let k = c.before.before.before.before in
     let e = entry k in
-    plan-refused (lents e) e.args.seeds.now e.args.plan.now (accepts k) (seeds-fit-all c.before.before) (sym (plan-tested c.before) ∙ not-true c.before.plan-fits.result c.if3.true)
+    plan-refused (lents e) e.args.seeds.now e.args.plan.now (accepts k) (seeds-fit-all c.before.before) (sym (plan-tested c.before) ∙ not-true c.plan_fits.result c.if-not-plan_fits.true)
 
-read-current-requires : tie.Need-read-current-requires
+read-current-requires : tie.Need-read_current-requires
 read-current-requires c κs = (tested c.before.before.before.before.before.before, (length-replicate {A = ℕ} row_limit 0, length-replicate {A = ℕ} row_limit 0))
 
-array-share-prefix-read-targets : tie.Need-array-share-prefix-read-targets
+array-share-prefix-read-targets : tie.Need-slice_bounds-read_targets-end
 array-share-prefix-read-targets c =
-    let a = c.before.before.before.before.before.before.before.before.before.before.before.before.before.before.before.before.before.before.before.before.before.args in
-    targets-room a.runtime a.dynamic a.bounds.now a.columns.now a.importers.now a.kinds.now a.targets.now (tested c.before.before.before.before.before.before.before.before.before.before) c.before.before.before.read-current.ensures
+    let a = c.args in
+    targets-room a.runtime a.dynamic a.bounds.now a.columns.now a.importers.now a.kinds.now a.targets.now (tested c.before.before.before.before.before.before.before.before.before.before) c.read_current.ensures
 
-slice-aggregate-judge-plan : tie.Need-slice-aggregate-judge-plan
+slice-aggregate-judge-plan : tie.Need-slice_bounds-judge_plan-end
 slice-aggregate-judge-plan c =
-    let a = c.before.before.before.before.before.before.before.before.before.before.before.before.before.before.before.before.before.before.before.before.before.before.args in
-    targets-size a.runtime a.dynamic a.bounds.now a.columns.now a.importers.now a.kinds.now a.targets.now (tested c.before.before.before.before.before.before.before.before.before.before.before) c.before.before.before.before.read-current.ensures
+    let a = c.args in
+    targets-size a.runtime a.dynamic a.bounds.now a.columns.now a.importers.now a.kinds.now a.targets.now (tested c.before.before.before.before.before.before.before.before.before.before.before) c.read_current.ensures
 
-array-share-prefix-read-dependencies : tie.Need-array-share-prefix-read-dependencies
+array-share-prefix-read-dependencies : tie.Need-slice_bounds-read_dependencies-end
 array-share-prefix-read-dependencies c =
-    let a = c.before.before.before.before.before.before.before.before.before.before.before.before.before.before.before.before.before.before.before.before.before.before.args in
-    dependencies-room a.runtime a.dynamic a.bounds.now a.columns.now a.importers.now a.kinds.now a.targets.now (tested c.before.before.before.before.before.before.before.before.before.before.before) c.before.before.before.before.read-current.ensures c.before.rows2.ensures
+    let a = c.args in
+    dependencies-room a.runtime a.dynamic a.bounds.now a.columns.now a.importers.now a.kinds.now a.targets.now (tested c.before.before.before.before.before.before.before.before.before.before.before) c.read_current.ensures c.rows-dependency_rows.ensures
 
-slice-aggregate-judge-plan-2 : tie.Need-slice-aggregate-judge-plan-2
+slice-aggregate-judge-plan-2 : tie.Need-slice_bounds-judge_plan-end-2
 slice-aggregate-judge-plan-2 c =
-    let a = c.before.before.before.before.before.before.before.before.before.before.before.before.before.before.before.before.before.before.before.before.before.before.before.args in
-    dependencies-size a.runtime a.dynamic a.bounds.now a.columns.now a.importers.now a.kinds.now a.targets.now (tested c.before.before.before.before.before.before.before.before.before.before.before.before) c.before.before.before.before.before.read-current.ensures c.before.before.rows2.ensures
+    let a = c.args in
+    dependencies-size a.runtime a.dynamic a.bounds.now a.columns.now a.importers.now a.kinds.now a.targets.now (tested c.before.before.before.before.before.before.before.before.before.before.before.before) c.read_current.ensures c.rows-dependency_rows.ensures
 
-judge-plan-requires : tie.Need-judge-plan-requires
+judge-plan-requires : tie.Need-judge_plan-requires
 judge-plan-requires c κs =
     let k = c.before.before.before.before.before.before.before.before.before.before.before.before.before in
     let e = entry k in
@@ -123,14 +123,14 @@ judge-plan-requires c κs =
       marked = plan-marked (of e) e.args.plan.now (plan-fits-all c.before.before.before.before.before.before.before.before.before);
     })
 
-returns-4 : tie.Need-returns-4
+returns-4 : tie.Need-returns
 returns-4 c =
     let k = c.before.before.before.before.before.before.before.before.before.before.before.before.before.before in
     let e = entry k in
-    subst (λ (p : Project). c.judge-plan.result ≡ judged p e.args.seeds.now e.args.plan.now) (own c.before) c.judge-plan.ensures
+    subst (λ (p : Project). c.judge_plan.result ≡ judged p e.args.seeds.now e.args.plan.now) (own c.before) c.judge_plan.ensures
     ∙ plan-judged (lents e) e.args.seeds.now e.args.plan.now (accepts k) (seeds-fit-all c.before.before.before.before.before.before.before.before.before.before.before.before) (plan-fits-all c.before.before.before.before.before.before.before.before.before.before)
 
-pub check-plan-with-records-spec : {M : Type 1} → statement M
-check-plan-with-records-spec =
+pub check_plan_with_records_spec : {M : Type 1} → statement M
+check_plan_with_records_spec =
     tie.close
     (tie.spec (λ c κs. search rules) returns (λ c κs. search rules) (λ c κs. search rules) returns-2 (λ c κs. search rules) returns-3 (λ c. search rules) (λ c. search rules) read-current-requires (λ c κs. search rules) array-share-prefix-read-targets slice-aggregate-judge-plan array-share-prefix-read-dependencies slice-aggregate-judge-plan-2 (λ c κs. search rules) judge-plan-requires returns-4)

@@ -16,17 +16,17 @@ fitting : (bounds columns : List ℕ) {r : Bool} → length bounds ≡ 35 → r 
 unfolding bounds_fit
 fitting bounds columns {r} n e = rw (eq-eqb (length bounds) 35 n, e, and_assoc)
 
-returns : tie.Need-returns
+returns : tie.Need-returns-then-bounds
 unfolding bounds_fit
-returns c = rw (ne_eqb (length c.before.before.before.args.bounds.now) 35 c.if1.true)
+returns c = rw (ne_eqb (length c.args.bounds.now) 35 c.if-bounds.true)
 
-cast-result : tie.Need-overflow-cast-result
-cast-result c = omega (arith, c.shared-slice-known4.given 34)
+cast-result : tie.Need-overflow_cast-result
+cast-result c = omega (arith, c.shared_slice_known-4-1.given 34)
 
-returns-2 : tie.Need-returns-2
-returns-2 c = let a = c.before.before.before.before.before.before.args in fitting a.bounds.now a.columns.now c.before.before.before.if1.false c.is-rising.ensures
+returns-2 : tie.Need-returns
+returns-2 c = let a = c.args in fitting a.bounds.now a.columns.now c.if-bounds.false c.is_rising.ensures
 
-pub bounds-fit-spec : {M : Type 1} → statement M
-bounds-fit-spec =
+pub bounds_fit_spec : {M : Type 1} → statement M
+bounds_fit_spec =
     tie.close
     (tie.spec (λ c. search rules) returns (λ c. search rules) (λ c. search rules) cast-result (λ c κs. search rules) returns-2)

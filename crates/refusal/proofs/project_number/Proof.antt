@@ -18,54 +18,54 @@ of e = with_records (table e.args.runtime e.args.dynamic e.args.bounds.now e.arg
 
 -- what the tests answer
 
-sizes : (k : tie.After-chunks-sized) → ((k.before.before.code-sized.result && k.before.symbols-sized.result) && k.chunks-sized.result) ≡ sizes_fit (of k.before.before.before.before.before.before.before.before)
+sizes : (k : tie.After-chunks_sized) → ((k.code_sized.result && k.symbols_sized.result) && k.chunks_sized.result) ≡ sizes_fit (of k.before.before.before.before.before.before.before.before)
 unfolding read
-sizes k = sizes-joined (of k.before.before.before.before.before.before.before.before) k.before.before.code-sized.ensures k.before.symbols-sized.ensures k.chunks-sized.ensures
+sizes k = sizes-joined (of k.before.before.before.before.before.before.before.before) k.code_sized.ensures k.symbols_sized.ensures k.chunks_sized.ensures
 
-values : (k : tie.After-chunks-in) → ((k.before.before.Code-in.result && k.before.symbols-in.result) && k.chunks-in.result) ≡ values_fit (of k.before.before.before.before.before.before.before.before.before.before.before.before)
+values : (k : tie.After-chunks_in) → ((k.Code-in.result && k.symbols_in.result) && k.chunks_in.result) ≡ values_fit (of k.before.before.before.before.before.before.before.before.before.before.before.before)
 unfolding read
-values k = values-joined (of k.before.before.before.before.before.before.before.before.before.before.before.before) k.before.before.Code-in.ensures k.before.symbols-in.ensures k.chunks-in.ensures
+values k = values-joined (of k.before.before.before.before.before.before.before.before.before.before.before.before) k.Code-in.ensures k.symbols_in.ensures k.chunks_in.ensures
 
 -- what has passed
 
-sizes-passed : (c : tie.Else1) → sizes_fit (of c.before.before.before.before.before.before.before.before.before) ≡ true
-sizes-passed c = passed {a = sizes_fit (of c.before.before.before.before.before.before.before.before.before)} (sizes c.before) c.if1.false
+sizes-passed : (c : tie.Else-not-sizes_fit) → sizes_fit (of c.before.before.before.before.before.before.before.before.before) ≡ true
+sizes-passed c = passed {a = sizes_fit (of c.before.before.before.before.before.before.before.before.before)} (sizes c.before) c.if-not-sizes_fit.false
 
-values-passed : (c : tie.Else2) → values_fit (of c.before.before.before.before.before.before.before.before.before.before.before.before.before) ≡ true
-values-passed c = passed {a = values_fit (of c.before.before.before.before.before.before.before.before.before.before.before.before.before)} (values c.before) c.if2.false
+values-passed : (c : tie.Else-not-values_fit) → values_fit (of c.before.before.before.before.before.before.before.before.before.before.before.before.before) ≡ true
+values-passed c = passed {a = values_fit (of c.before.before.before.before.before.before.before.before.before.before.before.before.before)} (values c.before) c.if-not-values_fit.false
 
-rise-passed : (c : tie.Else3) → rows_rise (of c.before.before.before.before.before.before.before.before.before.before.before.before.before.before.before) ≡ true
-rise-passed c = passed {a = rows_rise (of c.before.before.before.before.before.before.before.before.before.before.before.before.before.before.before)} c.before.rows-rise.ensures c.if3.false
+rise-passed : (c : tie.Else-not-rows_rise) → rows_rise (of c.before.before.before.before.before.before.before.before.before.before.before.before.before.before.before) ≡ true
+rise-passed c = passed {a = rows_rise (of c.before.before.before.before.before.before.before.before.before.before.before.before.before.before.before)} c.rows_rise.ensures c.if-not-rows_rise.false
 
-returns : tie.Need-returns
-returns c = let k = c.before in number-1 (of c.before.before.before.before.before.before.before.before.before) (failed {a = sizes_fit (of c.before.before.before.before.before.before.before.before.before)} (sizes k) c.if1.true)
+returns : tie.Need-returns-then-not-sizes_fit
+returns c = let k = c.before in number-1 (of c.before.before.before.before.before.before.before.before.before) (failed {a = sizes_fit (of c.before.before.before.before.before.before.before.before.before)} (sizes k) c.if-not-sizes_fit.true)
 
-returns-2 : tie.Need-returns-2
-returns-2 c = let k = c.before in number-2 (of c.before.before.before.before.before.before.before.before.before.before.before.before.before) (sizes-passed c.before.before.before.before) (failed {a = values_fit (of c.before.before.before.before.before.before.before.before.before.before.before.before.before)} (values k) c.if2.true)
+returns-2 : tie.Need-returns-then-not-values_fit
+returns-2 c = let k = c.before in number-2 (of c.before.before.before.before.before.before.before.before.before.before.before.before.before) (sizes-passed c.before.before.before.before) (failed {a = values_fit (of c.before.before.before.before.before.before.before.before.before.before.before.before.before)} (values k) c.if-not-values_fit.true)
 
-returns-3 : tie.Need-returns-3
-returns-3 c = number-3 (of c.before.before.before.before.before.before.before.before.before.before.before.before.before.before.before) (sizes-passed c.before.before.before.before.before.before) (values-passed c.before.before) (failed {a = rows_rise (of c.before.before.before.before.before.before.before.before.before.before.before.before.before.before.before)} c.before.rows-rise.ensures c.if3.true)
+returns-3 : tie.Need-returns-then-not-rows_rise
+returns-3 c = number-3 (of c.before.before.before.before.before.before.before.before.before.before.before.before.before.before.before) (sizes-passed c.before.before.before.before.before.before) (values-passed c.before.before) (failed {a = rows_rise (of c.before.before.before.before.before.before.before.before.before.before.before.before.before.before.before)} c.rows_rise.ensures c.if-not-rows_rise.true)
 
-rows-agree-requires : tie.Need-rows-agree-requires
+rows-agree-requires : tie.Need-rows_agree-requires
 rows-agree-requires c κs = record { sizes = sizes-passed c.before.before.before.before.before.before; values = values-passed c.before.before; rises = rise-passed c }
 
-returns-4 : tie.Need-returns-4
-returns-4 c = number-4 (of c.before.before.before.before.before.before.before.before.before.before.before.before.before.before.before.before.before) (sizes-passed c.before.before.before.before.before.before.before.before) (values-passed c.before.before.before.before) (rise-passed c.before.before) (failed {a = rows_agree (of c.before.before.before.before.before.before.before.before.before.before.before.before.before.before.before.before.before)} c.before.rows_agree.ensures c.if4.true)
+returns-4 : tie.Need-returns-then-not-rows_agree
+returns-4 c = number-4 (of c.before.before.before.before.before.before.before.before.before.before.before.before.before.before.before.before.before) (sizes-passed c.before.before.before.before.before.before.before.before) (values-passed c.before.before.before.before) (rise-passed c.before.before) (failed {a = rows_agree (of c.before.before.before.before.before.before.before.before.before.before.before.before.before.before.before.before.before)} c.rows_agree.ensures c.if-not-rows_agree.true)
 
-agree-passed : (c : tie.Else4) → rows_agree (of c.before.before.before.before.before.before.before.before.before.before.before.before.before.before.before.before.before) ≡ true
-agree-passed c = passed {a = rows_agree (of c.before.before.before.before.before.before.before.before.before.before.before.before.before.before.before.before.before)} c.before.rows_agree.ensures c.if4.false
+agree-passed : (c : tie.Else-not-rows_agree) → rows_agree (of c.before.before.before.before.before.before.before.before.before.before.before.before.before.before.before.before.before) ≡ true
+agree-passed c = passed {a = rows_agree (of c.before.before.before.before.before.before.before.before.before.before.before.before.before.before.before.before.before)} c.rows_agree.ensures c.if-not-rows_agree.false
 
-newer-tested : (k : tie.After-newer-fits) → k.newer-fits.result ≡ newer_fits (of k.before.before.before.before.before.before.before.before.before.before.before.before.before.before.before.before.before.before.before).newer
+newer-tested : (k : tie.After-newer_fits) → k.newer_fits.result ≡ newer_fits (of k.before.before.before.before.before.before.before.before.before.before.before.before.before.before.before.before.before.before.before).newer
 unfolding table read
-newer-tested k = given1 (λ newer. k.newer-fits.result ≡ newer_fits newer) k.before.column.ensures k.newer-fits.ensures
+newer-tested k = given1 (λ newer. k.newer_fits.result ≡ newer_fits newer) k.column.ensures k.newer_fits.ensures
 
-returns-5 : tie.Need-returns-5
-returns-5 c = let p = of c.before.before.before.before.before.before.before.before.before.before.before.before.before.before.before.before.before.before.before.before in number-10 p (sizes-passed c.before.before.before.before.before.before.before.before.before.before.before) (values-passed c.before.before.before.before.before.before.before) (rise-passed c.before.before.before.before.before) (agree-passed c.before.before.before) (failed {a = newer_fits p.newer} (newer-tested c.before) c.if5.true)
+returns-5 : tie.Need-returns-then-not-newer_fits
+returns-5 c = let p = of c.before.before.before.before.before.before.before.before.before.before.before.before.before.before.before.before.before.before.before.before in number-10 p (sizes-passed c.before.before.before.before.before.before.before.before.before.before.before) (values-passed c.before.before.before.before.before.before.before) (rise-passed c.before.before.before.before.before) (agree-passed c.before.before.before) (failed {a = newer_fits p.newer} (newer-tested c.before) c.if-not-newer_fits.true)
 
-returns-6 : tie.Need-returns-6
-returns-6 c = let p = of c.before.before.before.before.before.before.before.before.before.before.before.before.before.before.before.before.before.before.before.before in number-0 p (sizes-passed c.before.before.before.before.before.before.before.before.before.before.before) (values-passed c.before.before.before.before.before.before.before) (rise-passed c.before.before.before.before.before) (agree-passed c.before.before.before) (passed {a = newer_fits p.newer} (newer-tested c.before) c.if5.false)
+returns-6 : tie.Need-returns
+returns-6 c = let p = of c.before.before.before.before.before.before.before.before.before.before.before.before.before.before.before.before.before.before.before.before in number-0 p (sizes-passed c.before.before.before.before.before.before.before.before.before.before.before) (values-passed c.before.before.before.before.before.before.before) (rise-passed c.before.before.before.before.before) (agree-passed c.before.before.before) (passed {a = newer_fits p.newer} (newer-tested c.before) c.if-not-newer_fits.false)
 
-pub project-number-spec : {M : Type 1} → statement M
-project-number-spec =
+pub project_number_spec : {M : Type 1} → statement M
+project_number_spec =
     tie.close
     (tie.spec (λ c κs. search rules) (λ c κs. search rules) (λ c κs. search rules) returns (λ c κs. search rules) (λ c κs. search rules) (λ c κs. search rules) returns-2 (λ c κs. search rules) returns-3 rows-agree-requires returns-4 (λ c κs. search rules) (λ c κs. search rules) returns-5 returns-6)

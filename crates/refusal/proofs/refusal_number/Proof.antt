@@ -17,10 +17,10 @@ module _ (runtime dynamic : ℕ) (bounds columns names importers kinds targets :
 
 returns : tie.Need-returns
 returns c =
-    let a = c.before.before.before.before.before.before.before.before.before.before.before.args in
-    number a.runtime a.dynamic a.bounds.now a.columns.now a.names.now a.importers.now a.kinds.now a.targets.now c.before.before.before.before.table-number.ensures c.before.before.before.rows.ensures c.before.before.names-sized.ensures c.before.names_in.ensures c.tested-too.ensures
+    let a = c.args in
+    number a.runtime a.dynamic a.bounds.now a.columns.now a.names.now a.importers.now a.kinds.now a.targets.now c.table_number-number.ensures c.rows-modules.ensures c.names_sized.ensures c.names_in.ensures c.tested_too.ensures
 
-pub refusal-number-spec : {M : Type 1} → statement M
-refusal-number-spec =
+pub refusal_number_spec : {M : Type 1} → statement M
+refusal_number_spec =
     tie.close
     (tie.spec (λ c κs. search rules) (λ c κs. search rules) (λ c κs. search rules) (λ c κs. search rules) (λ c κs. search rules) returns)

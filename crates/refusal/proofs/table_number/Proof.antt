@@ -8,14 +8,14 @@ use Rattle.column_tests.proofs.Chain.{failed, passed}
 use Rattle.refusal.proofs.table_number.Statement.{statement}
 use Rattle.refusal.proofs.table_number.Tie as tie
 
-returns : tie.Need-returns
-returns c = let a = c.before.before.before.before.before.before.before.args in number-unfit a.bounds.now a.columns.now _ (failed {a = bounds_fit a.bounds.now a.columns.now} c.before.bounds-fit.ensures c.if1.true)
+returns : tie.Need-returns-then-not-bounds_fit
+returns c = let a = c.args in number-unfit a.bounds.now a.columns.now _ (failed {a = bounds_fit a.bounds.now a.columns.now} c.bounds_fit.ensures c.if-not-bounds_fit.true)
 
-returns-2 : tie.Need-returns-2
+returns-2 : tie.Need-returns
 returns-2 c =
-    let a = c.before.before.before.before.before.before.before.before.args in
-    c.project-number.ensures ∙ number-fit a.bounds.now a.columns.now _ (passed {a = bounds_fit a.bounds.now a.columns.now} c.before.before.bounds-fit.ensures c.before.if1.false)
+    let a = c.args in
+    c.project_number.ensures ∙ number-fit a.bounds.now a.columns.now _ (passed {a = bounds_fit a.bounds.now a.columns.now} c.bounds_fit.ensures c.if-not-bounds_fit.false)
 
-pub table-number-spec : {M : Type 1} → statement M
-table-number-spec =
+pub table_number_spec : {M : Type 1} → statement M
+table_number_spec =
     tie.close (tie.spec (λ c κs. search rules) returns (λ c κs. search rules) returns-2)

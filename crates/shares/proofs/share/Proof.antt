@@ -11,10 +11,10 @@ use Rattle.shares.proofs.share.Tie as tie
 
 returns : tie.Need-returns
 returns c =
-    let a = c.before.before.before.before.before.before.before.args in
-    subst (λ (t : Lent). c.share-with-records.result ≡ outcome_of t)
-    (lent-named-cut a.runtime a.dynamic a.bounds.now a.columns.now a.names.now c.before.before.before.column.ensures c.before.before.column2.ensures c.before.column3.ensures)
-    c.share-with-records.ensures
+    let a = c.args in
+    subst (λ (t : Lent). c.share_with_records.result ≡ outcome_of t)
+    (lent-named-cut a.runtime a.dynamic a.bounds.now a.columns.now a.names.now c.column.ensures c.column-2.ensures c.column-3.ensures)
+    c.share_with_records.ensures
 
-pub share-spec : {M : Type 1} → statement M
-share-spec = tie.close (tie.spec (λ c κs. search rules) (λ c κs. search rules) (λ c κs. search rules) (λ c κs. search rules) returns)
+pub share_spec : {M : Type 1} → statement M
+share_spec = tie.close (tie.spec (λ c κs. search rules) (λ c κs. search rules) (λ c κs. search rules) (λ c κs. search rules) returns)

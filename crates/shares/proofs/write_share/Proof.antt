@@ -11,14 +11,14 @@ use Rattle.shares.proofs.write_share.Tie as tie
 
 returns : tie.Need-returns
 returns c =
-    let a = c.before.before.before.before.before.before.before.before.before.before.before.args in
-    let done = c.before.before.write-share-with-records in
+    let a = c.args in
+    let done = c.write_share_with_records in
     let out : List ℕ = done.new.1.1.1.1.1.1.1.1.0 in
     subst (λ (t : Lent). WrittenShare t a.out.now done.result out)
-    (lent-named-cut a.runtime a.dynamic a.bounds.now a.columns.now a.names.now c.before.before.before.before.before.before.column.ensures c.before.before.before.before.before.column2.ensures c.before.before.before.before.column3.ensures)
+    (lent-named-cut a.runtime a.dynamic a.bounds.now a.columns.now a.names.now c.column.ensures c.column-2.ensures c.column-3.ensures)
     done.ensures
 
-pub write-share-spec : {M : Type 1} → statement M
-write-share-spec =
+pub write_share_spec : {M : Type 1} → statement M
+write_share_spec =
     tie.close
     (tie.spec (λ c κs. search rules) (λ c κs. search rules) (λ c κs. search rules) (λ c κs. search rules) (λ c. search rules) returns)

@@ -30,100 +30,100 @@ written e = let a = e.args in with_records (table a.runtime a.dynamic a.bounds.n
 abbrev of : tie.Start → Project
 of e = current (written e)
 
-abbrev entry : tie.After-rows → tie.Start
+abbrev entry : tie.After-rows-modules → tie.Start
 entry k = k.before.before.before.before.before.before.before.before.before.before.before
 
-accepts : (k : tie.After-rows) → (lents (entry k)).number ≡ 0
-accepts k = sym k.before.before.refusal-number.ensures ∙ k.before.if1.false
+accepts : (k : tie.After-rows-modules) → (lents (entry k)).number ≡ 0
+accepts k = sym k.refusal_number-refused.ensures ∙ k.if-refused-ne0.false
 
-tested : (k : tie.After-rows) → Accepted (written (entry k))
+tested : (k : tie.After-rows-modules) → Accepted (written (entry k))
 tested k = let a = (entry k).args in lent-accepted a.bounds.now a.columns.now a.names.now (written (entry k)) (accepts k)
 
-ok : (k : tie.After-rows) → Accepted (of (entry k))
+ok : (k : tie.After-rows-modules) → Accepted (of (entry k))
 ok k = let a = (entry k).args in lent-current a.bounds.now a.columns.now a.names.now (written (entry k)) (accepts k)
 
 -- the module count
 
-abbrev count : tie.After-rows → ℕ
-count k = k.rows.result
+abbrev count : tie.After-rows-modules → ℕ
+count k = k.rows-modules.result
 
-counted : (k : tie.After-rows) → count k ≡ modules (of (entry k))
+counted : (k : tie.After-rows-modules) → count k ≡ modules (of (entry k))
 unfolding table read current
-counted k = k.rows.ensures
+counted k = k.rows-modules.ensures
 
 -- there are no more modules than the working array has places
-few : (k : tie.After-rows) → count k ≤ module_limit
+few : (k : tie.After-rows-modules) → count k ≤ module_limit
 few k = omega (arith, counted k, (ok k).sizes.normal)
 
 -- the parts that are lent have a place a module
 
-marks-len : (k : tie.After-rows) → length {A = ℕ} (take (count k) (replicate module_limit 0)) ≡ count k
+marks-len : (k : tie.After-rows-modules) → length {A = ℕ} (take (count k) (replicate module_limit 0)) ≡ count k
 marks-len k = length-take-le (count k) (replicate module_limit 0) (few k)
 
-numbers-len : (c : tie.Else2) → length (take (count c.before) (entry c.before).args.numbers.now) ≡ count c.before
-numbers-len c = length-take-le (count c.before) (entry c.before).args.numbers.now c.if2.false
+numbers-len : (c : tie.Else-numbers-modules) → length (take (count c.before) (entry c.before).args.numbers.now) ≡ count c.before
+numbers-len c = length-take-le (count c.before) (entry c.before).args.numbers.now c.if-numbers-modules.false
 
 -- the columns that were read, and the project that the core reads with them
 
-abbrev made-targets : tie.After-read-current → List ℕ
-made-targets k = k.read-current.new.1.1.1.1.1.1.1.0
+abbrev made-targets : tie.After-read_current → List ℕ
+made-targets k = k.read_current.new.1.1.1.1.1.1.1.0
 
-abbrev made-dependencies : tie.After-read-current → List ℕ
-made-dependencies k = k.read-current.new.1.1.1.1.1.1.1.1.0
+abbrev made-dependencies : tie.After-read_current → List ℕ
+made-dependencies k = k.read_current.new.1.1.1.1.1.1.1.1.0
 
-own : (k : tie.After-column) → let a = k.before.before.before.before.before.before.before.before.before.before.before.before.before.before.before.before.before.before.before.before.before.before.args in read (table a.runtime a.dynamic a.bounds.now a.columns.now) a.importers.now a.kinds.now (take (length a.targets.now) (made-targets k.before.before.before.before.before.before)) (take k.before.before.before.rows2.result (made-dependencies k.before.before.before.before.before.before)) k.column.result.now ≡ of k.before.before.before.before.before.before.before.before.before.before.before.before.before.before.before.before.before.before.before.before.before.before
+own : (k : tie.After-column) → let a = k.args in read (table a.runtime a.dynamic a.bounds.now a.columns.now) a.importers.now a.kinds.now (take (length a.targets.now) (made-targets k.before.before.before.before.before.before)) (take k.rows-dependency_rows.result (made-dependencies k.before.before.before.before.before.before)) k.column.result.now ≡ of k.before.before.before.before.before.before.before.before.before.before.before.before.before.before.before.before.before.before.before.before.before.before
 own k =
-    let a = k.before.before.before.before.before.before.before.before.before.before.before.before.before.before.before.before.before.before.before.before.before.before.args in
-    current-cut a.runtime a.dynamic a.bounds.now a.columns.now a.importers.now a.kinds.now a.targets.now k.before.before.before.before.before.before.read-current.ensures k.before.before.before.rows2.ensures k.column.ensures
+    let a = k.args in
+    current-cut a.runtime a.dynamic a.bounds.now a.columns.now a.importers.now a.kinds.now a.targets.now k.read_current.ensures k.rows-dependency_rows.ensures k.column.ensures
 
-returns : tie.Need-returns
-returns c = let e = c.before.before.before.before.before.before.before.before.before.before in project-refused (lents e) e.args.numbers.now e.args.sorted.now c.before.refusal-number.result c.before.refusal-number.ensures c.if1.true
+returns : tie.Need-returns-then-refused-ne0
+returns c = let e = c.before.before.before.before.before.before.before.before.before.before in project-refused (lents e) e.args.numbers.now e.args.sorted.now c.refusal_number-refused.result c.refusal_number-refused.ensures c.if-refused-ne0.true
 
-returns-2 : tie.Need-returns-2
-returns-2 c = let k = c.before in let e = entry k in numbers-refused (lents e) e.args.numbers.now e.args.sorted.now (accepts k) (omega (arith, counted k, c.if2.true))
+returns-2 : tie.Need-returns-then-numbers-modules
+returns-2 c = let k = c.before in let e = entry k in numbers-refused (lents e) e.args.numbers.now e.args.sorted.now (accepts k) (omega (arith, counted k, c.if-numbers-modules.true))
 
-returns-3 : tie.Need-returns-3
+returns-3 : tie.Need-returns-then-sorted-modules
 returns-3 c =
     let k = c.before.before in
     let e = entry k in
-    sorted-refused (lents e) e.args.numbers.now e.args.sorted.now (accepts k) (omega (arith, counted k, c.before.if2.false)) (omega (arith, counted k, c.if3.true))
+    sorted-refused (lents e) e.args.numbers.now e.args.sorted.now (accepts k) (omega (arith, counted k, c.if-numbers-modules.false)) (omega (arith, counted k, c.if-sorted-modules.true))
 
-read-current-requires : tie.Need-read-current-requires
+read-current-requires : tie.Need-read_current-requires
 read-current-requires c κs = (tested c.before.before.before.before, (length-replicate {A = ℕ} row_limit 0, length-replicate {A = ℕ} row_limit 0))
 
-array-share-prefix-read-targets : tie.Need-array-share-prefix-read-targets
+array-share-prefix-read-targets : tie.Need-slice_bounds-read_targets-end
 array-share-prefix-read-targets c =
-    let a = c.before.before.before.before.before.before.before.before.before.before.before.before.before.before.before.before.before.before.before.args in
-    targets-room a.runtime a.dynamic a.bounds.now a.columns.now a.importers.now a.kinds.now a.targets.now (tested c.before.before.before.before.before.before.before.before) c.before.before.before.read-current.ensures
+    let a = c.args in
+    targets-room a.runtime a.dynamic a.bounds.now a.columns.now a.importers.now a.kinds.now a.targets.now (tested c.before.before.before.before.before.before.before.before) c.read_current.ensures
 
-slice-aggregate-sort-table : tie.Need-slice-aggregate-sort-table
+slice-aggregate-sort-table : tie.Need-slice_bounds-sort_table-end
 slice-aggregate-sort-table c =
-    let a = c.before.before.before.before.before.before.before.before.before.before.before.before.before.before.before.before.before.before.before.before.args in
-    targets-size a.runtime a.dynamic a.bounds.now a.columns.now a.importers.now a.kinds.now a.targets.now (tested c.before.before.before.before.before.before.before.before.before) c.before.before.before.before.read-current.ensures
+    let a = c.args in
+    targets-size a.runtime a.dynamic a.bounds.now a.columns.now a.importers.now a.kinds.now a.targets.now (tested c.before.before.before.before.before.before.before.before.before) c.read_current.ensures
 
-array-share-prefix-read-dependencies : tie.Need-array-share-prefix-read-dependencies
+array-share-prefix-read-dependencies : tie.Need-slice_bounds-read_dependencies-end
 array-share-prefix-read-dependencies c =
-    let a = c.before.before.before.before.before.before.before.before.before.before.before.before.before.before.before.before.before.before.before.before.args in
-    dependencies-room a.runtime a.dynamic a.bounds.now a.columns.now a.importers.now a.kinds.now a.targets.now (tested c.before.before.before.before.before.before.before.before.before) c.before.before.before.before.read-current.ensures c.before.rows2.ensures
+    let a = c.args in
+    dependencies-room a.runtime a.dynamic a.bounds.now a.columns.now a.importers.now a.kinds.now a.targets.now (tested c.before.before.before.before.before.before.before.before.before) c.read_current.ensures c.rows-dependency_rows.ensures
 
-slice-aggregate-sort-table-2 : tie.Need-slice-aggregate-sort-table-2
+slice-aggregate-sort-table-2 : tie.Need-slice_bounds-sort_table-end-2
 slice-aggregate-sort-table-2 c =
-    let a = c.before.before.before.before.before.before.before.before.before.before.before.before.before.before.before.before.before.before.before.before.before.args in
-    dependencies-size a.runtime a.dynamic a.bounds.now a.columns.now a.importers.now a.kinds.now a.targets.now (tested c.before.before.before.before.before.before.before.before.before.before) c.before.before.before.before.before.read-current.ensures c.before.before.rows2.ensures
+    let a = c.args in
+    dependencies-size a.runtime a.dynamic a.bounds.now a.columns.now a.importers.now a.kinds.now a.targets.now (tested c.before.before.before.before.before.before.before.before.before.before) c.read_current.ensures c.rows-dependency_rows.ensures
 
-array-borrow-prefix-marks : tie.Need-array-borrow-prefix-marks
+array-borrow-prefix-marks : tie.Need-slice_bounds-marks-end
 array-borrow-prefix-marks c = few c.before.before.before.before.before.before.before.before.before.before.before
 
-slice-aggregate-sort-table-3 : tie.Need-slice-aggregate-sort-table-3
+slice-aggregate-sort-table-3 : tie.Need-slice_bounds-sort_table-end-3
 slice-aggregate-sort-table-3 c = sym (marks-len c.before.before.before.before.before.before.before.before.before.before.before.before)
 
-slice-relend-prefix-sort-table : tie.Need-slice-relend-prefix-sort-table
-slice-relend-prefix-sort-table c = c.before.before.before.before.before.before.before.before.before.before.before.if2.false
+slice-relend-prefix-sort-table : tie.Need-slice_bounds-sort_table-end-4
+slice-relend-prefix-sort-table c = c.if-numbers-modules.false
 
-slice-aggregate-sort-table-4 : tie.Need-slice-aggregate-sort-table-4
+slice-aggregate-sort-table-4 : tie.Need-slice_bounds-sort_table-end-5
 slice-aggregate-sort-table-4 c = sym (numbers-len c.before.before.before.before.before.before.before.before.before.before.before.before)
 
-sort-table-requires : tie.Need-sort-table-requires
+sort-table-requires : tie.Need-sort_table-count-requires
 sort-table-requires c κs =
     let k = c.before.before.before.before.before.before.before.before.before.before.before.before.before.before in
     let e = entry k in
@@ -132,21 +132,21 @@ sort-table-requires c κs =
       accepted = ok k;
       size = marks-len k ∙ counted k;
       places = numbers-len c.before.before.before.before.before.before.before.before.before.before.before.before.before ∙ sym (marks-len k);
-      room = omega (arith, marks-len k, c.before.before.before.before.before.before.before.before.before.before.before.before.if3.false);
+      room = omega (arith, marks-len k, c.if-sorted-modules.false);
     })
 
-returns-4 : tie.Need-returns-4
+returns-4 : tie.Need-returns
 returns-4 c =
     let k = c.before.before.before.before.before.before.before.before.before.before.before.before.before.before.before.before.before.before.before.before in
     let e = entry k in
-    let done = c.before.before.before.before.before.sort-table in
+    let done = c.sort_table-count in
     let marks : List ℕ = done.new.1.1.1.1.1.1.1.1.1.0 in
     let numbers : List ℕ = done.new.1.1.1.1.1.1.1.1.1.1.0 in
     let sorted : List ℕ = done.new.1.1.1.1.1.1.1.1.1.1.1.0 in
-    order-sorted (lents e) e.args.numbers.now e.args.sorted.now (accepts k) (omega (arith, counted k, c.before.before.before.before.before.before.before.before.before.before.before.before.before.before.before.before.before.before.before.if2.false)) (omega (arith, counted k, c.before.before.before.before.before.before.before.before.before.before.before.before.before.before.before.before.before.before.if3.false)) (count k) (counted k)
+    order-sorted (lents e) e.args.numbers.now e.args.sorted.now (accepts k) (omega (arith, counted k, c.if-numbers-modules.false)) (omega (arith, counted k, c.if-sorted-modules.false)) (count k) (counted k)
     (subst (λ (p : Project). Sorted (numbers_of p) (sorted_of p) (take (count k) (replicate module_limit 0)) e.args.sorted.now marks numbers sorted done.result) (own c.before.before.before.before.before.before.before.before.before) done.ensures)
 
-pub sort-modules-with-records-spec : {M : Type 1} → statement M
-sort-modules-with-records-spec =
+pub sort_modules_with_records_spec : {M : Type 1} → statement M
+sort_modules_with_records_spec =
     tie.close
     (tie.spec (λ c κs. search rules) returns (λ c κs. search rules) returns-2 returns-3 (λ c. search rules) (λ c. search rules) read-current-requires (λ c κs. search rules) array-share-prefix-read-targets slice-aggregate-sort-table array-share-prefix-read-dependencies slice-aggregate-sort-table-2 (λ c κs. search rules) array-borrow-prefix-marks slice-aggregate-sort-table-3 slice-relend-prefix-sort-table slice-aggregate-sort-table-4 sort-table-requires (λ c. search rules) (λ c. search rules) returns-4)

@@ -11,14 +11,14 @@ use Rattle.wrap_plan.proofs.plan_from_seeds.Tie as tie
 
 returns : tie.Need-returns
 returns c =
-    let a = c.before.before.before.before.before.before.before.before.before.before.before.before.args in
-    let done = c.before.before.plan-from-seeds-with-records in
+    let a = c.args in
+    let done = c.plan_from_seeds_with_records in
     let plan : List ℕ = done.new.1.1.1.1.1.1.1.1.1.0 in
     subst (λ (t : Lent). PlanFromSeeds t a.seeds.now a.marks.now done.result plan)
-    (lent_cut a.runtime a.dynamic a.bounds.now a.columns.now a.names.now c.before.before.before.before.before.before.column.ensures c.before.before.before.before.before.column2.ensures c.before.before.before.before.column3.ensures)
+    (lent_cut a.runtime a.dynamic a.bounds.now a.columns.now a.names.now c.column.ensures c.column-2.ensures c.column-3.ensures)
     done.ensures
 
-pub plan-from-seeds-spec : {M : Type 1} → statement M
-plan-from-seeds-spec =
+pub plan_from_seeds_spec : {M : Type 1} → statement M
+plan_from_seeds_spec =
     tie.close
     (tie.spec (λ c κs. search rules) (λ c κs. search rules) (λ c κs. search rules) (λ c κs. search rules) (λ c. search rules) returns)

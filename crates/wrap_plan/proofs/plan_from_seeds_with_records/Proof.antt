@@ -34,93 +34,93 @@ written e = let a = e.args in with_records (table a.runtime a.dynamic a.bounds.n
 abbrev of : tie.Start → Project
 of e = current (written e)
 
-abbrev entry : tie.After-rows → tie.Start
+abbrev entry : tie.After-rows-n → tie.Start
 entry k = k.before.before.before.before.before.before.before.before.before.before.before
 
-accepts : (k : tie.After-rows) → (lents (entry k)).number ≡ 0
-accepts k = sym k.before.before.refusal-number.ensures ∙ k.before.if1.false
+accepts : (k : tie.After-rows-n) → (lents (entry k)).number ≡ 0
+accepts k = sym k.refusal_number-number.ensures ∙ k.if-number-ne0.false
 
-tested : (k : tie.After-rows) → Accepted (written (entry k))
+tested : (k : tie.After-rows-n) → Accepted (written (entry k))
 tested k = let a = (entry k).args in lent-accepted a.bounds.now a.columns.now a.names.now (written (entry k)) (accepts k)
 
-ok : (k : tie.After-rows) → Accepted (of (entry k))
+ok : (k : tie.After-rows-n) → Accepted (of (entry k))
 ok k = let a = (entry k).args in lent-current a.bounds.now a.columns.now a.names.now (written (entry k)) (accepts k)
 
 -- the module count
 
-abbrev count : tie.After-rows → ℕ
-count k = k.rows.result
+abbrev count : tie.After-rows-n → ℕ
+count k = k.rows-n.result
 
-counted : (k : tie.After-rows) → count k ≡ modules (of (entry k))
+counted : (k : tie.After-rows-n) → count k ≡ modules (of (entry k))
 unfolding table read current
-counted k = k.rows.ensures
+counted k = k.rows-n.ensures
 
 -- the test of the seeds is the project's
-seeds-tested : (k : tie.After-seeds-fit) → k.seeds-fit.result ≡ seeds_fit (modules (of (entry k.before))) (entry k.before).args.seeds.now
-seeds-tested k = subst (λ (n : ℕ). k.seeds-fit.result ≡ seeds_fit n (entry k.before).args.seeds.now) (counted k.before) k.seeds-fit.ensures
+seeds-tested : (k : tie.After-seeds_fit) → k.seeds_fit.result ≡ seeds_fit (modules (of (entry k.before))) (entry k.before).args.seeds.now
+seeds-tested k = subst (λ (n : ℕ). k.seeds_fit.result ≡ seeds_fit n (entry k.before).args.seeds.now) (counted k.before) k.seeds_fit.ensures
 
-fits : (c : tie.Else2) → seeds_fit (modules (of (entry c.before.before))) (entry c.before.before).args.seeds.now ≡ true
-fits c = sym (seeds-tested c.before) ∙ not-false c.before.seeds-fit.result c.if2.false
+fits : (c : tie.Else-not-seeds_fit) → seeds_fit (modules (of (entry c.before.before))) (entry c.before.before).args.seeds.now ≡ true
+fits c = sym (seeds-tested c.before) ∙ not-false c.seeds_fit.result c.if-not-seeds_fit.false
 
 -- the part of the slice that has a place a module
-part : (c : tie.Else3) → length (take (count c.before.before.before) (entry c.before.before.before).args.marks.now) ≡ count c.before.before.before
-part c = length-take-le (count c.before.before.before) (entry c.before.before.before).args.marks.now c.if3.false
+part : (c : tie.Else-marks-n) → length (take (count c.before.before.before) (entry c.before.before.before).args.marks.now) ≡ count c.before.before.before
+part c = length-take-le (count c.before.before.before) (entry c.before.before.before).args.marks.now c.if-marks-n.false
 
 -- the columns that were read, and the project that the core reads with them
 
-abbrev made-targets : tie.After-read-current → List ℕ
-made-targets k = k.read-current.new.1.1.1.1.1.1.1.0
+abbrev made-targets : tie.After-read_current → List ℕ
+made-targets k = k.read_current.new.1.1.1.1.1.1.1.0
 
-abbrev made-dependencies : tie.After-read-current → List ℕ
-made-dependencies k = k.read-current.new.1.1.1.1.1.1.1.1.0
+abbrev made-dependencies : tie.After-read_current → List ℕ
+made-dependencies k = k.read_current.new.1.1.1.1.1.1.1.1.0
 
-own : (k : tie.After-column) → let a = k.before.before.before.before.before.before.before.before.before.before.before.before.before.before.before.before.before.before.before.before.before.before.before.args in read (table a.runtime a.dynamic a.bounds.now a.columns.now) a.importers.now a.kinds.now (take (length a.targets.now) (made-targets k.before.before.before.before.before.before)) (take k.before.before.before.rows2.result (made-dependencies k.before.before.before.before.before.before)) k.column.result.now ≡ of k.before.before.before.before.before.before.before.before.before.before.before.before.before.before.before.before.before.before.before.before.before.before.before
+own : (k : tie.After-column) → let a = k.args in read (table a.runtime a.dynamic a.bounds.now a.columns.now) a.importers.now a.kinds.now (take (length a.targets.now) (made-targets k.before.before.before.before.before.before)) (take k.rows-dependency_rows.result (made-dependencies k.before.before.before.before.before.before)) k.column.result.now ≡ of k.before.before.before.before.before.before.before.before.before.before.before.before.before.before.before.before.before.before.before.before.before.before.before
 own k =
-    let a = k.before.before.before.before.before.before.before.before.before.before.before.before.before.before.before.before.before.before.before.before.before.before.before.args in
-    current-cut a.runtime a.dynamic a.bounds.now a.columns.now a.importers.now a.kinds.now a.targets.now k.before.before.before.before.before.before.read-current.ensures k.before.before.before.rows2.ensures k.column.ensures
+    let a = k.args in
+    current-cut a.runtime a.dynamic a.bounds.now a.columns.now a.importers.now a.kinds.now a.targets.now k.read_current.ensures k.rows-dependency_rows.ensures k.column.ensures
 
-returns : tie.Need-returns
-returns c = let e = c.before.before.before.before.before.before.before.before.before.before in project-refused (lents e) e.args.seeds.now e.args.marks.now c.before.refusal-number.result c.before.refusal-number.ensures c.if1.true
+returns : tie.Need-returns-then-number-ne0
+returns c = let e = c.before.before.before.before.before.before.before.before.before.before in project-refused (lents e) e.args.seeds.now e.args.marks.now c.refusal_number-number.result c.refusal_number-number.ensures c.if-number-ne0.true
 
-returns-2 : tie.Need-returns-2
+returns-2 : tie.Need-returns-then-not-seeds_fit
 returns-2 c =
     let k = c.before.before in
     let e = entry k in
-    seeds-refused (lents e) e.args.seeds.now e.args.marks.now (accepts k) (sym (seeds-tested c.before) ∙ not-true c.before.seeds-fit.result c.if2.true)
+    seeds-refused (lents e) e.args.seeds.now e.args.marks.now (accepts k) (sym (seeds-tested c.before) ∙ not-true c.seeds_fit.result c.if-not-seeds_fit.true)
 
-returns-3 : tie.Need-returns-3
-returns-3 c = let k = c.before.before.before in let e = entry k in room-refused (lents e) e.args.seeds.now e.args.marks.now (accepts k) (fits c.before) (omega (arith, counted k, c.if3.true))
+returns-3 : tie.Need-returns-then-marks-n
+returns-3 c = let k = c.before.before.before in let e = entry k in room-refused (lents e) e.args.seeds.now e.args.marks.now (accepts k) (fits c.before) (omega (arith, counted k, c.if-marks-n.true))
 
-read-current-requires : tie.Need-read-current-requires
+read-current-requires : tie.Need-read_current-requires
 read-current-requires c κs = (tested c.before.before.before.before.before, (length-replicate {A = ℕ} row_limit 0, length-replicate {A = ℕ} row_limit 0))
 
-array-share-prefix-read-targets : tie.Need-array-share-prefix-read-targets
+array-share-prefix-read-targets : tie.Need-slice_bounds-read_targets-end
 array-share-prefix-read-targets c =
-    let a = c.before.before.before.before.before.before.before.before.before.before.before.before.before.before.before.before.before.before.before.before.args in
-    targets-room a.runtime a.dynamic a.bounds.now a.columns.now a.importers.now a.kinds.now a.targets.now (tested c.before.before.before.before.before.before.before.before.before) c.before.before.before.read-current.ensures
+    let a = c.args in
+    targets-room a.runtime a.dynamic a.bounds.now a.columns.now a.importers.now a.kinds.now a.targets.now (tested c.before.before.before.before.before.before.before.before.before) c.read_current.ensures
 
-slice-aggregate-plan-seeds : tie.Need-slice-aggregate-plan-seeds
+slice-aggregate-plan-seeds : tie.Need-slice_bounds-plan_seeds-end
 slice-aggregate-plan-seeds c =
-    let a = c.before.before.before.before.before.before.before.before.before.before.before.before.before.before.before.before.before.before.before.before.before.args in
-    targets-size a.runtime a.dynamic a.bounds.now a.columns.now a.importers.now a.kinds.now a.targets.now (tested c.before.before.before.before.before.before.before.before.before.before) c.before.before.before.before.read-current.ensures
+    let a = c.args in
+    targets-size a.runtime a.dynamic a.bounds.now a.columns.now a.importers.now a.kinds.now a.targets.now (tested c.before.before.before.before.before.before.before.before.before.before) c.read_current.ensures
 
-array-share-prefix-read-dependencies : tie.Need-array-share-prefix-read-dependencies
+array-share-prefix-read-dependencies : tie.Need-slice_bounds-read_dependencies-end
 array-share-prefix-read-dependencies c =
-    let a = c.before.before.before.before.before.before.before.before.before.before.before.before.before.before.before.before.before.before.before.before.before.args in
-    dependencies-room a.runtime a.dynamic a.bounds.now a.columns.now a.importers.now a.kinds.now a.targets.now (tested c.before.before.before.before.before.before.before.before.before.before) c.before.before.before.before.read-current.ensures c.before.rows2.ensures
+    let a = c.args in
+    dependencies-room a.runtime a.dynamic a.bounds.now a.columns.now a.importers.now a.kinds.now a.targets.now (tested c.before.before.before.before.before.before.before.before.before.before) c.read_current.ensures c.rows-dependency_rows.ensures
 
-slice-aggregate-plan-seeds-2 : tie.Need-slice-aggregate-plan-seeds-2
+slice-aggregate-plan-seeds-2 : tie.Need-slice_bounds-plan_seeds-end-2
 slice-aggregate-plan-seeds-2 c =
-    let a = c.before.before.before.before.before.before.before.before.before.before.before.before.before.before.before.before.before.before.before.before.before.before.args in
-    dependencies-size a.runtime a.dynamic a.bounds.now a.columns.now a.importers.now a.kinds.now a.targets.now (tested c.before.before.before.before.before.before.before.before.before.before.before) c.before.before.before.before.before.read-current.ensures c.before.before.rows2.ensures
+    let a = c.args in
+    dependencies-size a.runtime a.dynamic a.bounds.now a.columns.now a.importers.now a.kinds.now a.targets.now (tested c.before.before.before.before.before.before.before.before.before.before.before) c.read_current.ensures c.rows-dependency_rows.ensures
 
-slice-relend-prefix-plan-seeds : tie.Need-slice-relend-prefix-plan-seeds
-slice-relend-prefix-plan-seeds c = c.before.before.before.before.before.before.before.before.before.if3.false
+slice-relend-prefix-plan-seeds : tie.Need-slice_bounds-plan_seeds-end-3
+slice-relend-prefix-plan-seeds c = c.if-marks-n.false
 
-slice-aggregate-plan-seeds-3 : tie.Need-slice-aggregate-plan-seeds-3
+slice-aggregate-plan-seeds-3 : tie.Need-slice_bounds-plan_seeds-end-4
 slice-aggregate-plan-seeds-3 c = sym (part c.before.before.before.before.before.before.before.before.before.before)
 
-plan-seeds-requires : tie.Need-plan-seeds-requires
+plan-seeds-requires : tie.Need-plan_seeds-count-requires
 plan-seeds-requires c κs =
     let k = c.before.before.before.before.before.before.before.before.before.before.before.before.before in
     let e = entry k in
@@ -132,19 +132,19 @@ plan-seeds-requires c κs =
       inside = subst (λ (n : ℕ). Below n e.args.seeds.now) (sym (part f ∙ counted k)) (seeds-below (lents e) e.args.seeds.now e.args.marks.now (accepts k) (fits c.before.before.before.before.before.before.before.before.before.before.before));
     })
 
-returns-4 : tie.Need-returns-4
+returns-4 : tie.Need-returns
 returns-4 c =
     let k = c.before.before.before.before.before.before.before.before.before.before.before.before.before.before.before.before in
     let e = entry k in
-    let done = c.before.before.plan-seeds in
+    let done = c.plan_seeds-count in
     let plan : List ℕ = done.new.1.1.1.1.1.1.1.1.1.1.0 in
     let whole = own c.before.before.before.before in
     subst (λ (n : ℕ). PlanFromSeeds (lents e) e.args.seeds.now e.args.marks.now (Counted done.result) (plan ++ drop n e.args.marks.now)) (sym (counted k))
-    (plan-counted (lents e) e.args.seeds.now e.args.marks.now (accepts k) (fits c.before.before.before.before.before.before.before.before.before.before.before.before.before.before) (omega (arith, counted k, c.before.before.before.before.before.before.before.before.before.before.before.before.before.if3.false)) plan done.result
+    (plan-counted (lents e) e.args.seeds.now e.args.marks.now (accepts k) (fits c.before.before.before.before.before.before.before.before.before.before.before.before.before.before) (omega (arith, counted k, c.if-marks-n.false)) plan done.result
     (subst (λ (p : Project). plan ≡ plan_of p e.args.seeds.now) whole done.ensures.0)
     (subst (λ (p : Project). done.result ≡ ones (plan_of p e.args.seeds.now)) whole done.ensures.1))
 
-pub plan-from-seeds-with-records-spec : {M : Type 1} → statement M
-plan-from-seeds-with-records-spec =
+pub plan_from_seeds_with_records_spec : {M : Type 1} → statement M
+plan_from_seeds_with_records_spec =
     tie.close
     (tie.spec (λ c κs. search rules) returns (λ c κs. search rules) (λ c κs. search rules) returns-2 returns-3 (λ c. search rules) (λ c. search rules) read-current-requires (λ c κs. search rules) array-share-prefix-read-targets slice-aggregate-plan-seeds array-share-prefix-read-dependencies slice-aggregate-plan-seeds-2 (λ c κs. search rules) slice-relend-prefix-plan-seeds slice-aggregate-plan-seeds-3 plan-seeds-requires (λ c. search rules) returns-4)

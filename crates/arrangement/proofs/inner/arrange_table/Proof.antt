@@ -22,21 +22,21 @@ of e = let a = e.args in read (table a.runtime a.dynamic a.bounds.now a.columns.
 
 -- the rows of chunks, and what was cut and copied before
 module _ (k : tie.After-rows) where
-  abbrev cut : tie.After-column3
+  abbrev cut : tie.After-column-3
   cut = k.before.before
 
-  abbrev copy : tie.After-copy-to
+  abbrev copy : tie.After-copy_to
   copy = cut.before.before.before.before.before
 
   abbrev entry : tie.Start
   entry = copy.before.before.before.before.before.before.before.before.before.before.before.before
 
   -- the members, copied
-  same : copy.copy-to.last.1.0 ≡ entry.args.members.now
+  same : copy.copy_to.last.1.0 ≡ entry.args.members.now
   unfolding read
-  same = copy.copy-to.ensures ∙ copied entry.args.members.now entry.args.out.now entry.pre.0.size
+  same = copy.copy_to.ensures ∙ copied entry.args.members.now entry.args.out.now entry.requires.0.size
 
-copy-to-requires : tie.Need-copy-to-requires
+copy-to-requires : tie.Need-copy_to-requires
 unfolding read
 copy-to-requires c κs = let e = c.before.before.before.before.before.before.before.before.before.before.before in omega (arith, e.requires.0.size)
 
@@ -58,12 +58,12 @@ arrange-requires c κs =
     let e = entry c in
     let a = e.args in
     let k = cut c in
-    asked3 (λ normal sensitive chunk. Fit a.names.now normal a.importers.now sensitive a.numbers.now chunk (copy c).copy-to.new.1.0 c.rows.result) k.before.before.column.ensures k.before.column2.ensures k.column3.ensures
-    (subst (λ (numbers : List ℕ). Fit a.names.now (of e).normal a.importers.now (of e).sensitive numbers (of e).member_chunk (copy c).copy-to.new.1.0 c.rows.result) (sym e.pre.1.1)
+    asked3 (λ normal sensitive chunk. Fit a.names.now normal a.importers.now sensitive a.numbers.now chunk (copy c).copy_to.new.1.0 c.rows.result) k.column.ensures k.column-2.ensures k.column-3.ensures
+    (subst (λ (numbers : List ℕ). Fit a.names.now (of e).normal a.importers.now (of e).sensitive numbers (of e).member_chunk (copy c).copy_to.new.1.0 c.rows.result) (sym e.requires.1.1)
     (subst (λ (members : List ℕ). Fit a.names.now (of e).normal a.importers.now (of e).sensitive (numbers_of (of e)) (of e).member_chunk members c.rows.result) (sym (same c))
-    (subst (Fit a.names.now (of e).normal a.importers.now (of e).sensitive (numbers_of (of e)) (of e).member_chunk a.members.now) (sym c.rows.ensures) (arranging-fit (of e) e.pre.0.accepted a.names.now e.pre.1.0))))
+    (subst (Fit a.names.now (of e).normal a.importers.now (of e).sensitive (numbers_of (of e)) (of e).member_chunk a.members.now) (sym c.rows.ensures) (arranging-fit (of e) e.requires.0.accepted a.names.now e.requires.1.0))))
 
-same_length : tie.Need-same-length
+same_length : tie.Need-shape_of-out
 same_length c = search rules
 
 returns : tie.Need-returns
@@ -75,13 +75,13 @@ returns c =
     let a = e.args in
     let k = cut r in
     let made : List ℕ = call.arrange.new.1.1.1.1.1.1.0 in
-    given3 (λ normal sensitive chunk. made ≡ arranged (key_of a.names.now normal a.importers.now sensitive a.numbers.now) r.rows.result chunk (copy r).copy-to.new.1.0) k.before.before.column.ensures k.before.column2.ensures k.column3.ensures call.arrange.ensures
-    ∙ ap (λ (numbers : List ℕ). arranged (key_of a.names.now (of e).normal a.importers.now (of e).sensitive numbers) r.rows.result (of e).member_chunk (copy r).copy-to.new.1.0) e.pre.1.1
-    ∙ ap (λ (n : ℕ). arranged (key_of a.names.now (of e).normal a.importers.now (of e).sensitive (numbers_of (of e))) n (of e).member_chunk (copy r).copy-to.new.1.0) r.rows.ensures
+    given3 (λ normal sensitive chunk. made ≡ arranged (key_of a.names.now normal a.importers.now sensitive a.numbers.now) r.rows.result chunk (copy r).copy_to.new.1.0) k.column.ensures k.column-2.ensures k.column-3.ensures call.arrange.ensures
+    ∙ ap (λ (numbers : List ℕ). arranged (key_of a.names.now (of e).normal a.importers.now (of e).sensitive numbers) r.rows.result (of e).member_chunk (copy r).copy_to.new.1.0) e.requires.1.1
+    ∙ ap (λ (n : ℕ). arranged (key_of a.names.now (of e).normal a.importers.now (of e).sensitive (numbers_of (of e))) n (of e).member_chunk (copy r).copy_to.new.1.0) r.rows.ensures
     ∙ ap (arranged (key_of a.names.now (of e).normal a.importers.now (of e).sensitive (numbers_of (of e))) (length (of e).order) (of e).member_chunk) (same r)
 
-pub arrange-table-spec : {M : Type 1} → statement M
-arrange-table-spec =
+pub arrange_table_spec : {M : Type 1} → statement M
+arrange_table_spec =
     tie.close
     (tie.spec
     copy-to-requires

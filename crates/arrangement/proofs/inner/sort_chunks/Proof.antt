@@ -11,41 +11,41 @@ use Rattle.arrangement.proofs.Chunks.{Arranging, arranging-start, arranging-held
 use Rattle.arrangement.proofs.inner.sort_chunks.Statement.{statement}
 use Rattle.arrangement.proofs.inner.sort_chunks.Tie as tie
 
-abbrev invariant-loop : tie.invariant-loop
+abbrev invariant-loop : tie.invariant-loop-c
 invariant-loop groups places names member-chunk members₀ work₀ chunks start₀ c₀ members work start c =
     (c ≤ chunks) × (length work ≡ length work₀) × ((f : Members member-chunk members₀ chunks) → Arranging (held_key groups places names) member-chunk members₀ chunks f members c start)
 
-abbrev decreases-loop : tie.decreases-loop
+abbrev decreases-loop : tie.decreases-loop-c
 decreases-loop groups places names member-chunk members₀ work₀ chunks start₀ c₀ members work start c = chunks - c
 
 -- the entry, seen from the loop's head
-abbrev entry : tie.At-loop invariant-loop decreases-loop → tie.Start invariant-loop decreases-loop
+abbrev entry : tie.At-loop-c invariant-loop decreases-loop → tie.Start invariant-loop decreases-loop
 entry l = l.before.before.before.before.before.before.before
 
 -- the rows of the chunk at hand
-module _ (c : tie.After-first-row invariant-loop decreases-loop) where
-  abbrev loop : tie.At-loop invariant-loop decreases-loop
+module _ (c : tie.After-first_row-end invariant-loop decreases-loop) where
+  abbrev loop : tie.At-loop-c invariant-loop decreases-loop
   loop = c.before.before
 
-  ordered : loop.loop.start ≤ c.first-row.result
-  ordered = let e = entry loop in arranging-ordered _ _ _ _ e.pre.0 _ _ _ (loop.loop.inv.2 e.pre.0) c.first-row.result c.first-row.ensures
+  ordered : loop.loop-c.start ≤ c.first_row-end.result
+  ordered = let e = entry loop in arranging-ordered _ _ _ _ e.requires.rows _ _ _ (loop.loop-c.invariant.2 e.requires.rows) c.first_row-end.result c.first_row-end.ensures
 
-  within : c.first-row.result ≤ length loop.loop.members
-  within = let e = entry loop in arranging-within _ _ _ _ e.pre.0 _ _ _ (loop.loop.inv.2 e.pre.0) c.first-row.result c.first-row.ensures
+  within : c.first_row-end.result ≤ length loop.loop-c.members
+  within = let e = entry loop in arranging-within _ _ _ _ e.requires.rows _ _ _ (loop.loop-c.invariant.2 e.requires.rows) c.first_row-end.result c.first_row-end.ensures
 
-loop-holds : tie.Need-loop-init invariant-loop decreases-loop
+loop-holds : tie.Need-loop-c-init invariant-loop decreases-loop
 loop-holds c = (omega arith, refl, λ f. arranging-start _ _ _ _ f)
 
-add-first-row : tie.Need-overflow-add-first-row invariant-loop decreases-loop
-add-first-row c = omega (arith, (entry c.before).good.1.1.1.1.1.1.0)
+add-first-row : tie.Need-overflow_add-c invariant-loop decreases-loop
+add-first-row c = omega (arith, (entry c.before).well_formed.1.1.1.1.1.1.0)
 
-first-row-requires : tie.Need-first-row-requires invariant-loop decreases-loop
-first-row-requires c κs = (entry c.before).pre.0.rising
+first-row-requires : tie.Need-first_row-end-requires invariant-loop decreases-loop
+first-row-requires c κs = (entry c.before).requires.rows.rising
 
-mul-merge-sort : tie.Need-overflow-mul-merge-sort invariant-loop decreases-loop
-mul-merge-sort c = omega (arith, ordered c, within c, ((loop c).loop.invariant.2 (entry (loop c)).pre.0).size, (entry (loop c)).good.1.1.1.1.0)
+mul-merge-sort : tie.Need-offset_bounds-members-start invariant-loop decreases-loop
+mul-merge-sort c = omega (arith, ordered c, within c, ((loop c).loop-c.invariant.2 (entry (loop c)).requires.rows).size, (entry (loop c)).well_formed.1.1.1.1.0)
 
-sub-merge-sort : tie.Need-overflow-sub-merge-sort invariant-loop decreases-loop
+sub-merge-sort : tie.Need-slice_bounds-merge_sort-count invariant-loop decreases-loop
 sub-merge-sort c = ordered c
 
 part-merge-sort-start : tie.Need-slice-bounds-merge-sort-start invariant-loop decreases-loop
@@ -54,49 +54,49 @@ part-merge-sort-start c = ordered c
 part-merge-sort-end : tie.Need-slice-bounds-merge-sort-end invariant-loop decreases-loop
 part-merge-sort-end c = within c
 
-merge-sort-requires : tie.Need-merge-sort-requires invariant-loop decreases-loop
+merge-sort-requires : tie.Need-merge_sort-requires invariant-loop decreases-loop
 merge-sort-requires c κs =
     let k = c.before.before in
     let l = loop k in
     let e = entry l in
-    let g = l.loop.inv.2 e.pre.0 in
-    let size = length-take-le (k.first-row.result - l.loop.start) (drop l.loop.start l.loop.members) (omega (arith, length-drop l.loop.start l.loop.members, ordered k, within k)) in
-    (arranging-held _ _ _ _ e.pre.0 _ _ _ g e.pre.1.0 (k.first-row.result - l.loop.start), omega (arith, size, within k, g.size, l.loop.inv.1, e.pre.1.1))
+    let g = l.loop-c.invariant.2 e.requires.rows in
+    let size = length-take-le (k.first_row-end.result - l.loop-c.start) (drop l.loop-c.start l.loop-c.members) (omega (arith, length-drop l.loop-c.start l.loop-c.members, ordered k, within k)) in
+    (arranging-held _ _ _ _ e.requires.rows _ _ _ g e.requires.held (k.first_row-end.result - l.loop-c.start), omega (arith, size, within k, g.size, l.loop-c.invariant.1, e.requires.room))
 
-add-c : tie.Need-overflow-add-c invariant-loop decreases-loop
-add-c c = omega (arith, (entry (loop c.before.before.before.before.before.before.before)).good.1.1.1.1.1.1.0)
+add-c : tie.Need-overflow_step-c invariant-loop decreases-loop
+add-c c = omega (arith, (entry (loop c.before.before.before.before.before.before.before)).well_formed.1.1.1.1.1.1.0)
 
-loop-less : tie.Need-loop-smaller invariant-loop decreases-loop
+loop-less : tie.Need-loop-c-smaller invariant-loop decreases-loop
 loop-less c = omega arith
 
-loop-again : tie.Need-loop-preserved invariant-loop decreases-loop
+loop-again : tie.Need-loop-c-preserved invariant-loop decreases-loop
 loop-again c =
     let m = c.before.before.before.before in
     let r = m.before.before.before in
     let l = loop r in
     let e = entry l in (
-      omega (arith, r.before.loop-test.true),
-      c.before.work.given ∙ l.loop.inv.1,
-      λ f. arranging-next _ _ _ _ f _ _ _ (l.loop.inv.2 f) r.first-row.result r.first-row.ensures m.merge-sort.new.1.1.1.0 m.merge-sort.ensures,
+      omega (arith, r.loop-c-test.true),
+      c.work-1.given ∙ l.loop-c.invariant.1,
+      λ f. arranging-next _ _ _ _ f _ _ _ (l.loop-c.invariant.2 f) r.first_row-end.result r.first_row-end.ensures m.merge_sort.new.1.1.1.0 m.merge_sort.ensures,
     )
 
-same_length : tie.Need-same-length invariant-loop decreases-loop
-same_length c = let l = c.before in (l.loop.invariant.2 (entry l).requires.0).size
+same_length : tie.Need-shape_of-members invariant-loop decreases-loop
+same_length c = let l = c.before in (l.loop-c.invariant.2 (entry l).requires.0).size
 
-same-length-2 : tie.Need-same-length-2 invariant-loop decreases-loop
-same-length-2 c = c.before.loop.invariant.1
+same-length-2 : tie.Need-shape_of-work invariant-loop decreases-loop
+same-length-2 c = c.loop-c.invariant.1
 
 returns : tie.Need-returns invariant-loop decreases-loop
 returns c =
     let l = c.before in
     let e = entry l in
     let k = held_key e.args.groups.now e.args.places.now e.args.names.now in
-    let last : l.loop.c ≡ e.args.chunks = omega (arith, c.loop-test.false, l.loop.invariant.0) in
-    arranging-end _ _ _ _ e.pre.0 l.loop.members l.loop.start
-    (subst (λ (n : ℕ). Arranging k e.args.member-chunk.now e.args.members.now e.args.chunks e.pre.0 l.loop.members n l.loop.start) last (l.loop.invariant.2 e.pre.0))
+    let last : l.loop-c.c ≡ e.args.chunks = omega (arith, c.loop-c-test.false, l.loop-c.invariant.0) in
+    arranging-end _ _ _ _ e.requires.rows l.loop-c.members l.loop-c.start
+    (subst (λ (n : ℕ). Arranging k e.args.member-chunk.now e.args.members.now e.args.chunks e.requires.rows l.loop-c.members n l.loop-c.start) last (l.loop-c.invariant.2 e.requires.rows))
 
-pub sort-chunks-spec : {M : Type 1} → statement M
-sort-chunks-spec =
+pub sort_chunks_spec : {M : Type 1} → statement M
+sort_chunks_spec =
     tie.close
     (tie.spec
     invariant-loop

@@ -47,37 +47,37 @@ eligibles e = ap length e.requires.0.eligible_set ∙ length-marks_of (eligible 
 
 -- the marks
 
-abbrev entry : tie.After-mark-entries → tie.Start
+abbrev entry : tie.After-mark_entries → tie.Start
 entry k = k.before.before.before.before.before.before.before.before.before.before.before.before.before.before
 
-abbrev marks : tie.After-mark-entries → List ℕ
-marks k = k.mark-entries.new.1.1.1.1.1.1.1.1.1.1.1.1.0
+abbrev marks : tie.After-mark_entries → List ℕ
+marks k = k.mark_entries.new.1.1.1.1.1.1.1.1.1.1.1.1.0
 
-lent : (k : tie.After-mark-entries) → Lent 4096 (size (entry k)) (marks k)
-lent k = record { fits = few (entry k); kept = k.mark-entries.auto.1.1.1.1.1.1.1.1.1.1.1.1.0 }
+lent : (k : tie.After-mark_entries) → Lent 4096 (size (entry k)) (marks k)
+lent k = record { fits = few (entry k); kept = k.mark_entries.auto.asked }
 
 -- what is marked stands in a suffix, by the project's own roots and marks
-in_some : (k : tie.After-mark-entries) (m : ℕ) → has (marks k) m ≡ true → InSome (of (entry k)) (roots (of (entry k))) (sensitive_marks (of (entry k))) (entry k).args.plan.now m
+in_some : (k : tie.After-mark_entries) (m : ℕ) → has (marks k) m ≡ true → InSome (of (entry k)) (roots (of (entry k))) (sensitive_marks (of (entry k))) (entry k).args.plan.now m
 in_some k m e =
     let s = entry k in
-    subst (λ (xs : List ℕ). InSome (of s) (roots (of s)) xs s.args.plan.now m) s.pre.0.sensitive_set
-    (subst (λ (xs : List ℕ). InSome (of s) xs s.args.sensitive.now s.args.plan.now m) s.pre.0.root
-    (⊎_elim (λ q. absurd (part_none 4096 (size s) m q)) (λ q. q) (k.mark-entries.ensures.only m e)))
+    subst (λ (xs : List ℕ). InSome (of s) (roots (of s)) xs s.args.plan.now m) s.requires.0.sensitive_set
+    (subst (λ (xs : List ℕ). InSome (of s) xs s.args.sensitive.now s.args.plan.now m) s.requires.0.root
+    (⊎_elim (λ q. absurd (part_none 4096 (size s) m q)) (λ q. q) (k.mark_entries.ensures.only m e)))
 
-some_in : (k : tie.After-mark-entries) (m : ℕ) → m < size (entry k) → InSome (of (entry k)) (roots (of (entry k))) (sensitive_marks (of (entry k))) (entry k).args.plan.now m → has (marks k) m ≡ true
+some_in : (k : tie.After-mark_entries) (m : ℕ) → m < size (entry k) → InSome (of (entry k)) (roots (of (entry k))) (sensitive_marks (of (entry k))) (entry k).args.plan.now m → has (marks k) m ≡ true
 some_in k m l i =
     let s = entry k in
-    k.mark-entries.ensures.all m (omega (arith, part_length 4096 (size s) (few s)))
-    (subst (λ (xs : List ℕ). InSome (of s) xs s.args.sensitive.now s.args.plan.now m) (sym s.pre.0.root)
-    (subst (λ (xs : List ℕ). InSome (of s) (roots (of s)) xs s.args.plan.now m) (sym s.pre.0.sensitive_set) i))
+    k.mark_entries.ensures.all m (omega (arith, part_length 4096 (size s) (few s)))
+    (subst (λ (xs : List ℕ). InSome (of s) xs s.args.sensitive.now s.args.plan.now m) (sym s.requires.0.root)
+    (subst (λ (xs : List ℕ). InSome (of s) (roots (of s)) xs s.args.plan.now m) (sym s.requires.0.sensitive_set) i))
 
-array-borrow-prefix-asked : tie.Need-array-borrow-prefix-asked
+array-borrow-prefix-asked : tie.Need-slice_bounds-asked-end
 array-borrow-prefix-asked c = few c.before.before.before.before.before.before.before.before.before.before.before.before
 
-slice-aggregate-mark-entries : tie.Need-slice-aggregate-mark-entries
+slice-aggregate-mark-entries : tie.Need-slice_bounds-mark_entries-end
 slice-aggregate-mark-entries c = let e = c.before.before.before.before.before.before.before.before.before.before.before.before.before in sym (part_length 4096 (size e) (few e))
 
-mark-entries-requires : tie.Need-mark-entries-requires
+mark-entries-requires : tie.Need-mark_entries-requires
 mark-entries-requires c κs =
     let e = c.before.before.before.before.before.before.before.before.before.before.before.before.before in
     let n = part_length 4096 (size e) (few e) in (
@@ -85,10 +85,10 @@ mark-entries-requires c κs =
       subst (Below _) (sym e.requires.0.root) (subst (λ (i : ℕ). Below i (roots (of e))) (sym (n ∙ sized e)) (roots-below (of e) e.requires.0.accepted)),
     )
 
-array-share-prefix-asked : tie.Need-array-share-prefix-asked
+array-share-prefix-asked : tie.Need-slice_bounds-asked-end-2
 array-share-prefix-asked c = view-room (lent c.before)
 
-slice-aggregate-add : tie.Need-slice-aggregate-add
+slice-aggregate-add : tie.Need-slice_bounds-add-end
 slice-aggregate-add c = sym (view-length (lent c.before.before))
 
 add-requires : tie.Need-add-requires
@@ -99,16 +99,16 @@ returns c =
     let k = c.before.before.before.before.before.before in
     let e = entry k in
     let a = e.args in
-    let o = c.before.before.add in
+    let o = c.add in
     let p = of e in
-    subst (λ (plan : List ℕ). Added (λ (m : ℕ). suffix_asks (eligible p) (orders_of p) a.plan.now m ≡ true) plan o.new.1.1.1.0 o.result) e.pre.1.1
+    subst (λ (plan : List ℕ). Added (λ (m : ℕ). suffix_asks (eligible p) (orders_of p) a.plan.now m ≡ true) plan o.new.1.1.1.0 o.result) e.requires.1.1
     (added-cong (InAll (marks k) a.eligible.now a.eligible.now) _
-    (λ m l h. let i = asks-some p e.pre.0.accepted a.plan.now m h in let g = subst (λ (xs : List ℕ). has xs m ≡ true) (sym e.pre.0.eligible_set) i.1 in (some_in k m l i.0, g, g))
-    (λ m h. some-asks p e.pre.0.accepted a.plan.now m (in_some k m h.0) (subst (λ (xs : List ℕ). has xs m ≡ true) e.pre.0.eligible_set h.1))
+    (λ m l h. let i = asks-some p e.requires.0.accepted a.plan.now m h in let g = subst (λ (xs : List ℕ). has xs m ≡ true) (sym e.requires.0.eligible_set) i.1 in (some_in k m l i.0, g, g))
+    (λ m h. some-asks p e.requires.0.accepted a.plan.now m (in_some k m h.0) (subst (λ (xs : List ℕ). has xs m ≡ true) e.requires.0.eligible_set h.1))
     (subst (λ (s : List ℕ). Added (InAll s a.eligible.now a.eligible.now) a.copy.now o.new.1.1.1.0 o.result) (view-is (lent k)) o.ensures))
 
-pub add-suffixes-spec : {M : Type 1} → statement M
-add-suffixes-spec =
+pub add_suffixes_spec : {M : Type 1} → statement M
+add_suffixes_spec =
     tie.close
     (tie.spec
     array-borrow-prefix-asked

@@ -11,7 +11,7 @@ use Rattle.tables.specs.Project.{Project}
 use Rattle.table.specs.Table.{table, read}
 use Rattle.expected_order.specs.OfProject.{expected_of}
 use Rattle.expected_order.proofs.Laws.{expected-in, expected-length}
-use Rattle.marks.proofs.Parts.{part_length}
+use Rattle.marks-1.proofs.Parts.{part_length}
 use Rattle.suffix_rule.specs.inner.Suffix.{InSuffix, Joined}
 use Rattle.asked_suffixes.proofs.inner.mark_entry.Statement.{statement}
 use Rattle.asked_suffixes.proofs.inner.mark_entry.Tie as tie
@@ -42,56 +42,56 @@ inside e i l =
 
 -- what is read back of the array, as far as the count says
 
-abbrev entry : tie.After-list-expected → tie.Start
+abbrev entry : tie.After-list_expected-count → tie.Start
 entry k = k.before.before.before.before.before.before.before.before.before.before.before.before.before
 
-abbrev made : tie.After-list-expected → List ℕ
-made k = k.list-expected.new.1.1.1.1.1.1.1.1.1.1.0
+abbrev made : tie.After-list_expected-count → List ℕ
+made k = k.list_expected-count.new.1.1.1.1.1.1.1.1.1.1.0
 
-abbrev count : tie.After-list-expected → ℕ
-count k = k.list-expected.result
+abbrev count : tie.After-list_expected-count → ℕ
+count k = k.list_expected-count.result
 
-back : (k : tie.After-list-expected) → take (count k) (made k) ≡ list (entry k)
+back : (k : tie.After-list_expected-count) → take (count k) (made k) ≡ list (entry k)
 back k =
-    let w = k.list-expected.ensures in
+    let w = k.list_expected-count.ensures in
     ap (take (count k)) w.written ∙ take_at (list (entry k)) (drop (length (list (entry k))) _) (count k) (sym w.count)
 
-array-borrow-prefix-marks : tie.Need-array-borrow-prefix-marks
+array-borrow-prefix-marks : tie.Need-slice_bounds-marks-end
 array-borrow-prefix-marks c = few c.before.before.before.before.before.before.before.before.before.before
 
-slice-aggregate-list-expected : tie.Need-slice-aggregate-list-expected
+slice-aggregate-list-expected : tie.Need-slice_bounds-list_expected-end
 slice-aggregate-list-expected c = let e = c.before.before.before.before.before.before.before.before.before.before.before in sym (part_length 4096 (size e) (few e))
 
-list-expected-requires : tie.Need-list-expected-requires
+list-expected-requires : tie.Need-list_expected-count-requires
 list-expected-requires c κs =
     let e = c.before.before.before.before.before.before.before.before.before.before.before.before in
     let n = part_length 4096 (size e) (few e) in
     record { accepted = e.requires.0.accepted; size = n ∙ e.requires.0.size; within = omega (arith, n, e.requires.1); room = omega (arith, n, few e, length-replicate {A = ℕ} 4096 0) }
 
-array-share-prefix-order : tie.Need-array-share-prefix-order
+array-share-prefix-order : tie.Need-slice_bounds-order-end
 array-share-prefix-order c =
     let k = c.before.before in
     let e = entry k in
-    omega (arith, short e, few e, k.list-expected.ensures.count, k.list-expected.auto.1.1.1.1.1.1.1.1.1.1.0, length-replicate {A = ℕ} 4096 0)
+    omega (arith, short e, few e, k.list_expected-count.ensures.count, k.list_expected-count.auto.order, length-replicate {A = ℕ} 4096 0)
 
-slice-aggregate-mark-suffix : tie.Need-slice-aggregate-mark-suffix
-slice-aggregate-mark-suffix c = let k = c.before.before.before in k.list-expected.ensures.count ∙ sym (ap length (back k))
+slice-aggregate-mark-suffix : tie.Need-slice_bounds-mark_suffix-end
+slice-aggregate-mark-suffix c = let k = c.before.before.before in k.list_expected-count.ensures.count ∙ sym (ap length (back k))
 
-mark-suffix-requires : tie.Need-mark-suffix-requires
+mark-suffix-requires : tie.Need-mark_suffix-requires
 mark-suffix-requires c κs =
     let k = c.before.before.before.before in
     let e = entry k in
-    let g = e.pre.0 in
+    let g = e.requires.0 in
     (subst (λ (xs : List ℕ). (i : ℕ) → i < length xs → get_or xs i 0 < length e.args.sensitive.now) (sym (back k)) (inside e), (g.planned ∙ sym g.sensitives, sym g.sensitives))
 
 returns : tie.Need-returns
 returns c =
     let k = c.before.before.before.before.before.before.before in
     let a = (entry k).args in
-    let x = c.before.before.mark-suffix in
-    subst (λ (xs : List ℕ). Joined (InSuffix xs a.sensitive.now a.plan.now) a.asked.now x.new.1.1.1.0) (back k) x.ensures
+    let x = c.mark_suffix in
+    subst (λ (xs : List ℕ). Joined (InSuffix xs a.sensitive.now a.plan.now) a.asked-1.now x.new.1.1.1.0) (back k) x.ensures
 
-pub mark-entry-spec : {M : Type 1} → statement M
-mark-entry-spec =
+pub mark_entry_spec : {M : Type 1} → statement M
+mark_entry_spec =
     tie.close
     (tie.spec array-borrow-prefix-marks slice-aggregate-list-expected (λ c. search rules) list-expected-requires array-share-prefix-order slice-aggregate-mark-suffix mark-suffix-requires (λ c. search rules) returns)

@@ -18,7 +18,7 @@ use Rattle.at_risk.proofs.inner.add_entry_cycle_risk.Tie as tie
 abbrev of : tie.Start → Project
 of e = let a = e.args in read (table a.runtime a.dynamic a.bounds.now a.columns.now) a.importers.now a.kinds.now a.targets.now a.dependencies.now a.members.now
 
-add-cycle-risk-requires : tie.Need-add-cycle-risk-requires
+add-cycle-risk-requires : tie.Need-add_cycle_risk-requires
 add-cycle-risk-requires c κs =
     let e = c.before.before.before.before.before.before.before.before.before.before.before.before.before in
     let p = of e in
@@ -31,9 +31,9 @@ returns c =
     let e = c.before.before.before.before.before.before.before.before.before.before.before.before.before.before.before.before in
     let p = of e in
     let a = e.args in
-    c.before.before.add-cycle-risk.ensures
-    ∙ ap (λ (g : ℕ → Bool). join a.out.now (cycle_risk g a.expected.now r.reaches-table.result)) (ap has e.requires.1.0 ∙ eligible-marks p)
-    ∙ ap (λ (b : Bool). join a.out.now (cycle_risk (eligible p) a.expected.now b)) r.reaches-table.ensures
+    c.add_cycle_risk.ensures
+    ∙ ap (λ (g : ℕ → Bool). join a.out.now (cycle_risk g a.expected.now r.reaches_table-reaches_cycle.result)) (ap has e.requires.1.0 ∙ eligible-marks p)
+    ∙ ap (λ (b : Bool). join a.out.now (cycle_risk (eligible p) a.expected.now b)) r.reaches_table-reaches_cycle.ensures
 
-pub add-entry-cycle-risk-spec : {M : Type 1} → statement M
-add-entry-cycle-risk-spec = tie.close (tie.spec (λ c κs. search rules) add-cycle-risk-requires (λ c. search rules) returns)
+pub add_entry_cycle_risk_spec : {M : Type 1} → statement M
+add_entry_cycle_risk_spec = tie.close (tie.spec (λ c κs. search rules) add-cycle-risk-requires (λ c. search rules) returns)

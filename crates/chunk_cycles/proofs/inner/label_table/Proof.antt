@@ -16,20 +16,20 @@ use Rattle.chunk_cycles.proofs.inner.label_table.Tie as tie
 
 -- the entry, its project, and what was cut
 
-abbrev entry : tie.After-column2 → tie.Start
+abbrev entry : tie.After-column-2 → tie.Start
 entry k = k.before.before.before.before.before.before.before.before.before.before
 
 abbrev of : tie.Start → Project
 of e = let a = e.args in read (table a.runtime a.dynamic a.bounds.now a.columns.now) a.importers.now a.kinds.now a.targets.now a.dependencies.now a.members.now
 
-label-chunks-requires : tie.Need-label-chunks-requires
+label-chunks-requires : tie.Need-label_chunks-requires
 unfolding table read
 label-chunks-requires c κs =
     let k = c.before in
     let e = entry k in
     let p = of e in
-    asked2 (λ from to. Graph from to (length e.args.labels.now)) k.before.column.ensures k.column2.ensures
-    (subst (Graph p.import_chunk p.imports) (sym e.pre.size) (accepted-fit p e.pre.accepted))
+    asked2 (λ from to. Graph from to (length e.args.labels.now)) k.column.ensures k.column-2.ensures
+    (subst (Graph p.import_chunk p.imports) (sym e.requires.size) (accepted-fit p e.requires.accepted))
 
 returns : tie.Need-returns
 unfolding table read
@@ -38,11 +38,11 @@ returns c =
     let k = call.before.before in
     let e = entry k in
     let n = length e.args.labels.now in
-    let made : List ℕ = call.label-chunks.new.1.1.0 in
-    table-labelled (of e) n e.pre.size
-    (given2 (λ from to. ChunksLabelled n (values_of from to) made call.label-chunks.result) k.before.column.ensures k.column2.ensures call.label-chunks.ensures)
+    let made : List ℕ = call.label_chunks.new.1.1.0 in
+    table-labelled (of e) n e.requires.size
+    (given2 (λ from to. ChunksLabelled n (values_of from to) made call.label_chunks.result) k.column.ensures k.column-2.ensures call.label_chunks.ensures)
 
-pub label-table-spec : {M : Type 1} → statement M
-label-table-spec =
+pub label_table_spec : {M : Type 1} → statement M
+label_table_spec =
     tie.close
     (tie.spec (λ c κs. search rules) (λ c κs. search rules) label-chunks-requires (λ c. search rules) returns)

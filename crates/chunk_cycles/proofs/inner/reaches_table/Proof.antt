@@ -16,25 +16,25 @@ use Rattle.chunk_cycles.proofs.inner.reaches_table.Tie as tie
 
 -- the entry, its project, and what was cut
 
-abbrev entry : tie.After-column2 → tie.Start
+abbrev entry : tie.After-column-2 → tie.Start
 entry k = k.before.before.before.before.before.before.before.before.before.before
 
 abbrev of : tie.Start → Project
 of e = let a = e.args in read (table a.runtime a.dynamic a.bounds.now a.columns.now) a.importers.now a.kinds.now a.targets.now a.dependencies.now a.members.now
 
-reaches-cyclic-requires : tie.Need-reaches-cyclic-requires
+reaches-cyclic-requires : tie.Need-reaches_cyclic-requires
 unfolding table read
 reaches-cyclic-requires c κs =
     let k = c in
     let e = entry k in
     let p = of e in
     let marks : List ℕ = e.args.labels.now in
-    let n = reaching-length p marks e.args.chunk e.pre in (
-      asked2 (λ from to. Graph from to (length marks)) k.before.column.ensures k.column2.ensures
-          (subst (Graph p.import_chunk p.imports) (sym n) (accepted-fit p e.pre.accepted)),
+    let n = reaching-length p marks e.args.chunk e.requires in (
+      asked2 (λ from to. Graph from to (length marks)) k.column.ensures k.column-2.ensures
+          (subst (Graph p.import_chunk p.imports) (sym n) (accepted-fit p e.requires.accepted)),
       (
-        asked2 (λ from to. marks ≡ labels (length marks) (values_of from to)) k.before.column.ensures k.column2.ensures (reaching-labels p marks e.args.chunk e.pre),
-        subst (λ (i : ℕ). e.args.chunk < i) (sym n) e.pre.there,
+        asked2 (λ from to. marks ≡ labels (length marks) (values_of from to)) k.column.ensures k.column-2.ensures (reaching-labels p marks e.args.chunk e.requires),
+        subst (λ (i : ℕ). e.args.chunk < i) (sym n) e.requires.there,
       ),
     )
 
@@ -44,10 +44,10 @@ returns c =
     let k = c.before in
     let e = entry k in
     let marks : List ℕ = e.args.labels.now in
-    reaching-said (of e) marks e.args.chunk e.pre c.reaches-cyclic.result
-    (given2 (λ from to. c.reaches-cyclic.result ≡ reaches_cycle (length marks) (values_of from to) e.args.chunk) k.before.column.ensures k.column2.ensures c.reaches-cyclic.ensures)
+    reaching-said (of e) marks e.args.chunk e.requires c.reaches_cyclic.result
+    (given2 (λ from to. c.reaches_cyclic.result ≡ reaches_cycle (length marks) (values_of from to) e.args.chunk) k.column.ensures k.column-2.ensures c.reaches_cyclic.ensures)
 
-pub reaches-table-spec : {M : Type 1} → statement M
-reaches-table-spec =
+pub reaches_table_spec : {M : Type 1} → statement M
+reaches_table_spec =
     tie.close
     (tie.spec (λ c κs. search rules) (λ c κs. search rules) reaches-cyclic-requires returns)

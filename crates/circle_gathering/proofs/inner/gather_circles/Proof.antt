@@ -45,53 +45,53 @@ led-part : (e : tie.Start) → length {A = ℕ} (take (length e.args.record-modu
 led-part e = length-take-le (length e.args.record-module.now) (replicate 16384 0) e.requires.0.rows
 
 -- as they stand in the array
-abbrev firsts : tie.After-first-rows → List ℕ
+abbrev firsts : tie.After-first_rows → List ℕ
 firsts r = r.first_rows.new.1.0
 
-firsts-length : (r : tie.After-first-rows) → length (firsts r) ≡ places r.before.before.before.before.before.before.before.before.before
-firsts-length r = r.first_rows.auto.1.0 ∙ starts-part r.before.before.before.before.before.before.before.before.before
+firsts-length : (r : tie.After-first_rows) → length (firsts r) ≡ places r.before.before.before.before.before.before.before.before.before
+firsts-length r = r.first_rows.auto.starts ∙ starts-part r.before.before.before.before.before.before.before.before.before
 
-firsts-read : (r : tie.After-first-rows) → take (places r.before.before.before.before.before.before.before.before.before) (firsts r ++ drop (places r.before.before.before.before.before.before.before.before.before) (replicate 4097 0)) ≡ firsts r
+firsts-read : (r : tie.After-first_rows) → take (places r.before.before.before.before.before.before.before.before.before) (firsts r ++ drop (places r.before.before.before.before.before.before.before.before.before) (replicate 4097 0)) ≡ firsts r
 firsts-read r = take_at (firsts r) (drop (places r.before.before.before.before.before.before.before.before.before) (replicate 4097 0)) (places r.before.before.before.before.before.before.before.before.before) (firsts-length r)
 
 -- what each row leads to, as it stands in the array
-abbrev rows-led : tie.After-lead-rows → List ℕ
-rows-led r = r.lead-rows.new.1.1.1.1.1.0
+abbrev rows-led : tie.After-lead_rows → List ℕ
+rows-led r = r.lead_rows.new.1.1.1.1.1.0
 
-rows-length : (r : tie.After-lead-rows) → length (rows-led r) ≡ length r.before.before.before.before.before.before.before.before.before.before.before.before.before.args.record-module.now
-rows-length r = r.lead-rows.auto.1.1.1.1.1.0 ∙ led-part r.before.before.before.before.before.before.before.before.before.before.before.before.before
+rows-length : (r : tie.After-lead_rows) → length (rows-led r) ≡ length r.args.record-module.now
+rows-length r = r.lead_rows.auto.leads ∙ led-part r.before.before.before.before.before.before.before.before.before.before.before.before.before
 
-rows-read : (r : tie.After-lead-rows) → take (length r.before.before.before.before.before.before.before.before.before.before.before.before.before.args.record-module.now) (rows-led r ++ drop (length r.before.before.before.before.before.before.before.before.before.before.before.before.before.args.record-module.now) (replicate 16384 0)) ≡ rows-led r
-rows-read r = let n = length r.before.before.before.before.before.before.before.before.before.before.before.before.before.args.record-module.now in take_at (rows-led r) (drop n (replicate 16384 0)) n (rows-length r)
+rows-read : (r : tie.After-lead_rows) → take (length r.args.record-module.now) (rows-led r ++ drop (length r.args.record-module.now) (replicate 16384 0)) ≡ rows-led r
+rows-read r = let n = length r.args.record-module.now in take_at (rows-led r) (drop n (replicate 16384 0)) n (rows-length r)
 
-led-once : (r : tie.After-lead-rows) → LedOnce r.before.before.before.before.before.before.before.before.before.before.before.before.before.args.record-module.now (statics r.before.before.before.before.before.before.before.before.before.before.before.before.before) (length r.before.before.before.before.before.before.before.before.before.before.before.before.before.args.normal.now) (rows-led r)
-led-once r = let e = r.before.before.before.before.before.before.before.before.before.before.before.before.before in subst (λ (n : ℕ). LedOnce e.args.record-module.now (statics e) n (rows-led r)) (seen-part e) r.lead-rows.ensures
+led-once : (r : tie.After-lead_rows) → LedOnce r.args.record-module.now (statics r.before.before.before.before.before.before.before.before.before.before.before.before.before) (length r.args.normal.now) (rows-led r)
+led-once r = let e = r.before.before.before.before.before.before.before.before.before.before.before.before.before in subst (λ (n : ℕ). LedOnce e.args.record-module.now (statics e) n (rows-led r)) (seen-part e) r.lead_rows.ensures
 
-add-starts : tie.Need-overflow-add-starts
+add-starts : tie.Need-overflow_add-starts
 add-starts c = search rules
 
-array-borrow-prefix-starts : tie.Need-array-borrow-prefix-starts
+array-borrow-prefix-starts : tie.Need-slice_bounds-starts-end
 array-borrow-prefix-starts c = enough c.before.before.before.before.before.before.before
 
-slice-aggregate-first-rows : tie.Need-slice-aggregate-first-rows
+slice-aggregate-first-rows : tie.Need-slice_bounds-first_rows-end
 slice-aggregate-first-rows c = sym (starts-part c.before.before.before.before.before.before.before.before)
 
-first-rows-requires : tie.Need-first-rows-requires
-first-rows-requires c κs = let fit = c.before.before.before.before.before.before.before.before.requires.0 in (fit.rising, fit.rows)
+first-rows-requires : tie.Need-first_rows-requires
+first-rows-requires c κs = let fit = c.requires.0 in (fit.rising, fit.rows)
 
-array-borrow-prefix-seen : tie.Need-array-borrow-prefix-seen
-array-borrow-prefix-seen c = c.before.before.before.before.before.before.before.before.before.before.requires.0.few
+array-borrow-prefix-seen : tie.Need-slice_bounds-seen-end
+array-borrow-prefix-seen c = c.requires.0.few
 
-slice-aggregate-lead-rows : tie.Need-slice-aggregate-lead-rows
+slice-aggregate-lead-rows : tie.Need-slice_bounds-lead_rows-end
 slice-aggregate-lead-rows c = sym (seen-part c.before.before.before.before.before.before.before.before.before.before.before)
 
-array-borrow-prefix-led : tie.Need-array-borrow-prefix-led
-array-borrow-prefix-led c = c.before.before.before.before.before.before.before.before.before.before.before.requires.0.rows
+array-borrow-prefix-led : tie.Need-slice_bounds-led-end
+array-borrow-prefix-led c = c.requires.0.rows
 
-slice-aggregate-lead-rows-2 : tie.Need-slice-aggregate-lead-rows-2
+slice-aggregate-lead-rows-2 : tie.Need-slice_bounds-lead_rows-end-2
 slice-aggregate-lead-rows-2 c = sym (led-part c.before.before.before.before.before.before.before.before.before.before.before.before)
 
-lead-rows-requires : tie.Need-lead-rows-requires
+lead-rows-requires : tie.Need-lead_rows-requires
 lead-rows-requires c κs =
     let e = c.before.before.before.before.before.before.before.before.before.before.before.before in
     let a = e.args in
@@ -100,22 +100,22 @@ lead-rows-requires c κs =
       (subst (λ (k : ℕ). Below k a.record-module.now) n e.requires.1.0, led-part e),
     )
 
-add-starts-2 : tie.Need-overflow-add-starts-2
+add-starts-2 : tie.Need-overflow_add-starts-2
 add-starts-2 c = search rules
 
-array-share-prefix-starts : tie.Need-array-share-prefix-starts
+array-share-prefix-starts : tie.Need-slice_bounds-starts-end-2
 array-share-prefix-starts c = let r = c.before.before.before.before.before.before in omega (arith, firsts-length r, length-append (firsts r) (drop (places c.before.before.before.before.before.before.before.before.before.before.before.before.before.before.before) (replicate 4097 0)))
 
-slice-aggregate-write-circles : tie.Need-slice-aggregate-write-circles
+slice-aggregate-write-circles : tie.Need-slice_bounds-write_circles-end
 slice-aggregate-write-circles c = let r = c.before.before.before.before.before.before.before in sym (ap length (firsts-read r) ∙ firsts-length r)
 
-array-share-prefix-led : tie.Need-array-share-prefix-led
-array-share-prefix-led c = let r = c.before.before.before in omega (arith, rows-length r, length-append (rows-led r) (drop (length c.before.before.before.before.before.before.before.before.before.before.before.before.before.before.before.before.args.record-module.now) (replicate 16384 0)))
+array-share-prefix-led : tie.Need-slice_bounds-led-end-2
+array-share-prefix-led c = let r = c.before.before.before in omega (arith, rows-length r, length-append (rows-led r) (drop (length c.args.record-module.now) (replicate 16384 0)))
 
-slice-aggregate-write-circles-2 : tie.Need-slice-aggregate-write-circles-2
+slice-aggregate-write-circles-2 : tie.Need-slice_bounds-write_circles-end-2
 slice-aggregate-write-circles-2 c = let r = c.before.before.before.before in sym (ap length (rows-read r) ∙ rows-length r)
 
-write-circles-requires : tie.Need-write-circles-requires
+write-circles-requires : tie.Need-write_circles-requires
 write-circles-requires c κs =
     let r = c.before.before.before.before.before.before in
     let f = c.before.before.before.before.before.before.before.before.before.before in
@@ -132,15 +132,15 @@ write-circles-requires c κs =
       rows = e.requires.1.1.2;
     }))
 
-same_length : tie.Need-same-length
+same_length : tie.Need-shape_of-paths
 same_length c = search rules
 
-same-length-2 : tie.Need-same-length-2
+same-length-2 : tie.Need-shape_of-lengths
 same-length-2 c = search rules
 
 returns : tie.Need-returns
 returns c =
-    let v = c.before.before.before.before.write-circles in
+    let v = c.write_circles in
     let r = c.before.before.before.before.before.before.before.before.before.before.before in
     let f = c.before.before.before.before.before.before.before.before.before.before.before.before.before.before.before in
     let e = c.before.before.before.before.before.before.before.before.before.before.before.before.before.before.before.before.before.before.before.before.before.before.before.before in
@@ -154,8 +154,8 @@ returns c =
     ∙ circles-once (statics e) n roots)
     v.ensures
 
-pub gather-circles-spec : {M : Type 1} → statement M
-gather-circles-spec =
+pub gather_circles_spec : {M : Type 1} → statement M
+gather_circles_spec =
     tie.close
     (tie.spec
     add-starts

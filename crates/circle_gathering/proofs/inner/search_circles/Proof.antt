@@ -24,19 +24,19 @@ use Rattle.circle_gathering.proofs.inner.meet_roots.Reads as meet-roots-reads
 part : (e : tie.Start) → length {A = ℕ} (take e.args.n (replicate module_limit 0)) ≡ e.args.n
 part e = length-take-le e.args.n (replicate module_limit 0) e.requires.leads.few
 
-array-borrow-prefix-states : tie.Need-array-borrow-prefix-states
-array-borrow-prefix-states c = c.before.before.before.before.before.requires.leads.few
+array-borrow-prefix-states : tie.Need-slice_bounds-states-end
+array-borrow-prefix-states c = c.requires.leads.few
 
-slice-aggregate-meet-roots : tie.Need-slice-aggregate-meet-roots
+slice-aggregate-meet-roots : tie.Need-slice_bounds-meet_roots-end
 slice-aggregate-meet-roots c = sym (part c.before.before.before.before.before.before)
 
-array-borrow-prefix-stack : tie.Need-array-borrow-prefix-stack
-array-borrow-prefix-stack c = c.before.before.before.before.before.before.requires.leads.few
+array-borrow-prefix-stack : tie.Need-slice_bounds-stack-end
+array-borrow-prefix-stack c = c.requires.leads.few
 
-slice-aggregate-meet-roots-2 : tie.Need-slice-aggregate-meet-roots-2
+slice-aggregate-meet-roots-2 : tie.Need-slice_bounds-meet_roots-end-2
 slice-aggregate-meet-roots-2 c = sym (part c.before.before.before.before.before.before.before)
 
-meet-roots-requires : tie.Need-meet-roots-requires
+meet-roots-requires : tie.Need-meet_roots-requires
 meet-roots-requires c κs =
     let e = c.before.before.before.before.before.before.before.before.before in
     let a = e.args in
@@ -45,17 +45,17 @@ meet-roots-requires c κs =
       ((subst (λ (k : ℕ). a.runtime < k) n e.requires.runtimes, subst (λ (k : ℕ). Below k a.entry.now) n e.requires.entries, e.requires.rows), refl),
     )
 
-same_length : tie.Need-same-length
+same_length : tie.Need-shape_of-paths
 same_length c = search rules
 
-same-length-2 : tie.Need-same-length-2
+same-length-2 : tie.Need-shape_of-lengths
 same-length-2 c = search rules
 
 returns : tie.Need-returns
 returns c =
     let e = c.before.before.before.before.before.before.before.before.before.before.before.before.before.before.before.before in
     let a = e.args in
-    let v = c.before.before.before.before.before.before.meet-roots in
+    let v = c.meet_roots in
     circles-made (led_by a.starts.now a.led.now) write a.n (led-inside e.requires.leads) e.requires.single (a.runtime ∷ a.entry.now)
     (λ y h. ⊎_elim (λ q. subst (λ (x : ℕ). x < a.n) (sym q) e.requires.runtimes) (λ q. below-mem a.entry.now e.requires.entries q) (Memᴰ.cases_cons h))
     (listed a.paths.now a.lengths.now 0 0)
@@ -63,8 +63,8 @@ returns c =
     (subst (λ (z : List ℕ). Searches (led_by a.starts.now a.led.now) write (record { states = z; begun = []; made = listed a.paths.now a.lengths.now 0 0 }) (a.runtime ∷ a.entry.now) (held v.new.1.1.1.0 v.new.1.1.1.1.0 0 v.new.1.1.1.1.1.0 v.new.1.1.1.1.1.1.0 v.result.count v.result.used))
     (take-zeros a.n module_limit e.requires.leads.few) v.ensures)
 
-pub search-circles-spec : {M : Type 1} → statement M
-search-circles-spec =
+pub search_circles_spec : {M : Type 1} → statement M
+search_circles_spec =
     tie.close
     (tie.spec
     array-borrow-prefix-states

@@ -16,57 +16,57 @@ use Rattle.circle_gathering.proofs.inner.search_circles.Reads as search-circles-
 abbrev found : tie.Start → List (List ℕ)
 found e = let a = e.args in circles (led_by a.starts.now a.led.now) a.n (a.runtime ∷ a.entry.now)
 
-array-borrow-prefix-no-paths : tie.Need-array-borrow-prefix-no-paths
+array-borrow-prefix-no-paths : tie.Need-slice_bounds-no_paths-end
 array-borrow-prefix-no-paths c = search rules
 
-slice-aggregate-search-circles : tie.Need-slice-aggregate-search-circles
+slice-aggregate-search-circles : tie.Need-slice_bounds-search_circles-end
 slice-aggregate-search-circles c = search rules
 
-array-borrow-prefix-no-lengths : tie.Need-array-borrow-prefix-no-lengths
+array-borrow-prefix-no-lengths : tie.Need-slice_bounds-no_lengths-end
 array-borrow-prefix-no-lengths c = search rules
 
-slice-aggregate-search-circles-2 : tie.Need-slice-aggregate-search-circles-2
+slice-aggregate-search-circles-2 : tie.Need-slice_bounds-search_circles-end-2
 slice-aggregate-search-circles-2 c = search rules
 
-search-circles-requires : tie.Need-search-circles-requires
+search-circles-requires : tie.Need-search_circles-found-requires
 search-circles-requires c κs = search rules
 
-returns : tie.Need-returns
+returns : tie.Need-returns-then-count-eq0
 returns c =
-    let a = c.before.before.before.before.before.before.before.before.before.before.before.args in
-    none-there (found c.before.before.before.before.before.before.before.before.before.before.before) a.paths.now a.lengths.now (sym (counted-all (found c.before.before.before.before.before.before.before.before.before.before.before) [] [] c.before.before.before.search-circles.ensures) ∙ c.if1.true)
+    let a = c.args in
+    none-there (found c.before.before.before.before.before.before.before.before.before.before.before) a.paths.now a.lengths.now (sym (counted-all (found c.before.before.before.before.before.before.before.before.before.before.before) [] [] c.search_circles-found.ensures) ∙ c.if-count-eq0.true)
 
-returns-2 : tie.Need-returns-2
+returns-2 : tie.Need-returns-then-paths-used
 returns-2 c =
-    let a = c.before.before.before.before.before.before.before.before.before.before.before.before.args in
-    paths-short (found c.before.before.before.before.before.before.before.before.before.before.before.before) a.paths.now a.lengths.now (omega (arith, c.if2.true, used_all (found c.before.before.before.before.before.before.before.before.before.before.before.before) [] [] c.before.before.before.before.search-circles.ensures))
+    let a = c.args in
+    paths-short (found c.before.before.before.before.before.before.before.before.before.before.before.before) a.paths.now a.lengths.now (omega (arith, c.if-paths-used.true, used_all (found c.before.before.before.before.before.before.before.before.before.before.before.before) [] [] c.search_circles-found.ensures))
 
-returns-3 : tie.Need-returns-3
+returns-3 : tie.Need-returns-then-lengths-count
 returns-3 c =
-    let a = c.before.before.before.before.before.before.before.before.before.before.before.before.before.args in
-    lengths_short (found c.before.before.before.before.before.before.before.before.before.before.before.before.before) a.paths.now a.lengths.now (omega (arith, c.if3.true, counted-all (found c.before.before.before.before.before.before.before.before.before.before.before.before.before) [] [] c.before.before.before.before.before.search-circles.ensures))
+    let a = c.args in
+    lengths_short (found c.before.before.before.before.before.before.before.before.before.before.before.before.before) a.paths.now a.lengths.now (omega (arith, c.if-lengths-count.true, counted-all (found c.before.before.before.before.before.before.before.before.before.before.before.before.before) [] [] c.search_circles-found.ensures))
 
-search-circles-requires-2 : tie.Need-search-circles-requires-2
+search-circles-requires-2 : tie.Need-search_circles-requires
 search-circles-requires-2 c κs = search rules
 
-same_length : tie.Need-same-length
+same_length : tie.Need-shape_of-paths
 same_length c = search rules
 
-same-length-2 : tie.Need-same-length-2
+same-length-2 : tie.Need-shape_of-lengths
 same-length-2 c = search rules
 
-returns-4 : tie.Need-returns-4
+returns-4 : tie.Need-returns
 returns-4 c =
-    let a = c.before.before.before.before.before.before.before.before.before.before.before.before.before.before.before.before.before.before.before.before.args in
+    let a = c.args in
     let k = c.before.before.before.before.before.before.before.before.before.before.before.before in
-    let v = c.before.before.before.before.search-circles2 in
+    let v = c.search_circles in
     both-fit (found c.before.before.before.before.before.before.before.before.before.before.before.before.before.before.before.before.before.before.before.before) a.paths.now a.lengths.now {paths' = v.new.1.1.1.0} {lengths' = v.new.1.1.1.1.0} {count = v.result.count} {used = v.result.used}
-    (omega (arith, c.before.before.before.before.before.before.before.before.if2.false, used_all (found c.before.before.before.before.before.before.before.before.before.before.before.before.before.before.before.before.before.before.before.before) [] [] k.search-circles.ensures))
-    (omega (arith, c.before.before.before.before.before.before.before.if3.false, counted-all (found c.before.before.before.before.before.before.before.before.before.before.before.before.before.before.before.before.before.before.before.before) [] [] k.search-circles.ensures))
-    (counted-all (found c.before.before.before.before.before.before.before.before.before.before.before.before.before.before.before.before.before.before.before.before) [] [] k.search-circles.ensures) v.ensures
+    (omega (arith, c.if-paths-used.false, used_all (found c.before.before.before.before.before.before.before.before.before.before.before.before.before.before.before.before.before.before.before.before) [] [] k.search_circles-found.ensures))
+    (omega (arith, c.if-lengths-count.false, counted-all (found c.before.before.before.before.before.before.before.before.before.before.before.before.before.before.before.before.before.before.before.before) [] [] k.search_circles-found.ensures))
+    (counted-all (found c.before.before.before.before.before.before.before.before.before.before.before.before.before.before.before.before.before.before.before.before) [] [] k.search_circles-found.ensures) v.ensures
 
-pub write-circles-spec : {M : Type 1} → statement M
-write-circles-spec =
+pub write_circles_spec : {M : Type 1} → statement M
+write_circles_spec =
     tie.close
     (tie.spec
     array-borrow-prefix-no-paths

@@ -19,67 +19,67 @@ abbrev targets : tie.Start → List ℕ
 targets e = let a = e.args in row_targets (is_static a.dynamic) any_target a.normal.now a.record-kind.now a.record-target.now a.row
 
 -- a target that is there is a module
-target-in : (c : tie.Else1) → c.before.led.result < length c.before.before.before.before.before.before.before.args.seen.now
+target-in : (c : tie.Else-t) → c.led-t.result < length c.args.seen.now
 target-in c =
     let e = c.before.before.before.before.before.before.before in
     let a = e.args in
     let k = c.before in
-    led-in a.dynamic a.normal.now a.record-kind.now a.record-target.now a.row (length a.seen.now) k.led.result e.requires.0.within (omega (arith, e.requires.1.1, e.requires.0.targets))
-    (k.led.ensures ∙ unless-one k.led.result (ne_eqb _ _ c.if1.false))
+    led-in a.dynamic a.normal.now a.record-kind.now a.record-target.now a.row (length a.seen.now) k.led-t.result e.requires.0.within (omega (arith, e.requires.1.1, e.requires.0.targets))
+    (k.led-t.ensures ∙ unless-one k.led-t.result (ne_eqb _ _ c.if-t.false))
 
-led-requires : tie.Need-led-requires
+led-requires : tie.Need-led-t-requires
 led-requires c κs = search rules
 
-returns : tie.Need-returns
+returns : tie.Need-returns-then-t
 returns c =
     let e = c.before.before.before.before.before.before.before in
     let a = e.args in
     let k = c.before in
-    led-missing (targets e) (get_or a.record-module.now a.row 0) a.seen.now k.led.result k.led.ensures c.if1.true
+    led-missing (targets e) (get_or a.record-module.now a.row 0) a.seen.now k.led-t.result k.led-t.ensures c.if-t.true
 
-mul-by : tie.Need-overflow-mul-by
+mul-by : tie.Need-offset_bounds-record_module-row
 mul-by c = search rules
 
-shared-slice-read-by : tie.Need-shared-slice-read-by
+shared-slice-read-by : tie.Need-bounds-record_module-row
 shared-slice-read-by c = search rules
 
-add-by : tie.Need-overflow-add-by
+add-by : tie.Need-overflow_add-by
 add-by c = let e = c.before.before.before.before.before.before.before.before in omega (arith, e.requires.1.0 e.args.row e.requires.1.1, e.requires.0.few)
 
-cast-at : tie.Need-overflow-cast-at
+cast-at : tie.Need-overflow_cast-at
 cast-at c = search rules
 
-mul-if2 : tie.Need-overflow-mul-if2
+mul-if2 : tie.Need-offset_bounds-seen-at
 mul-if2 c = search rules
 
-slice-read-if2 : tie.Need-slice-read-if2
+slice-read-if2 : tie.Need-bounds-seen-at
 slice-read-if2 c = target-in c.before.before
 
-returns-2 : tie.Need-returns-2
+returns-2 : tie.Need-returns-then-seen-at
 returns-2 c =
     let e = c.before.before.before.before.before.before.before.before.before.before in
     let a = e.args in
     let k = c.before.before.before.before in
-    led-seen (targets e) (get_or a.record-module.now a.row 0) a.seen.now k.led.result k.led.ensures c.before.before.before.if1.false (target-in c.before.before.before) c.if2.true
+    led-seen (targets e) (get_or a.record-module.now a.row 0) a.seen.now k.led-t.result k.led-t.ensures c.if-t.false (target-in c.before.before.before) c.if-seen-at.true
 
-mul-seen : tie.Need-overflow-mul-seen
+mul-seen : tie.Need-offset_bounds-seen-at-2
 mul-seen c = search rules
 
-slice-write-seen : tie.Need-slice-write-seen
+slice-write-seen : tie.Need-bounds-seen-at-2
 slice-write-seen c = target-in c.before.before.before
 
-same_length : tie.Need-same-length
+same_length : tie.Need-shape_of-seen
 same_length c = search rules
 
-returns-3 : tie.Need-returns-3
+returns-3 : tie.Need-returns
 returns-3 c =
     let e = c.before.before.before.before.before.before.before.before.before.before in
     let a = e.args in
     let k = c.before.before.before.before in
-    led-new (targets e) (get_or a.record-module.now a.row 0) a.seen.now k.led.result k.led.ensures c.before.before.before.if1.false (target-in c.before.before.before) c.if2.false
+    led-new (targets e) (get_or a.record-module.now a.row 0) a.seen.now k.led-t.result k.led-t.ensures c.if-t.false (target-in c.before.before.before) c.if-seen-at.false
 
-pub lead-once-spec : {M : Type 1} → statement M
-lead-once-spec =
+pub lead_once_spec : {M : Type 1} → statement M
+lead_once_spec =
     tie.close
     (tie.spec
     led-requires

@@ -18,11 +18,11 @@ use Rattle.circle_rows.proofs.inner.lead_rows.Lts as lts
 use Rattle.circle_rows.proofs.inner.lead_once.Reads as lead-once-reads
 use Rattle.lists.proofs.inner.fill.Reads as fill-reads
 
-abbrev invariant-loop : tie.invariant-loop
+abbrev invariant-loop : tie.invariant-loop-row
 invariant-loop normal record-module record-kind record-target seen₀ leads₀ dynamic row₀ row-end seen leads row =
     Pass record-module (row_targets (is_static dynamic) any_target normal record-kind record-target) (length normal) row seen leads × (row ≤ length record-module) × (length leads ≡ length record-module)
 
-abbrev decreases-loop : tie.decreases-loop
+abbrev decreases-loop : tie.decreases-loop-row
 decreases-loop normal record-module record-kind record-target seen₀ leads₀ dynamic row₀ row-end seen leads row =
     length record-module - row
 
@@ -30,13 +30,13 @@ decreases-loop normal record-module record-kind record-target seen₀ leads₀ d
 abbrev targets : tie.Start invariant-loop decreases-loop → ℕ → List ℕ
 targets e = let a = e.args in row_targets (is_static a.dynamic) any_target a.normal.now a.record-kind.now a.record-target.now
 
-seen-len : (l : tie.At-loop invariant-loop decreases-loop) → length l.before.before.before.before.before.before.before.before.before.before.before.args.seen.now ≡ length l.loop.seen
-seen-len l = sym l.before.before.before.before.before.before.before.before.before.before.before.requires.0.normals ∙ sym l.loop.invariant.0.len
+seen-len : (l : tie.At-loop-row invariant-loop decreases-loop) → length l.args.seen.now ≡ length l.loop-row.seen
+seen-len l = sym l.requires.0.normals ∙ sym l.loop-row.invariant.0.len
 
 fill-requires : tie.Need-fill-requires invariant-loop decreases-loop
 fill-requires c κs = search rules
 
-loop-holds : tie.Need-loop-init invariant-loop decreases-loop
+loop-holds : tie.Need-loop-row-init invariant-loop decreases-loop
 loop-holds c =
     let e = c.before.before.before.before.before.before.before.before.before.before in
     let a = e.args in
@@ -47,43 +47,43 @@ loop-holds c =
       e.requires.1.1,
     )
 
-lead-once-requires : tie.Need-lead-once-requires invariant-loop decreases-loop
+lead-once-requires : tie.Need-lead_once-requires invariant-loop decreases-loop
 lead-once-requires c κs =
     let e = c.before.before.before.before.before.before.before.before.before.before.before.before.before in
     let a = e.args in
     let n = seen-len c.before.before in (
       subst (Fit a.normal.now a.record-module.now a.record-kind.now a.record-target.now) n e.requires.0,
-      (subst (λ (k : ℕ). Below k a.record-module.now) n e.requires.1.0, c.before.loop-test.true),
+      (subst (λ (k : ℕ). Below k a.record-module.now) n e.requires.1.0, c.loop-row-test.true),
     )
 
-mul-leads : tie.Need-overflow-mul-leads invariant-loop decreases-loop
-mul-leads c = omega (arith, c.before.before.before.before.loop-test.true, c.before.before.before.before.before.before.before.before.before.before.before.before.before.before.before.before.requires.0.rows)
+mul-leads : tie.Need-offset_bounds-leads-row invariant-loop decreases-loop
+mul-leads c = omega (arith, c.loop-row-test.true, c.requires.0.rows)
 
-slice-write-leads : tie.Need-slice-write-leads invariant-loop decreases-loop
-slice-write-leads c = omega (arith, c.before.before.before.before.loop-test.true, c.before.before.before.before.before.loop.invariant.2)
+slice-write-leads : tie.Need-bounds-leads-row invariant-loop decreases-loop
+slice-write-leads c = omega (arith, c.loop-row-test.true, c.loop-row.invariant.2)
 
-add_row : tie.Need-overflow-add-row invariant-loop decreases-loop
-add_row c = omega (arith, c.before.before.before.before.loop-test.true, c.before.before.before.before.before.before.before.before.before.before.before.before.before.before.before.before.requires.0.rows)
+add_row : tie.Need-overflow_step-row invariant-loop decreases-loop
+add_row c = omega (arith, c.loop-row-test.true, c.requires.0.rows)
 
-loop-less : tie.Need-loop-smaller invariant-loop decreases-loop
-loop-less c = omega (arith, c.before.before.before.before.loop-test.true)
+loop-less : tie.Need-loop-row-smaller invariant-loop decreases-loop
+loop-less c = omega (arith, c.loop-row-test.true)
 
-loop-again : tie.Need-loop-preserved invariant-loop decreases-loop
+loop-again : tie.Need-loop-row-preserved invariant-loop decreases-loop
 loop-again c =
     let v = c.before.before in
     let l = c.before.before.before.before.before in
     let e = c.before.before.before.before.before.before.before.before.before.before.before.before.before.before.before.before in
     let a = e.args in (
-      pass-next a.record-module.now (targets e) (length a.normal.now) e.requires.0.rising l.loop.invariant.0 c.before.before.before.before.loop-test.true v.lead-once.ensures (omega (arith, c.before.before.before.before.loop-test.true, l.loop.invariant.2)),
-      omega (arith, c.before.before.before.before.loop-test.true),
-      length-set l.loop.leads l.loop.row v.lead-once.result ∙ l.loop.invariant.2,
+      pass-next a.record-module.now (targets e) (length a.normal.now) e.requires.0.rising l.loop-row.invariant.0 c.loop-row-test.true v.lead_once.ensures (omega (arith, c.loop-row-test.true, l.loop-row.invariant.2)),
+      omega (arith, c.loop-row-test.true),
+      length-set l.loop-row.leads l.loop-row.row v.lead_once.result ∙ l.loop-row.invariant.2,
     )
 
-same_length : tie.Need-same-length invariant-loop decreases-loop
+same_length : tie.Need-shape_of-seen invariant-loop decreases-loop
 same_length c = sym (seen-len c.before)
 
-same-length-2 : tie.Need-same-length-2 invariant-loop decreases-loop
-same-length-2 c = c.before.loop.invariant.2 ∙ sym c.before.before.before.before.before.before.before.before.before.before.before.before.requires.1.1
+same-length-2 : tie.Need-shape_of-leads invariant-loop decreases-loop
+same-length-2 c = c.loop-row.invariant.2 ∙ sym c.requires.1.1
 
 returns : tie.Need-returns invariant-loop decreases-loop
 unfolding targets_of
@@ -91,11 +91,11 @@ returns c =
     let l = c.before in
     let e = c.before.before.before.before.before.before.before.before.before.before.before.before in
     let a = e.args in
-    subst (λ (n : ℕ). LedOnce a.record-module.now (targets_of (is_static a.dynamic) any_target a.normal.now a.record-module.now a.record-kind.now a.record-target.now) n l.loop.leads) e.requires.0.normals
-    (pass-end a.record-module.now (targets e) (length a.normal.now) l.loop.row (le_antisymm l.loop.invariant.1 c.loop-test.false) l.loop.invariant.2 l.loop.invariant.0)
+    subst (λ (n : ℕ). LedOnce a.record-module.now (targets_of (is_static a.dynamic) any_target a.normal.now a.record-module.now a.record-kind.now a.record-target.now) n l.loop-row.leads) e.requires.0.normals
+    (pass-end a.record-module.now (targets e) (length a.normal.now) l.loop-row.row (le_antisymm l.loop-row.invariant.1 c.loop-row-test.false) l.loop-row.invariant.2 l.loop-row.invariant.0)
 
-pub lead-rows-spec : {M : Type 1} → statement M
-lead-rows-spec =
+pub lead_rows_spec : {M : Type 1} → statement M
+lead_rows_spec =
     tie.close
     (tie.spec
     invariant-loop

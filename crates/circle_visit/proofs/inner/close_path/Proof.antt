@@ -17,16 +17,16 @@ use Rattle.circle_visit.proofs.places.put_at.Reads as put-at-reads
 listed_same : {p p' l l' : List ℕ} {c u u' : ℕ} → p ≡ p' → l ≡ l' → u ≡ u' → listed p l c u ≡ listed p' l' c u'
 listed_same {c = c} e f g = cc
 
-place-of-requires : tie.Need-place-of-requires
+place-of-requires : tie.Need-place_of-start-requires
 place-of-requires c κs = search rules
 
-sub_open : tie.Need-overflow-sub-open
+sub_open : tie.Need-overflow_sub-open
 sub_open c = search rules
 
-mul-put-all : tie.Need-overflow-mul-put-all
+mul-put-all : tie.Need-offset_bounds-begun-start
 mul-put-all c = search rules
 
-sub-put-all : tie.Need-overflow-sub-put-all
+sub-put-all : tie.Need-slice_bounds-put_all-count
 sub-put-all c = search rules
 
 part-put-all-start : tie.Need-slice-bounds-put-all-start
@@ -35,60 +35,60 @@ part-put-all-start c = search rules
 part-put-all-end : tie.Need-slice-bounds-put-all-end
 part-put-all-end c = search rules
 
-put-all-requires : tie.Need-put-all-requires
+put-all-requires : tie.Need-put_all-requires
 put-all-requires c κs = search rules
 
-add-put-at : tie.Need-overflow-add-put-at
+add-put-at : tie.Need-overflow_add-used
 add-put-at c = search rules
 
-put-at-requires : tie.Need-put-at-requires
+put-at-requires : tie.Need-put_at-requires
 put-at-requires c κs = search rules
 
-add-put-at-2 : tie.Need-overflow-add-put-at-2
+add-put-at-2 : tie.Need-overflow_add-open
 add-put-at-2 c = search rules
 
-cast-put-at : tie.Need-overflow-cast-put-at
+cast-put-at : tie.Need-overflow_cast-open
 cast-put-at c = search rules
 
-put-at-requires-2 : tie.Need-put-at-requires-2
+put-at-requires-2 : tie.Need-put_at-requires-2
 put-at-requires-2 c κs = search rules
 
-add-t13 : tie.Need-overflow-add-t13
+add-t13 : tie.Need-overflow_add-result
 add-t13 c = search rules
 
-add-t10 : tie.Need-overflow-add-t10
+add-t10 : tie.Need-overflow_add-result-2
 add-t10 c = search rules
 
-add-t23 : tie.Need-overflow-add-t23
+add-t23 : tie.Need-overflow_add-result-3
 add-t23 c = search rules
 
-same_length : tie.Need-same-length
+same_length : tie.Need-shape_of-paths
 same_length c = search rules
 
-same-length-2 : tie.Need-same-length-2
+same-length-2 : tie.Need-shape_of-lengths
 same-length-2 c = search rules
 
 returns : tie.Need-returns
 returns c =
-    let second = c.before.before.put-at2 in
+    let second = c.put_at-2 in
     let first = c.before.before.before.before.before.before in
     let all = first.before.before.before.before in
     let k = c.before.before.before.before.before.before.before.before.before.before.before.before.before in
-    let a = k.before.before.before.before.args in
+    let a = k.args in
     let begun = a.begun.now in
-    let start = k.place_of.result in
-    let q = k.place_of.ensures.1 in
+    let start = k.place_of-start.result in
+    let q = k.place_of-start.ensures.1 in
     let n = path-long begun a.paths.now a.m start a.found.used q in
     let w : all.put_all_lem.new.1.0 ≡ sets a.paths.now a.found.used (take (length begun - start) (drop start begun)) = all.put_all_lem.ensures in
     listed_same
-    (first.put-at.ensures
+    (first.put_at.ensures
     ∙ ap (λ (l : List ℕ). set l (a.found.used + (length begun - start)) a.m) (w ∙ ap (sets a.paths.now a.found.used) (rest-same begun start))
     ∙ path-written begun a.paths.now a.m start a.found.used q)
     (second.ensures ∙ ap (set a.lengths.now a.found.count) n)
     (ap (λ (j : ℕ). a.found.used + j) n)
 
-pub close-path-spec : {M : Type 1} → statement M
-close-path-spec =
+pub close_path_spec : {M : Type 1} → statement M
+close_path_spec =
     tie.close
     (tie.spec
     place-of-requires

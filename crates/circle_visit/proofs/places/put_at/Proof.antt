@@ -8,20 +8,20 @@ use Rattle.circle_visit.proofs.places.put_at.Tie as tie
 use Rattle.circle_visit.proofs.places.put_at.Reads as reads
 use Rattle.circle_visit.proofs.places.put_at.Lts as lts
 
-mul-slots : tie.Need-overflow-mul-slots
+mul-slots : tie.Need-offset_bounds-slots-at
 mul-slots c = search rules
 
-slice-write-slots : tie.Need-slice-write-slots
+slice-write-slots : tie.Need-bounds-slots-at
 slice-write-slots c = search rules
 
-same_length : tie.Need-same-length
+same_length : tie.Need-shape_of-slots
 same_length c = search rules
 
-returns : tie.Need-returns
+returns : tie.Need-returns-then-at-slots
 returns c = search rules
 
-returns-2 : tie.Need-returns-2
-returns-2 c = let a = c.before.args in sym (set_out a.slots.now a.at a.value c.if1.false)
+returns-2 : tie.Need-returns-else-at-slots
+returns-2 c = let a = c.args in sym (set_out a.slots.now a.at a.value c.if-at-slots.false)
 
-pub put-at-spec : {M : Type 1} → statement M
-put-at-spec = tie.close (tie.spec mul-slots slice-write-slots same_length returns returns-2)
+pub put_at_spec : {M : Type 1} → statement M
+put_at_spec = tie.close (tie.spec mul-slots slice-write-slots same_length returns returns-2)

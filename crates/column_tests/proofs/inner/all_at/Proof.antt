@@ -9,48 +9,48 @@ use Rattle.column_tests.proofs.Every.{row-joined, rows-joined}
 use Rattle.column_tests.proofs.inner.all_at.Statement.{statement}
 use Rattle.column_tests.proofs.inner.all_at.Tie as tie
 
-abbrev invariant-loop : tie.invariant-loop
+abbrev invariant-loop : tie.invariant-loop-i
 invariant-loop values column value fit₀ i₀ fit i =
     (fit && every (λ (x : ℕ). eqb (get_or values x 0) value) (drop i column)) ≡ every (λ (x : ℕ). eqb (get_or values x 0) value) column
 
-abbrev decreases-loop : tie.decreases-loop
+abbrev decreases-loop : tie.decreases-loop-i
 decreases-loop values column value fit₀ i₀ fit i = length column - i
 
-loop-holds : tie.Need-loop-init invariant-loop decreases-loop
+loop-holds : tie.Need-loop-i-init invariant-loop decreases-loop
 loop-holds c = refl
 
-mul-value-at : tie.Need-overflow-mul-value-at invariant-loop decreases-loop
+mul-value-at : tie.Need-offset_bounds-column-i invariant-loop decreases-loop
 mul-value-at c = omega arith
 
-shared-slice-read-value-at : tie.Need-shared-slice-read-value-at invariant-loop decreases-loop
+shared-slice-read-value-at : tie.Need-bounds-column-i invariant-loop decreases-loop
 shared-slice-read-value-at c = omega arith
 
-cast-value-at : tie.Need-overflow-cast-value-at invariant-loop decreases-loop
-cast-value-at c = omega (arith, c.shared-slice-known3.given c.before.before.loop.i)
+cast-value-at : tie.Need-overflow_cast-column invariant-loop decreases-loop
+cast-value-at c = omega (arith, c.shared_slice_known-in-loop-i-1.given c.loop-i.i)
 
-value-at-requires : tie.Need-value-at-requires invariant-loop decreases-loop
+value-at-requires : tie.Need-value_at-requires invariant-loop decreases-loop
 value-at-requires c κs = search rules
 
-add-i : tie.Need-overflow-add-i invariant-loop decreases-loop
+add-i : tie.Need-overflow_add-i invariant-loop decreases-loop
 add-i c = omega arith
 
-loop-less : tie.Need-loop-smaller invariant-loop decreases-loop
+loop-less : tie.Need-loop-i-smaller invariant-loop decreases-loop
 loop-less c = omega arith
 
-loop-again : tie.Need-loop-preserved invariant-loop decreases-loop
+loop-again : tie.Need-loop-i-preserved invariant-loop decreases-loop
 loop-again c =
     let l = c.before.before.before in
-    let a = l.before.before.before.args in
-    rw c.value-at.ensures (row-joined (λ (x : ℕ). eqb (get_or a.values.now x 0) a.value) a.column.now _ l.loop.fit l.loop.i l.loop.invariant (omega arith))
+    let a = l.args in
+    rw c.value_at.ensures (row-joined (λ (x : ℕ). eqb (get_or a.values.now x 0) a.value) a.column.now _ l.loop-i.fit l.loop-i.i l.loop-i.invariant (omega arith))
 
 returns : tie.Need-returns invariant-loop decreases-loop
 returns c =
     let l = c.before in
-    let a = l.before.before.before.args in
-    rows-joined (λ (x : ℕ). eqb (get_or a.values.now x 0) a.value) a.column.now _ l.loop.fit l.loop.i l.loop.invariant (omega arith)
+    let a = l.args in
+    rows-joined (λ (x : ℕ). eqb (get_or a.values.now x 0) a.value) a.column.now _ l.loop-i.fit l.loop-i.i l.loop-i.invariant (omega arith)
 
-pub all-at-spec : {M : Type 1} → statement M
-all-at-spec =
+pub all_at_spec : {M : Type 1} → statement M
+all_at_spec =
     tie.close
     (tie.spec
     invariant-loop

@@ -10,11 +10,11 @@ use Rattle.tables.proofs.Scan.{rows_pass}
 use Rattle.column_tests.proofs.inner.all_below.Statement.{statement}
 use Rattle.column_tests.proofs.inner.all_below.Tie as tie
 
-returns : tie.Need-returns
+returns : tie.Need-returns-then-n
 unfolding below
 returns c =
-    let a = c.before.before.args in
-    rows_pass _ a.column.now (length a.column.now) (le_refl _) (λ k h. lt-ltb (get_or a.column.now k 0) a.n (omega (arith, c.before.shared-slice-known.given k)))
+    let a = c.args in
+    rows_pass _ a.column.now (length a.column.now) (le_refl _) (λ k h. lt-ltb (get_or a.column.now k 0) a.n (omega (arith, c.shared_slice_known-1.given k)))
 
-pub all-below-spec : {M : Type 1} → statement M
-all-below-spec = tie.close (tie.spec (λ c. search rules) returns (λ c. search rules) (λ c κs. search rules) (λ c. search rules))
+pub all_below_spec : {M : Type 1} → statement M
+all_below_spec = tie.close (tie.spec (λ c. search rules) returns (λ c. search rules) (λ c κs. search rules) (λ c. search rules))

@@ -11,11 +11,11 @@ use Rattle.tables.proofs.Scan.{rows_pass}
 use Rattle.column_tests.proofs.inner.all_below_or_missing.Statement.{statement}
 use Rattle.column_tests.proofs.inner.all_below_or_missing.Tie as tie
 
-returns : tie.Need-returns
+returns : tie.Need-returns-then-n
 unfolding below_or_missing
 returns c =
-    let a = c.before.before.args in
-    rows_pass _ a.column.now (length a.column.now) (le_refl _) (λ k h. or_left _ _ (lt-ltb (get_or a.column.now k 0) a.n (omega (arith, c.before.shared-slice-known.given k))))
+    let a = c.args in
+    rows_pass _ a.column.now (length a.column.now) (le_refl _) (λ k h. or_left _ _ (lt-ltb (get_or a.column.now k 0) a.n (omega (arith, c.shared_slice_known-1.given k))))
 
-pub all-below-or-missing-spec : {M : Type 1} → statement M
-all-below-or-missing-spec = tie.close (tie.spec (λ c. search rules) returns (λ c. search rules) (λ c κs. search rules) (λ c. search rules))
+pub all_below_or_missing_spec : {M : Type 1} → statement M
+all_below_or_missing_spec = tie.close (tie.spec (λ c. search rules) returns (λ c. search rules) (λ c κs. search rules) (λ c. search rules))

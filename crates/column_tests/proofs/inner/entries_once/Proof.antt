@@ -12,53 +12,53 @@ use Rattle.column_tests.proofs.Once.{marked, mark, run, run-turn, run-stop, run_
 use Rattle.column_tests.proofs.inner.entries_once.Statement.{statement}
 use Rattle.column_tests.proofs.inner.entries_once.Tie as tie
 
-abbrev invariant-loop : tie.invariant-loop
+abbrev invariant-loop : tie.invariant-loop-i
 invariant-loop entry marks₀ i₀ marks i = run marked mark marks (drop i entry) ≡ entries_once entry
 
-abbrev decreases-loop : tie.decreases-loop
+abbrev decreases-loop : tie.decreases-loop-i
 decreases-loop entry marks₀ i₀ marks i = length entry - i
 
-loop-holds : tie.Need-loop-init invariant-loop decreases-loop
+loop-holds : tie.Need-loop-i-init invariant-loop decreases-loop
 loop-holds c = entries-start 4096 c.args.entry.now c.requires
 
-mul_at : tie.Need-overflow-mul-at invariant-loop decreases-loop
+mul_at : tie.Need-offset_bounds-entry-i invariant-loop decreases-loop
 mul_at c = omega arith
 
-shared-slice-read-at : tie.Need-shared-slice-read-at invariant-loop decreases-loop
+shared-slice-read-at : tie.Need-bounds-entry-i invariant-loop decreases-loop
 shared-slice-read-at c = omega arith
 
-cast-at : tie.Need-overflow-cast-at invariant-loop decreases-loop
-cast-at c = omega (arith, c.shared-slice-known.given c.before.before.loop.i)
+cast-at : tie.Need-overflow_cast-at invariant-loop decreases-loop
+cast-at c = omega (arith, c.shared_slice_known-1.given c.loop-i.i)
 
-mul-if1 : tie.Need-overflow-mul-if1 invariant-loop decreases-loop
-mul-if1 c = omega (arith, c.before.before.before.requires c.before.before.loop.i c.before.loop-test.true)
+mul-if1 : tie.Need-offset_bounds-marks-at invariant-loop decreases-loop
+mul-if1 c = omega (arith, c.requires c.loop-i.i c.loop-i-test.true)
 
-array-read-if1 : tie.Need-array-read-if1 invariant-loop decreases-loop
-array-read-if1 c = c.before.before.before.requires c.before.before.loop.i c.before.loop-test.true
+array-read-if1 : tie.Need-bounds-marks-at invariant-loop decreases-loop
+array-read-if1 c = c.requires c.loop-i.i c.loop-i-test.true
 
-returns : tie.Need-returns invariant-loop decreases-loop
-returns c = run-stop marked mark _ _ _ _ (ap (run marked mark c.before.before.before.loop.marks) (sym (drop-next c.before.before.before.before.args.entry.now c.before.before.before.loop.i c.before.before.loop-test.true)) ∙ c.before.before.before.loop.invariant) (ap not (not-zero _ c.if1.true))
+returns : tie.Need-returns-then-marks-at-ne0 invariant-loop decreases-loop
+returns c = run-stop marked mark _ _ _ _ (ap (run marked mark c.loop-i.marks) (sym (drop-next c.args.entry.now c.loop-i.i c.loop-i-test.true)) ∙ c.loop-i.invariant) (ap not (not-zero _ c.if-marks-at-ne0.true))
 
-mul-marks : tie.Need-overflow-mul-marks invariant-loop decreases-loop
-mul-marks c = omega (arith, c.before.before.before.before.requires c.before.before.before.loop.i c.before.before.loop-test.true)
+mul-marks : tie.Need-offset_bounds-marks-at-in-loop-i invariant-loop decreases-loop
+mul-marks c = omega (arith, c.requires c.loop-i.i c.loop-i-test.true)
 
-array-write-marks : tie.Need-array-write-marks invariant-loop decreases-loop
-array-write-marks c = c.before.before.before.before.requires c.before.before.before.loop.i c.before.before.loop-test.true
+array-write-marks : tie.Need-bounds-marks-at-in-loop-i invariant-loop decreases-loop
+array-write-marks c = c.requires c.loop-i.i c.loop-i-test.true
 
-add-i : tie.Need-overflow-add-i invariant-loop decreases-loop
+add-i : tie.Need-overflow_add-i invariant-loop decreases-loop
 add-i c = omega arith
 
-loop-less : tie.Need-loop-smaller invariant-loop decreases-loop
+loop-less : tie.Need-loop-i-smaller invariant-loop decreases-loop
 loop-less c = omega arith
 
-loop-again : tie.Need-loop-preserved invariant-loop decreases-loop
-loop-again c = run-turn marked mark _ _ _ _ (ap (run marked mark c.before.before.before.loop.marks) (sym (drop-next c.before.before.before.before.args.entry.now c.before.before.before.loop.i c.before.before.loop-test.true)) ∙ c.before.before.before.loop.invariant) (ap (λ (n : ℕ). not (is_zero n)) c.if1.false)
+loop-again : tie.Need-loop-i-preserved invariant-loop decreases-loop
+loop-again c = run-turn marked mark _ _ _ _ (ap (run marked mark c.loop-i.marks) (sym (drop-next c.args.entry.now c.loop-i.i c.loop-i-test.true)) ∙ c.loop-i.invariant) (ap (λ (n : ℕ). not (is_zero n)) c.if-marks-at-ne0.false)
 
-returns-2 : tie.Need-returns-2 invariant-loop decreases-loop
-returns-2 c = run_end marked mark _ _ (ap (run marked mark c.before.loop.marks) (sym (drop_of_length-le c.before.before.args.entry.now c.loop-test.false)) ∙ c.before.loop.invariant)
+returns-2 : tie.Need-returns invariant-loop decreases-loop
+returns-2 c = run_end marked mark _ _ (ap (run marked mark c.loop-i.marks) (sym (drop_of_length-le c.args.entry.now c.loop-i-test.false)) ∙ c.loop-i.invariant)
 
-pub entries-once-spec : {M : Type 1} → statement M
-entries-once-spec =
+pub entries_once_spec : {M : Type 1} → statement M
+entries_once_spec =
     tie.close
     (tie.spec
     invariant-loop

@@ -8,48 +8,48 @@ use Rattle.column_tests.proofs.Risen.{rise-joined, rises-joined}
 use Rattle.column_tests.proofs.inner.is_rising.Statement.{statement}
 use Rattle.column_tests.proofs.inner.is_rising.Tie as tie
 
-abbrev invariant-loop : tie.invariant-loop
+abbrev invariant-loop : tie.invariant-loop-i
 invariant-loop column rising₀ i₀ rising i = (1 ≤ i) × ((rising && rises (drop (i - 1) column)) ≡ rises column)
 
-abbrev decreases-loop : tie.decreases-loop
+abbrev decreases-loop : tie.decreases-loop-i
 decreases-loop column rising₀ i₀ rising i = length column - i
 
-loop-holds : tie.Need-loop-init invariant-loop decreases-loop
+loop-holds : tie.Need-loop-i-init invariant-loop decreases-loop
 loop-holds c = (omega arith, refl)
 
-sub-rising : tie.Need-overflow-sub-rising invariant-loop decreases-loop
+sub-rising : tie.Need-overflow_sub-rising invariant-loop decreases-loop
 sub-rising c = omega arith
 
-mul-rising : tie.Need-overflow-mul-rising invariant-loop decreases-loop
+mul-rising : tie.Need-offset_bounds-column-i invariant-loop decreases-loop
 mul-rising c = omega arith
 
-shared-slice-read-rising : tie.Need-shared-slice-read-rising invariant-loop decreases-loop
+shared-slice-read-rising : tie.Need-bounds-column-i invariant-loop decreases-loop
 shared-slice-read-rising c = omega arith
 
-mul-rising-2 : tie.Need-overflow-mul-rising-2 invariant-loop decreases-loop
+mul-rising-2 : tie.Need-offset_bounds-column-i-in-loop-i invariant-loop decreases-loop
 mul-rising-2 c = omega arith
 
-shared-slice-read-rising-2 : tie.Need-shared-slice-read-rising-2 invariant-loop decreases-loop
+shared-slice-read-rising-2 : tie.Need-bounds-column-i-in-loop-i invariant-loop decreases-loop
 shared-slice-read-rising-2 c = omega arith
 
-add-i : tie.Need-overflow-add-i invariant-loop decreases-loop
+add-i : tie.Need-overflow_add-i invariant-loop decreases-loop
 add-i c = omega arith
 
-loop-less : tie.Need-loop-smaller invariant-loop decreases-loop
+loop-less : tie.Need-loop-i-smaller invariant-loop decreases-loop
 loop-less c = omega arith
 
-loop-again : tie.Need-loop-preserved invariant-loop decreases-loop
+loop-again : tie.Need-loop-i-preserved invariant-loop decreases-loop
 loop-again c =
     let l = c.before.before.before in
-    (omega arith, rise-joined l.before.args.column.now _ l.loop.rising l.loop.i l.loop.invariant.0 l.loop.invariant.1 (omega arith))
+    (omega arith, rise-joined l.args.column.now _ l.loop-i.rising l.loop-i.i l.loop-i.invariant.0 l.loop-i.invariant.1 (omega arith))
 
 returns : tie.Need-returns invariant-loop decreases-loop
 returns c =
     let l = c.before in
-    rises-joined l.before.args.column.now _ l.loop.rising l.loop.i l.loop.invariant.0 l.loop.invariant.1 (omega arith)
+    rises-joined l.args.column.now _ l.loop-i.rising l.loop-i.i l.loop-i.invariant.0 l.loop-i.invariant.1 (omega arith)
 
-pub is-rising-spec : {M : Type 1} → statement M
-is-rising-spec =
+pub is_rising_spec : {M : Type 1} → statement M
+is_rising_spec =
     tie.close
     (tie.spec
     invariant-loop

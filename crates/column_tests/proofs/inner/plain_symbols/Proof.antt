@@ -21,58 +21,58 @@ plain reference-form reference-symbol row = eqb (get_or reference-form row 0) 2 
 past : (reference-form reference-symbol : List ℕ) (k : ℕ) → length reference-symbol ≤ k → plain reference-form reference-symbol k ≡ true
 past reference-form reference-symbol k h = or_right (eqb (get_or reference-form k 0) 2) (not (eqb (get_or reference-symbol k 0) missing)) (rw (get_or-eq_default reference-symbol 0 h))
 
-abbrev invariant-loop : tie.invariant-loop
+abbrev invariant-loop : tie.invariant-loop-i
 invariant-loop reference-form reference-symbol rows fit₀ i₀ fit i =
     (fit && every (plain reference-form reference-symbol) (count_from i (length reference-form - i))) ≡ plain_symbols reference-form reference-symbol
 
-abbrev decreases-loop : tie.decreases-loop
+abbrev decreases-loop : tie.decreases-loop-i
 decreases-loop reference-form reference-symbol rows fit₀ i₀ fit i = rows - i
 
-rows-of-both-requires : tie.Need-rows-of-both-requires invariant-loop decreases-loop
+rows-of-both-requires : tie.Need-rows_of_both-rows-requires invariant-loop decreases-loop
 rows-of-both-requires c κs = search rules
 
-loop-holds : tie.Need-loop-init invariant-loop decreases-loop
+loop-holds : tie.Need-loop-i-init invariant-loop decreases-loop
 unfolding plain_symbols
-loop-holds c = let a = c.before.before.before.args in counts_start (plain a.reference-form.now a.reference-symbol.now) (length a.reference-form.now)
+loop-holds c = let a = c.args in counts_start (plain a.reference-form.now a.reference-symbol.now) (length a.reference-form.now)
 
-mul_fit : tie.Need-overflow-mul-fit invariant-loop decreases-loop
+mul_fit : tie.Need-offset_bounds-reference_form-i invariant-loop decreases-loop
 mul_fit c = omega arith
 
-shared-slice-read-fit : tie.Need-shared-slice-read-fit invariant-loop decreases-loop
+shared-slice-read-fit : tie.Need-bounds-reference_form-i invariant-loop decreases-loop
 shared-slice-read-fit c = omega arith
 
-mul-fit-2 : tie.Need-overflow-mul-fit-2 invariant-loop decreases-loop
+mul-fit-2 : tie.Need-offset_bounds-reference_symbol-i invariant-loop decreases-loop
 mul-fit-2 c = omega arith
 
-shared-slice-read-fit-2 : tie.Need-shared-slice-read-fit-2 invariant-loop decreases-loop
+shared-slice-read-fit-2 : tie.Need-bounds-reference_symbol-i invariant-loop decreases-loop
 shared-slice-read-fit-2 c = omega arith
 
-add-i : tie.Need-overflow-add-i invariant-loop decreases-loop
+add-i : tie.Need-overflow_add-i invariant-loop decreases-loop
 add-i c = omega arith
 
-loop-less : tie.Need-loop-smaller invariant-loop decreases-loop
+loop-less : tie.Need-loop-i-smaller invariant-loop decreases-loop
 loop-less c = omega arith
 
-loop-again : tie.Need-loop-preserved invariant-loop decreases-loop
+loop-again : tie.Need-loop-i-preserved invariant-loop decreases-loop
 loop-again c =
     let l = c.before.before.before in
-    let a = l.before.before.before.before.args in
-    count-joined (plain a.reference-form.now a.reference-symbol.now) _ _ l.loop.fit l.loop.i l.loop.invariant (omega arith)
+    let a = l.args in
+    count-joined (plain a.reference-form.now a.reference-symbol.now) _ _ l.loop-i.fit l.loop-i.i l.loop-i.invariant (omega arith)
 
 returns : tie.Need-returns invariant-loop decreases-loop
 returns c =
     let l = c.before in
     let k = l.before in
-    let a = k.before.before.before.args in
+    let a = k.args in
     let form = a.reference-form.now in
     let symbol = a.reference-symbol.now in
     ⊎_elim
-    (λ e. counts-joined (plain form symbol) (length form) _ l.loop.fit l.loop.i l.loop.invariant (omega arith))
-    (λ e. counts-passed (plain form symbol) (length form) _ l.loop.fit l.loop.i l.loop.invariant (λ j h. past form symbol j (omega arith)))
-    k.rows-of-both.ensures.one
+    (λ e. counts-joined (plain form symbol) (length form) _ l.loop-i.fit l.loop-i.i l.loop-i.invariant (omega arith))
+    (λ e. counts-passed (plain form symbol) (length form) _ l.loop-i.fit l.loop-i.i l.loop-i.invariant (λ j h. past form symbol j (omega arith)))
+    k.rows_of_both-rows.ensures.one
 
-pub plain-symbols-spec : {M : Type 1} → statement M
-plain-symbols-spec =
+pub plain_symbols_spec : {M : Type 1} → statement M
+plain_symbols_spec =
     tie.close
     (tie.spec
     invariant-loop

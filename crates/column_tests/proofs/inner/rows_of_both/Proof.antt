@@ -7,11 +7,11 @@ use native.Mathlib.Omega.{arith}
 use Rattle.column_tests.proofs.inner.rows_of_both.Statement.{statement}
 use Rattle.column_tests.proofs.inner.rows_of_both.Tie as tie
 
-returns : tie.Need-returns
+returns : tie.Need-returns-then-first-second
 returns c = record { first = le_refl _; second = omega arith; one = inl refl }
 
-returns-2 : tie.Need-returns-2
+returns-2 : tie.Need-returns
 returns-2 c = record { first = omega arith; second = le_refl _; one = inr refl }
 
-pub rows-of-both-spec : {M : Type 1} → statement M
-rows-of-both-spec = tie.close (tie.spec returns returns-2)
+pub rows_of_both_spec : {M : Type 1} → statement M
+rows_of_both_spec = tie.close (tie.spec returns returns-2)

@@ -10,42 +10,42 @@ use Rattle.column_tests.proofs.Every.{row-joined, rows-joined}
 use Rattle.column_tests.proofs.inner.under_or_missing.Statement.{statement}
 use Rattle.column_tests.proofs.inner.under_or_missing.Tie as tie
 
-abbrev invariant-loop : tie.invariant-loop
+abbrev invariant-loop : tie.invariant-loop-i
 invariant-loop column bound fit₀ i₀ fit i = (fit && every (λ (x : ℕ). ltb x bound || eqb x missing) (drop i column)) ≡ below_or_missing bound column
 
-abbrev decreases-loop : tie.decreases-loop
+abbrev decreases-loop : tie.decreases-loop-i
 decreases-loop column bound fit₀ i₀ fit i = length column - i
 
-loop-holds : tie.Need-loop-init invariant-loop decreases-loop
+loop-holds : tie.Need-loop-i-init invariant-loop decreases-loop
 unfolding below_or_missing
 loop-holds c = refl
 
-mul-x : tie.Need-overflow-mul-x invariant-loop decreases-loop
+mul-x : tie.Need-offset_bounds-column-i invariant-loop decreases-loop
 mul-x c = omega arith
 
-shared-slice-read-x : tie.Need-shared-slice-read-x invariant-loop decreases-loop
+shared-slice-read-x : tie.Need-bounds-column-i invariant-loop decreases-loop
 shared-slice-read-x c = omega arith
 
-add-i : tie.Need-overflow-add-i invariant-loop decreases-loop
+add-i : tie.Need-overflow_add-i invariant-loop decreases-loop
 add-i c = omega arith
 
-loop-less : tie.Need-loop-smaller invariant-loop decreases-loop
+loop-less : tie.Need-loop-i-smaller invariant-loop decreases-loop
 loop-less c = omega arith
 
-loop-again : tie.Need-loop-preserved invariant-loop decreases-loop
+loop-again : tie.Need-loop-i-preserved invariant-loop decreases-loop
 loop-again c =
     let l = c.before.before in
-    let a = l.before.args in
-    row-joined (λ (x : ℕ). ltb x a.bound || eqb x missing) a.column.now _ l.loop.fit l.loop.i l.loop.invariant (omega arith)
+    let a = l.args in
+    row-joined (λ (x : ℕ). ltb x a.bound || eqb x missing) a.column.now _ l.loop-i.fit l.loop-i.i l.loop-i.invariant (omega arith)
 
 returns : tie.Need-returns invariant-loop decreases-loop
 returns c =
     let l = c.before in
-    let a = l.before.args in
-    rows-joined (λ (x : ℕ). ltb x a.bound || eqb x missing) a.column.now _ l.loop.fit l.loop.i l.loop.invariant (omega arith)
+    let a = l.args in
+    rows-joined (λ (x : ℕ). ltb x a.bound || eqb x missing) a.column.now _ l.loop-i.fit l.loop-i.i l.loop-i.invariant (omega arith)
 
-pub under-or-missing-spec : {M : Type 1} → statement M
-under-or-missing-spec =
+pub under_or_missing_spec : {M : Type 1} → statement M
+under_or_missing_spec =
     tie.close
     (tie.spec
     invariant-loop

@@ -14,63 +14,63 @@ abbrev own : List ℕ → List ℕ → List ℕ → List ℕ → ℕ → Bool
 own statement-module record-module use-statement use-record row =
     eqb (get_or statement-module (get_or use-statement row 0) 0) (get_or record-module (get_or use-record row 0) 0)
 
-abbrev invariant-loop : tie.invariant-loop
+abbrev invariant-loop : tie.invariant-loop-i
 invariant-loop statement-module record-module use-statement use-record fit₀ i₀ fit i =
     (fit && every (own statement-module record-module use-statement use-record) (count_from i (length use-statement - i)))
     ≡ uses_own statement-module record-module use-statement use-record
 
-abbrev decreases-loop : tie.decreases-loop
+abbrev decreases-loop : tie.decreases-loop-i
 decreases-loop statement-module record-module use-statement use-record fit₀ i₀ fit i = length use-statement - i
 
 abbrev test : tie.Start invariant-loop decreases-loop → ℕ → Bool
 test s = own s.args.statement-module.now s.args.record-module.now s.args.use-statement.now s.args.use-record.now
 
-loop-holds : tie.Need-loop-init invariant-loop decreases-loop
+loop-holds : tie.Need-loop-i-init invariant-loop decreases-loop
 unfolding uses_own
 loop-holds c = let s = c.before.before.before.before in counts_start (test s) (length s.args.use-statement.now)
 
-mul-statement : tie.Need-overflow-mul-statement invariant-loop decreases-loop
+mul-statement : tie.Need-offset_bounds-use_statement-i invariant-loop decreases-loop
 mul-statement c = omega arith
 
-shared-slice-read-statement : tie.Need-shared-slice-read-statement invariant-loop decreases-loop
+shared-slice-read-statement : tie.Need-bounds-use_statement-i invariant-loop decreases-loop
 shared-slice-read-statement c = omega arith
 
-cast-statement : tie.Need-overflow-cast-statement invariant-loop decreases-loop
-cast-statement c = omega (arith, c.shared-slice-known5.given c.before.before.loop.i)
+cast-statement : tie.Need-overflow_cast-statement invariant-loop decreases-loop
+cast-statement c = omega (arith, c.shared_slice_known-in-loop-i-1.given c.loop-i.i)
 
-value-at-requires : tie.Need-value-at-requires invariant-loop decreases-loop
+value-at-requires : tie.Need-value_at-used-requires invariant-loop decreases-loop
 value-at-requires c κs = search rules
 
-cast-used : tie.Need-overflow-cast-used invariant-loop decreases-loop
+cast-used : tie.Need-overflow_cast-used invariant-loop decreases-loop
 cast-used c = omega arith
 
-value-at-requires-2 : tie.Need-value-at-requires-2 invariant-loop decreases-loop
+value-at-requires-2 : tie.Need-value_at-requires invariant-loop decreases-loop
 value-at-requires-2 c κs = search rules
 
-value-at-requires-3 : tie.Need-value-at-requires-3 invariant-loop decreases-loop
+value-at-requires-3 : tie.Need-value_at-requires-in-loop-i invariant-loop decreases-loop
 value-at-requires-3 c κs = search rules
 
-add-i : tie.Need-overflow-add-i invariant-loop decreases-loop
+add-i : tie.Need-overflow_add-i invariant-loop decreases-loop
 add-i c = omega arith
 
-loop-less : tie.Need-loop-smaller invariant-loop decreases-loop
+loop-less : tie.Need-loop-i-smaller invariant-loop decreases-loop
 loop-less c = omega arith
 
-loop-again : tie.Need-loop-preserved invariant-loop decreases-loop
+loop-again : tie.Need-loop-i-preserved invariant-loop decreases-loop
 loop-again c =
     let l = c.before.before.before.before.before in
     let s = l.before.before.before.before.before in
-    rw (c.before.value-at2.ensures, c.value-at3.ensures, c.before.before.value-at.ensures)
-    (count-joined (test s) (length s.args.use-statement.now) _ l.loop.fit l.loop.i l.loop.invariant (omega arith))
+    rw (c.value_at.ensures, c.value_at-in-loop-i.ensures, c.value_at-used.ensures)
+    (count-joined (test s) (length s.args.use-statement.now) _ l.loop-i.fit l.loop-i.i l.loop-i.invariant (omega arith))
 
 returns : tie.Need-returns invariant-loop decreases-loop
 returns c =
     let l = c.before in
     let s = l.before.before.before.before.before in
-    counts-joined (test s) (length s.args.use-statement.now) _ l.loop.fit l.loop.i l.loop.invariant c.loop-test.false
+    counts-joined (test s) (length s.args.use-statement.now) _ l.loop-i.fit l.loop-i.i l.loop-i.invariant c.loop-i-test.false
 
-pub uses-own-spec : {M : Type 1} → statement M
-uses-own-spec =
+pub uses_own_spec : {M : Type 1} → statement M
+uses_own_spec =
     tie.close
     (tie.spec
     invariant-loop

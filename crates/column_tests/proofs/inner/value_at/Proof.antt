@@ -6,8 +6,8 @@ use lib.ListN.{get_or-eq_default}
 use Rattle.column_tests.proofs.inner.value_at.Statement.{statement}
 use Rattle.column_tests.proofs.inner.value_at.Tie as tie
 
-returns-2 : tie.Need-returns-2
-returns-2 c = sym (get_or-eq_default c.before.args.column.now 0 c.if1.false)
+returns-2 : tie.Need-returns
+returns-2 c = sym (get_or-eq_default c.args.column.now 0 c.if-row-column.false)
 
-pub value-at-spec : {M : Type 1} → statement M
-value-at-spec = tie.close (tie.spec (λ c. search rules) (λ c. search rules) (λ c. search rules) returns-2)
+pub value_at_spec : {M : Type 1} → statement M
+value_at_spec = tie.close (tie.spec (λ c. search rules) (λ c. search rules) (λ c. search rules) returns-2)

@@ -14,61 +14,61 @@ use Rattle.component_labels.specs.inner.Labelling.{labelled}
 use Rattle.component_labels.proofs.inner.count_labelled.Statement.{statement}
 use Rattle.component_labels.proofs.inner.count_labelled.Tie as tie
 
-abbrev invariant-loop : tie.invariant-loop
+abbrev invariant-loop : tie.invariant-loop-c
 invariant-loop labels count₀ c₀ c-end count c = (c-end ≡ length labels) × (count ≤ c) × (count + length (keep labelled (drop c labels)) ≡ length (keep labelled labels))
 
-abbrev decreases-loop : tie.decreases-loop
+abbrev decreases-loop : tie.decreases-loop-c
 decreases-loop labels count₀ c₀ c-end count c = c-end - c
 
-loop-holds : tie.Need-loop-init invariant-loop decreases-loop
+loop-holds : tie.Need-loop-c-init invariant-loop decreases-loop
 loop-holds c = (refl, omega arith, zero-add (length (keep labelled c.args.labels.now)))
 
-mul-if1 : tie.Need-overflow-mul-if1 invariant-loop decreases-loop
+mul-if1 : tie.Need-offset_bounds-labels-c invariant-loop decreases-loop
 mul-if1 c = search rules
 
-shared-slice-read-if1 : tie.Need-shared-slice-read-if1 invariant-loop decreases-loop
+shared-slice-read-if1 : tie.Need-bounds-labels-c invariant-loop decreases-loop
 shared-slice-read-if1 c = search rules
 
-add-c : tie.Need-overflow-add-c invariant-loop decreases-loop
+add-c : tie.Need-overflow_step-c invariant-loop decreases-loop
 add-c c = search rules
 
-loop-less : tie.Need-loop-smaller invariant-loop decreases-loop
+loop-less : tie.Need-loop-c-smaller-then-labels-c invariant-loop decreases-loop
 loop-less c = search rules
 
-loop-again : tie.Need-loop-preserved invariant-loop decreases-loop
+loop-again : tie.Need-loop-c-preserved-then-labels-c invariant-loop decreases-loop
 loop-again c =
     let l = c.before.before.before in
-    let s = l.before.args.labels.now in
-    let inside : l.loop.c < length s = c.before.before.loop-test.true in
-    let out : labelled (get_or s l.loop.c 0) ≡ false = ap not (eq-eqb (get_or s l.loop.c 0) missing c.if1.true) in
-    (refl, omega (arith, l.loop.invariant.1), omega (arith, l.loop.invariant.2, length-keep-out labelled s l.loop.c inside out))
+    let s = l.args.labels.now in
+    let inside : l.loop-c.c < length s = c.loop-c-test.true in
+    let out : labelled (get_or s l.loop-c.c 0) ≡ false = ap not (eq-eqb (get_or s l.loop-c.c 0) missing c.if-labels-c.true) in
+    (refl, omega (arith, l.loop-c.invariant.1), omega (arith, l.loop-c.invariant.2, length-keep-out labelled s l.loop-c.c inside out))
 
-add-count : tie.Need-overflow-add-count invariant-loop decreases-loop
-add-count c = omega (arith, c.before.before.loop-test.true, c.before.before.before.loop.invariant.1, c.before.before.before.before.well-formed)
+add-count : tie.Need-overflow_add-count invariant-loop decreases-loop
+add-count c = omega (arith, c.loop-c-test.true, c.loop-c.invariant.1, c.well_formed)
 
-add-c-2 : tie.Need-overflow-add-c-2 invariant-loop decreases-loop
+add-c-2 : tie.Need-overflow_step-c-in-loop-c invariant-loop decreases-loop
 add-c-2 c = search rules
 
-loop-less-2 : tie.Need-loop-smaller-2 invariant-loop decreases-loop
+loop-less-2 : tie.Need-loop-c-smaller invariant-loop decreases-loop
 loop-less-2 c = search rules
 
-loop-again-2 : tie.Need-loop-preserved-2 invariant-loop decreases-loop
+loop-again-2 : tie.Need-loop-c-preserved invariant-loop decreases-loop
 loop-again-2 c =
     let l = c.before.before.before in
-    let s = l.before.args.labels.now in
-    let inside : l.loop.c < length s = c.before.before.loop-test.true in
-    let here : labelled (get_or s l.loop.c 0) ≡ true = ap not (ne_eqb (get_or s l.loop.c 0) missing c.if1.false) in
-    (refl, omega (arith, l.loop.invariant.1), omega (arith, l.loop.invariant.2, length-keep-in labelled s l.loop.c inside here))
+    let s = l.args.labels.now in
+    let inside : l.loop-c.c < length s = c.loop-c-test.true in
+    let here : labelled (get_or s l.loop-c.c 0) ≡ true = ap not (ne_eqb (get_or s l.loop-c.c 0) missing c.if-labels-c.false) in
+    (refl, omega (arith, l.loop-c.invariant.1), omega (arith, l.loop-c.invariant.2, length-keep-in labelled s l.loop-c.c inside here))
 
 returns : tie.Need-returns invariant-loop decreases-loop
 returns c =
     let l = c.before in
-    let s = l.before.args.labels.now in
-    let none : length (keep labelled (drop l.loop.c s)) ≡ 0 = ap (λ (xs : List ℕ). length (keep labelled xs)) (drop_of_length-le s c.loop-test.false) in
-    omega (arith, l.loop.invariant.2)
+    let s = l.args.labels.now in
+    let none : length (keep labelled (drop l.loop-c.c s)) ≡ 0 = ap (λ (xs : List ℕ). length (keep labelled xs)) (drop_of_length-le s c.loop-c-test.false) in
+    omega (arith, l.loop-c.invariant.2)
 
-pub count-labelled-spec : {M : Type 1} → statement M
-count-labelled-spec =
+pub count_labelled_spec : {M : Type 1} → statement M
+count_labelled_spec =
     tie.close
     (tie.spec
     invariant-loop

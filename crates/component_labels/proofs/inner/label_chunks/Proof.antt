@@ -13,55 +13,55 @@ use Rattle.component_labels.proofs.inner.label_chunks.Statement.{statement}
 use Rattle.component_labels.proofs.inner.label_chunks.Tie as tie
 
 -- the first threads and the entry, seen from where the labels are lent
-abbrev made : tie.After-label-rows-arg → tie.After-thread
+abbrev made : tie.After-label_rows-arg-1 → tie.After-thread
 made c = c.before.before.before.before.before.before.before.before.before.before.before.before
 
-abbrev entry : tie.After-label-rows-arg → tie.Start
+abbrev entry : tie.After-label_rows-arg-1 → tie.Start
 entry c = (made c).before.before.before.before.before.before
 
-slice-aggregate-thread : tie.Need-slice-aggregate-thread
+slice-aggregate-thread : tie.Need-slice_bounds-thread-end
 slice-aggregate-thread c = search rules
 
-slice-aggregate-thread-2 : tie.Need-slice-aggregate-thread-2
+slice-aggregate-thread-2 : tie.Need-slice_bounds-thread-end-2
 slice-aggregate-thread-2 c = search rules
 
 thread-requires : tie.Need-thread-requires
-thread-requires c κs = threadable c.before.before.before.before.before.requires (replicate 1024 0) (replicate 16384 0) (le_refl 1024) (le_refl 16384)
+thread-requires c κs = threadable c.requires (replicate 1024 0) (replicate 16384 0) (le_refl 1024) (le_refl 16384)
 
-slice-aggregate-thread-3 : tie.Need-slice-aggregate-thread-3
+slice-aggregate-thread-3 : tie.Need-slice_bounds-thread-end-3
 slice-aggregate-thread-3 c = search rules
 
-slice-aggregate-thread-4 : tie.Need-slice-aggregate-thread-4
+slice-aggregate-thread-4 : tie.Need-slice_bounds-thread-end-4
 slice-aggregate-thread-4 c = search rules
 
 thread-requires-2 : tie.Need-thread-requires-2
-thread-requires-2 c κs = threadable (graph-back c.before.before.before.before.before.before.before.before.before.before.requires) (replicate 1024 0) (replicate 16384 0) (le_refl 1024) (le_refl 16384)
+thread-requires-2 c κs = threadable (graph-back c.requires) (replicate 1024 0) (replicate 16384 0) (le_refl 1024) (le_refl 16384)
 
-slice-aggregate-label-rows : tie.Need-slice-aggregate-label-rows
+slice-aggregate-label-rows : tie.Need-slice_bounds-label_rows-end
 slice-aggregate-label-rows c = search rules
 
-slice-aggregate-label-rows-2 : tie.Need-slice-aggregate-label-rows-2
+slice-aggregate-label-rows-2 : tie.Need-slice_bounds-label_rows-end-2
 slice-aggregate-label-rows-2 c = search rules
 
-slice-aggregate-label-rows-3 : tie.Need-slice-aggregate-label-rows-3
+slice-aggregate-label-rows-3 : tie.Need-slice_bounds-label_rows-end-3
 slice-aggregate-label-rows-3 c = search rules
 
-slice-aggregate-label-rows-4 : tie.Need-slice-aggregate-label-rows-4
+slice-aggregate-label-rows-4 : tie.Need-slice_bounds-label_rows-end-4
 slice-aggregate-label-rows-4 c = search rules
 
-label-rows-requires : tie.Need-label-rows-requires
+label-rows-requires : tie.Need-label_rows-requires
 label-rows-requires c κs =
     let t = c.before.before.before.before.before.before.before in
     let k = made c in
     let e = entry c in (
-      threaded e.pre k.thread.last.1.0 k.thread.last.1.1.0 (subst (λ (n : ℕ). 1024 ≤ n) (sym k.thread.kept.1.0) (le_refl 1024)) k.thread.ensures,
-      threaded (graph-back e.pre) t.thread2.new.1.0 t.thread2.new.1.1.0 (subst (λ (n : ℕ). 1024 ≤ n) (sym t.thread2.auto.1.0) (le_refl 1024)) t.thread2.ensures,
+      threaded e.requires k.thread.last.1.0 k.thread.last.1.1.0 (subst (λ (n : ℕ). 1024 ≤ n) (sym k.thread.auto.heads) (le_refl 1024)) k.thread.ensures,
+      threaded (graph-back e.requires) t.thread-2.new.1.0 t.thread-2.new.1.1.0 (subst (λ (n : ℕ). 1024 ≤ n) (sym t.thread-2.auto.heads) (le_refl 1024)) t.thread-2.ensures,
     )
 
-count-labelled-requires : tie.Need-count-labelled-requires
+count-labelled-requires : tie.Need-count_labelled-requires
 count-labelled-requires c κs = search rules
 
-same_length : tie.Need-same-length
+same_length : tie.Need-shape_of-labels
 same_length c = search rules
 
 returns : tie.Need-returns
@@ -70,12 +70,12 @@ returns c =
     let e = entry k.before in
     let a = e.args in
     record {
-      same = k.label-rows.ensures;
-      cyclics = c.count-labelled.ensures ∙ ap (λ (xs : List ℕ). length (keep labelled xs)) k.label-rows.ensures ∙ count-cyclic a.from.now a.to.now (length a.labels.now) e.pre;
+      same = k.label_rows.ensures;
+      cyclics = c.count_labelled.ensures ∙ ap (λ (xs : List ℕ). length (keep labelled xs)) k.label_rows.ensures ∙ count-cyclic a.from.now a.to.now (length a.labels.now) e.requires;
     }
 
-pub label-chunks-spec : {M : Type 1} → statement M
-label-chunks-spec =
+pub label_chunks_spec : {M : Type 1} → statement M
+label_chunks_spec =
     tie.close
     (tie.spec
     slice-aggregate-thread

@@ -19,16 +19,16 @@ use Rattle.component_labels.proofs.inner.label_component.Statement.{statement}
 use Rattle.component_labels.proofs.inner.label_component.Tie as tie
 
 -- the entry, seen from where the first array is lent
-abbrev entry : tie.After-behind → tie.Start
+abbrev entry : tie.After-behind-1 → tie.Start
 entry c = c.before.before.before.before.before.before.before.before
 
-abbrev size : tie.After-behind → ℕ
+abbrev size : tie.After-behind-1 → ℕ
 size c = length (entry c).args.labels.now
 
 abbrev room : List ℕ
 room = replicate 1024 0
 
-part : (c : tie.After-behind) → length (take (size c) room) ≡ size c
+part : (c : tie.After-behind-1) → length (take (size c) room) ≡ size c
 part c = length-take-le (size c) room (entry c).requires.0.graph.few
 
 -- the marks of the walk backward, and the part of the array that they are read from
@@ -36,7 +36,7 @@ abbrev behind : tie.After-reach → List ℕ
 behind k = k.reach.new.1.1.1.1.1.0
 
 behind-length : (k : tie.After-reach) → length (behind k) ≡ size k.before
-behind-length k = k.reach.auto.1.1.1.1.1.0 ∙ part k.before
+behind-length k = k.reach.auto.marks ∙ part k.before
 
 view-length : (k : tie.After-reach) → length (take (size k.before) (behind k ++ drop (size k.before) room)) ≡ size k.before
 view-length k = front_length (behind k) (drop (size k.before) room) (size k.before) (behind-length k)
@@ -59,115 +59,115 @@ answer c =
     let a = e.args in
     c.leads.ensures
     ∙ ap (λ (marks : List ℕ). any (has marks) (values_of a.from.now a.to.now a.c)) (behind-is k)
-    ∙ cyclic-test a.from.now a.to.now (size k.before) e.pre.0.graph a.c e.pre.1.1
+    ∙ cyclic-test a.from.now a.to.now (size k.before) e.requires.rows.graph a.c e.requires.chunk
 
 -- the marks of the walk forward, and the part of the array that they are read from
-abbrev second : tie.After-reach2 → tie.After-leads
+abbrev second : tie.After-reach-2 → tie.After-leads
 second k = k.before.before.before
 
-abbrev ahead : tie.After-reach2 → List ℕ
-ahead k = k.reach2.new.1.1.1.1.1.0
+abbrev ahead : tie.After-reach-2 → List ℕ
+ahead k = k.reach-2.new.1.1.1.1.1.0
 
-ahead-length : (k : tie.After-reach2) → length (ahead k) ≡ size (first (second k)).before
-ahead-length k = k.reach2.auto.1.1.1.1.1.0 ∙ part (first (second k)).before
+ahead-length : (k : tie.After-reach-2) → length (ahead k) ≡ size (first (second k)).before
+ahead-length k = k.reach-2.auto.marks ∙ part (first (second k)).before
 
-ahead-view : (k : tie.After-reach2) → let n = size (first (second k)).before in length (take n (ahead k ++ drop n room)) ≡ n
+ahead-view : (k : tie.After-reach-2) → let n = size (first (second k)).before in length (take n (ahead k ++ drop n room)) ≡ n
 ahead-view k = let n = size (first (second k)).before in front_length (ahead k) (drop n room) n (ahead-length k)
 
-ahead-is : (k : tie.After-reach2) → let n = size (first (second k)).before in let a = (entry (first (second k)).before).args in take n (ahead k ++ drop n room) ≡ reach_marks n (values_of a.from.now a.to.now) a.c
+ahead-is : (k : tie.After-reach-2) → let n = size (first (second k)).before in let a = (entry (first (second k)).before).args in take n (ahead k ++ drop n room) ≡ reach_marks n (values_of a.from.now a.to.now) a.c
 ahead-is k =
     let b = (first (second k)).before in
     let a = (entry b).args in
     take_at (ahead k) (drop (size b) room) (size b) (ahead-length k)
-    ∙ k.reach2.ensures
+    ∙ k.reach-2.ensures
     ∙ ap (λ (n : ℕ). reach_marks n (values_of a.from.now a.to.now) a.c) (part b)
 
-array-borrow-prefix-behind : tie.Need-array-borrow-prefix-behind
+array-borrow-prefix-behind : tie.Need-slice_bounds-behind-end
 array-borrow-prefix-behind c = search rules
 
-slice-aggregate-reach : tie.Need-slice-aggregate-reach
+slice-aggregate-reach : tie.Need-slice_bounds-reach-end
 slice-aggregate-reach c = sym (part c)
 
 reach-requires : tie.Need-reach-requires
 reach-requires c κs =
     let e = entry c in (
-      subst (Threaded e.args.to.now e.args.from.now e.args.back-heads.now e.args.back-nexts.now) (sym (part c)) e.pre.1.0,
-      subst (λ (n : ℕ). e.args.c < n) (sym (part c)) e.pre.1.1,
+      subst (Threaded e.args.to.now e.args.from.now e.args.back-heads.now e.args.back-nexts.now) (sym (part c)) e.requires.back,
+      subst (λ (n : ℕ). e.args.c < n) (sym (part c)) e.requires.chunk,
     )
 
-array-share-prefix-behind : tie.Need-array-share-prefix-behind
+array-share-prefix-behind : tie.Need-slice_bounds-behind-end-2
 array-share-prefix-behind c = front-room (behind c.before) _ _ (behind-length c.before)
 
-slice-aggregate-leads : tie.Need-slice-aggregate-leads
+slice-aggregate-leads : tie.Need-slice_bounds-leads-end
 slice-aggregate-leads c = sym (view-length c.before.before)
 
 leads-requires : tie.Need-leads-requires
 leads-requires c κs =
     let k = c.before.before in
     let e = entry k.before in (
-      subst (Threaded e.args.from.now e.args.to.now e.args.heads.now e.args.nexts.now) (sym (view-length k)) e.pre.0,
-      subst (λ (n : ℕ). e.args.c < n) (sym (view-length k)) e.pre.1.1,
+      subst (Threaded e.args.from.now e.args.to.now e.args.heads.now e.args.nexts.now) (sym (view-length k)) e.requires.rows,
+      subst (λ (n : ℕ). e.args.c < n) (sym (view-length k)) e.requires.chunk,
     )
 
-returns : tie.Need-returns
+returns : tie.Need-returns-then-not-leads
 returns c =
     let l = c.before in
     let e = entry (first l).before in
     let a = e.args in
-    component-none a.from.now a.to.now (length a.labels.now) e.pre.0.graph a.c e.pre.1.1 a.labels.now refl (sym (answer l) ∙ not-true l.leads.result c.if1.true)
+    component-none a.from.now a.to.now (length a.labels.now) e.requires.rows.graph a.c e.requires.chunk a.labels.now refl (sym (answer l) ∙ not-true l.leads.result c.if-not-leads.true)
 
-array-borrow-prefix-ahead : tie.Need-array-borrow-prefix-ahead
+array-borrow-prefix-ahead : tie.Need-slice_bounds-ahead-end
 array-borrow-prefix-ahead c = search rules
 
-slice-aggregate-reach-2 : tie.Need-slice-aggregate-reach-2
+slice-aggregate-reach-2 : tie.Need-slice_bounds-reach-end-2
 slice-aggregate-reach-2 c = sym (part (first c.before.before).before)
 
 reach-requires-2 : tie.Need-reach-requires-2
 reach-requires-2 c κs =
     let b = (first c.before.before).before in
     let e = entry b in (
-      subst (Threaded e.args.from.now e.args.to.now e.args.heads.now e.args.nexts.now) (sym (part b)) e.pre.0,
-      subst (λ (n : ℕ). e.args.c < n) (sym (part b)) e.pre.1.1,
+      subst (Threaded e.args.from.now e.args.to.now e.args.heads.now e.args.nexts.now) (sym (part b)) e.requires.rows,
+      subst (λ (n : ℕ). e.args.c < n) (sym (part b)) e.requires.chunk,
     )
 
-array-share-prefix-ahead : tie.Need-array-share-prefix-ahead
+array-share-prefix-ahead : tie.Need-slice_bounds-ahead-end-2
 array-share-prefix-ahead c = front-room (ahead c.before) _ _ (ahead-length c.before)
 
-slice-aggregate-first-both : tie.Need-slice-aggregate-first-both
+slice-aggregate-first-both : tie.Need-slice_bounds-first_both-end
 slice-aggregate-first-both c = sym (ahead-view c.before.before)
 
-array-share-prefix-behind-2 : tie.Need-array-share-prefix-behind-2
+array-share-prefix-behind-2 : tie.Need-slice_bounds-behind-end-3
 array-share-prefix-behind-2 c = let k = first (second c.before.before) in front-room (behind k) _ _ (behind-length k)
 
-slice-aggregate-first-both-2 : tie.Need-slice-aggregate-first-both-2
+slice-aggregate-first-both-2 : tie.Need-slice_bounds-first_both-end-2
 slice-aggregate-first-both-2 c = sym (view-length (first (second c.before.before.before)))
 
-first-both-requires : tie.Need-first-both-requires
+first-both-requires : tie.Need-first_both-lowest-requires
 first-both-requires c κs =
     let k = c.before.before.before in (
       subst (λ (n : ℕ). n ≤ chunk_limit) (sym (ahead-view k)) (entry (first (second k)).before).requires.0.graph.few,
       view-length (first (second k)) ∙ sym (ahead-view k),
     )
 
-array-share-prefix-ahead-2 : tie.Need-array-share-prefix-ahead-2
+array-share-prefix-ahead-2 : tie.Need-slice_bounds-ahead-end-3
 array-share-prefix-ahead-2 c = let k = c.before.before.before.before in front-room (ahead k) _ _ (ahead-length k)
 
-slice-aggregate-label-both : tie.Need-slice-aggregate-label-both
+slice-aggregate-label-both : tie.Need-slice_bounds-label_both-end
 slice-aggregate-label-both c = sym (ahead-view c.before.before.before.before.before)
 
-array-share-prefix-behind-3 : tie.Need-array-share-prefix-behind-3
+array-share-prefix-behind-3 : tie.Need-slice_bounds-behind-end-4
 array-share-prefix-behind-3 c = let k = first (second c.before.before.before.before.before) in front-room (behind k) _ _ (behind-length k)
 
-slice-aggregate-label-both-2 : tie.Need-slice-aggregate-label-both-2
+slice-aggregate-label-both-2 : tie.Need-slice_bounds-label_both-end-2
 slice-aggregate-label-both-2 c = sym (view-length (first (second c.before.before.before.before.before.before)))
 
-label-both-requires : tie.Need-label-both-requires
+label-both-requires : tie.Need-label_both-requires
 label-both-requires c κs = let k = c.before.before.before.before.before.before.before in (ahead-view k, view-length (first (second k)))
 
-same_length : tie.Need-same-length
+same_length : tie.Need-shape_of-labels
 same_length c = search rules
 
-returns-2 : tie.Need-returns-2
+returns-2 : tie.Need-returns
 returns-2 c =
     let b = c.before.before in
     let f = b.before.before.before.before in
@@ -179,14 +179,14 @@ returns-2 c =
     let in-front : List ℕ = take n (ahead k ++ drop n room) in
     let in-back : List ℕ = take n (behind (first l) ++ drop n room) in
     let reached : List ℕ = reach_marks n (values_of a.from.now a.to.now) a.c in
-    b.label-both.ensures
-    ∙ ap (λ (low : ℕ). relabelled (in_both in-front in-back) low a.labels.now) (f.first-both.ensures ∙ ap (λ (i : ℕ). first_of (keep (in_both in-front in-back) (up_to i))) (ahead-view k))
+    b.label_both.ensures
+    ∙ ap (λ (low : ℕ). relabelled (in_both in-front in-back) low a.labels.now) (f.first_both-lowest.ensures ∙ ap (λ (i : ℕ). first_of (keep (in_both in-front in-back) (up_to i))) (ahead-view k))
     ∙ ap (λ (marks : List ℕ). relabelled (in_both marks in-back) (first_of (keep (in_both marks in-back) (up_to n))) a.labels.now) (ahead-is k)
     ∙ ap (λ (marks : List ℕ). relabelled (in_both reached marks) (first_of (keep (in_both reached marks) (up_to n))) a.labels.now) (behind-is (first l))
-    ∙ component-cyclic a.from.now a.to.now n e.pre.0.graph a.c e.pre.1.1 a.labels.now refl (sym (answer l) ∙ not-false l.leads.result k.before.before.if1.false)
+    ∙ component-cyclic a.from.now a.to.now n e.requires.rows.graph a.c e.requires.chunk a.labels.now refl (sym (answer l) ∙ not-false l.leads.result k.if-not-leads.false)
 
-pub label-component-spec : {M : Type 1} → statement M
-label-component-spec =
+pub label_component_spec : {M : Type 1} → statement M
+label_component_spec =
     tie.close
     (tie.spec
     array-borrow-prefix-behind

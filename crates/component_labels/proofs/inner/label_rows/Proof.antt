@@ -16,32 +16,32 @@ use Rattle.component_labels.proofs.Components.{LabelledBelow, labelled-start, la
 use Rattle.component_labels.proofs.inner.label_rows.Statement.{statement}
 use Rattle.component_labels.proofs.inner.label_rows.Tie as tie
 
-abbrev invariant-loop : tie.invariant-loop
+abbrev invariant-loop : tie.invariant-loop-row
 invariant-loop from to heads nexts back-heads back-nexts labels₀ n numbers row₀ row-end labels row = (row-end ≡ length from) × LabelledBelow from to numbers labels (length labels₀) row
 
-abbrev decreases-loop : tie.decreases-loop
+abbrev decreases-loop : tie.decreases-loop-row
 decreases-loop from to heads nexts back-heads back-nexts labels₀ n numbers row₀ row-end labels row = row-end - row
 
 -- the loop's head, and the entry
 abbrev Loop : Type 0
-Loop = tie.At-loop invariant-loop decreases-loop
+Loop = tie.At-loop-row invariant-loop decreases-loop
 
 abbrev entry : Loop → tie.Start invariant-loop decreases-loop
 entry l = l.before.before.before.before.before.before.before.before.before.before.before.before.before.before.before
 
-size-len : (l : Loop) → length l.before.before.before.before.before.before.fill.last.0 ≡ length (entry l).args.labels.now
-size-len l = l.before.before.before.before.before.before.fill.kept.0
+size-len : (l : Loop) → length l.fill.last.0 ≡ length (entry l).args.labels.now
+size-len l = l.fill.auto.slots
 
-len : (l : Loop) → length l.loop.labels ≡ length (entry l).args.labels.now
-len l = l.loop.inv.1.len ∙ size-len l
+len : (l : Loop) → length l.loop-row.labels ≡ length (entry l).args.labels.now
+len l = l.loop-row.invariant.1.len ∙ size-len l
 
 -- the ends of a row are chunks
-module _ (w : tie.In-loop invariant-loop decreases-loop) where
-  to_in : get_or (entry w.before).args.to.now w.before.loop.row 0 < length (entry w.before).args.labels.now
-  to_in = (entry w.before).pre.0.graph.tos w.before.loop.row w.loop-test.true
+module _ (w : tie.In-loop-row invariant-loop decreases-loop) where
+  to_in : get_or (entry w.before).args.to.now w.loop-row.row 0 < length (entry w.before).args.labels.now
+  to_in = (entry w.before).requires.rows.graph.tos w.loop-row.row w.loop-row-test.true
 
-  from_in : get_or (entry w.before).args.from.now w.before.loop.row 0 < length (entry w.before).args.labels.now
-  from_in = (entry w.before).pre.0.graph.froms w.before.loop.row w.loop-test.taken
+  from_in : get_or (entry w.before).args.from.now w.loop-row.row 0 < length (entry w.before).args.labels.now
+  from_in = (entry w.before).requires.rows.graph.froms w.loop-row.row w.loop-row-test.taken
 
 -- plain facts that the answers use
 falls : {a b : ℕ} → a < b → b ≤ a → ⊥
@@ -54,128 +54,128 @@ small h k = omega arith
 abbrev room : List ℕ
 room = replicate 1024 0
 
-part : (c : tie.After-numbers invariant-loop decreases-loop) → length (take (length c.before.before.before.before.before.before.before.before.before.before.before.before.args.labels.now) room) ≡ length c.before.before.before.before.before.before.before.before.before.before.before.before.args.labels.now
+part : (c : tie.After-numbers-1 invariant-loop decreases-loop) → length (take (length c.args.labels.now) room) ≡ length c.args.labels.now
 part c = let e = c.before.before.before.before.before.before.before.before.before.before.before.before in length-take-le (length e.args.labels.now) room e.requires.0.graph.few
 
 fill-requires : tie.Need-fill-requires invariant-loop decreases-loop
 fill-requires c κs = search rules
 
-array-borrow-prefix-numbers : tie.Need-array-borrow-prefix-numbers invariant-loop decreases-loop
+array-borrow-prefix-numbers : tie.Need-slice_bounds-numbers-end invariant-loop decreases-loop
 array-borrow-prefix-numbers c = search rules
 
-slice-aggregate-number-all : tie.Need-slice-aggregate-number-all invariant-loop decreases-loop
+slice-aggregate-number-all : tie.Need-slice_bounds-number_all-end invariant-loop decreases-loop
 slice-aggregate-number-all c = sym (part c)
 
-number-all-requires : tie.Need-number-all-requires invariant-loop decreases-loop
+number-all-requires : tie.Need-number_all-requires invariant-loop decreases-loop
 number-all-requires c κs = let e = c.before.before.before.before.before.before.before.before.before.before.before.before in subst (Threaded e.args.from.now e.args.to.now e.args.heads.now e.args.nexts.now) (sym (part c)) e.requires.0
 
-loop-holds : tie.Need-loop-init invariant-loop decreases-loop
+loop-holds : tie.Need-loop-row-init invariant-loop decreases-loop
 loop-holds c =
     let f = c.before.before.before.before.before in
     let e = f.before.before.before.before.before.before.before.before.before in
-    let n = f.fill.auto.0 in
+    let n = f.fill.auto.slots in
     (refl, labelled-start (subst (Graph e.args.from.now e.args.to.now) (sym n) e.requires.0.graph) f.fill.new.0 (f.fill.ensures ∙ ap (λ (k : ℕ). replicate k missing) (sym n)))
 
-mul-c : tie.Need-overflow-mul-c invariant-loop decreases-loop
+mul-c : tie.Need-offset_bounds-to-row invariant-loop decreases-loop
 mul-c c = search rules
 
-shared-slice-read-c : tie.Need-shared-slice-read-c invariant-loop decreases-loop
+shared-slice-read-c : tie.Need-bounds-to-row invariant-loop decreases-loop
 shared-slice-read-c c = search rules
 
-cast-if1 : tie.Need-overflow-cast-if1 invariant-loop decreases-loop
-cast-if1 c = let w = c.before in let h = small (to_in w) (entry w.before).pre.0.graph.few in omega arith
+cast-if1 : tie.Need-overflow_cast-c invariant-loop decreases-loop
+cast-if1 c = let w = c.before in let h = small (to_in w) (entry w.before).requires.rows.graph.few in omega arith
 
-mul-if1 : tie.Need-overflow-mul-if1 invariant-loop decreases-loop
-mul-if1 c = let w = c.before in let h = small (to_in w) (entry w.before).pre.0.graph.few in omega arith
+mul-if1 : tie.Need-offset_bounds-numbers-c invariant-loop decreases-loop
+mul-if1 c = let w = c.before in let h = small (to_in w) (entry w.before).requires.rows.graph.few in omega arith
 
-array-read-if1 : tie.Need-array-read-if1 invariant-loop decreases-loop
-array-read-if1 c = let w = c.before in small (to_in w) (entry w.before).pre.0.graph.few
+array-read-if1 : tie.Need-bounds-numbers-c invariant-loop decreases-loop
+array-read-if1 c = let w = c.before in small (to_in w) (entry w.before).requires.rows.graph.few
 
-mul-if1-2 : tie.Need-overflow-mul-if1-2 invariant-loop decreases-loop
+mul-if1-2 : tie.Need-offset_bounds-from-row invariant-loop decreases-loop
 mul-if1-2 c = search rules
 
-shared-slice-read-if1 : tie.Need-shared-slice-read-if1 invariant-loop decreases-loop
+shared-slice-read-if1 : tie.Need-bounds-from-row invariant-loop decreases-loop
 shared-slice-read-if1 c = search rules
 
-cast-if1-2 : tie.Need-overflow-cast-if1-2 invariant-loop decreases-loop
-cast-if1-2 c = let w = c.before.before in let h = small (from_in w) (entry w.before).pre.0.graph.few in omega arith
+cast-if1-2 : tie.Need-overflow_cast-from invariant-loop decreases-loop
+cast-if1-2 c = let w = c.before.before in let h = small (from_in w) (entry w.before).requires.rows.graph.few in omega arith
 
-mul-if1-3 : tie.Need-overflow-mul-if1-3 invariant-loop decreases-loop
-mul-if1-3 c = let w = c.before.before in let h = small (from_in w) (entry w.before).pre.0.graph.few in omega arith
+mul-if1-3 : tie.Need-offset_bounds-numbers-from invariant-loop decreases-loop
+mul-if1-3 c = let w = c.before.before in let h = small (from_in w) (entry w.before).requires.rows.graph.few in omega arith
 
-array-read-if1-2 : tie.Need-array-read-if1-2 invariant-loop decreases-loop
-array-read-if1-2 c = let w = c.before.before in small (from_in w) (entry w.before).pre.0.graph.few
+array-read-if1-2 : tie.Need-bounds-numbers-from invariant-loop decreases-loop
+array-read-if1-2 c = let w = c.before.before in small (from_in w) (entry w.before).requires.rows.graph.few
 
-add_row : tie.Need-overflow-add-row invariant-loop decreases-loop
+add_row : tie.Need-overflow_step-row invariant-loop decreases-loop
 add_row c = search rules
 
-loop-less : tie.Need-loop-smaller invariant-loop decreases-loop
+loop-less : tie.Need-loop-row-smaller-then-numbers-c invariant-loop decreases-loop
 loop-less c = search rules
 
-loop-again : tie.Need-loop-preserved invariant-loop decreases-loop
-loop-again c = let l = c.before.before.before.before in (refl, labelled-pass l.loop.invariant.1 (λ r e. falls c.if1.true r))
+loop-again : tie.Need-loop-row-preserved-then-numbers-c invariant-loop decreases-loop
+loop-again c = let l = c.before.before.before.before in (refl, labelled-pass l.loop-row.invariant.1 (λ r e. falls c.if-numbers-c.true r))
 
-cast-if2 : tie.Need-overflow-cast-if2 invariant-loop decreases-loop
-cast-if2 c = let w = c.before.before.before in let h = small (to_in w) (entry w.before).pre.0.graph.few in omega arith
+cast-if2 : tie.Need-overflow_cast-c-in-loop-row invariant-loop decreases-loop
+cast-if2 c = let w = c.before.before.before in let h = small (to_in w) (entry w.before).requires.rows.graph.few in omega arith
 
-mul-if2 : tie.Need-overflow-mul-if2 invariant-loop decreases-loop
-mul-if2 c = let w = c.before.before.before in let h = small (to_in w) (entry w.before).pre.0.graph.few in omega arith
+mul-if2 : tie.Need-offset_bounds-labels-c invariant-loop decreases-loop
+mul-if2 c = let w = c.before.before.before in let h = small (to_in w) (entry w.before).requires.rows.graph.few in omega arith
 
-slice-read-if2 : tie.Need-slice-read-if2 invariant-loop decreases-loop
+slice-read-if2 : tie.Need-bounds-labels-c invariant-loop decreases-loop
 slice-read-if2 c =
     let w = c.before.before.before.before in
     let l = w.before in
-    subst (λ (k : ℕ). get_or (entry l).args.to.now l.loop.row 0 < k) (sym (len l)) (to_in w)
+    subst (λ (k : ℕ). get_or (entry l).args.to.now l.loop-row.row 0 < k) (sym (len l)) (to_in w)
 
-add-row-2 : tie.Need-overflow-add-row-2 invariant-loop decreases-loop
+add-row-2 : tie.Need-overflow_step-row-then-labels-c invariant-loop decreases-loop
 add-row-2 c = search rules
 
-loop-less-2 : tie.Need-loop-smaller-2 invariant-loop decreases-loop
+loop-less-2 : tie.Need-loop-row-smaller-then-labels-c invariant-loop decreases-loop
 loop-less-2 c = search rules
 
-loop-again-2 : tie.Need-loop-preserved-2 invariant-loop decreases-loop
-loop-again-2 c = let l = c.before.before.before.before.before.before in (refl, labelled-pass l.loop.invariant.1 (λ r e. c.if2.true e))
+loop-again-2 : tie.Need-loop-row-preserved-then-labels-c invariant-loop decreases-loop
+loop-again-2 c = let l = c.before.before.before.before.before.before in (refl, labelled-pass l.loop-row.invariant.1 (λ r e. c.if-labels-c.true e))
 
-label-component-requires : tie.Need-label-component-requires invariant-loop decreases-loop
+label-component-requires : tie.Need-label_component-requires invariant-loop decreases-loop
 label-component-requires c κs =
     let w = c.before.before.before.before.before.before in
     let l = w.before in
     let e = entry l in (
-      subst (Threaded e.args.from.now e.args.to.now e.args.heads.now e.args.nexts.now) (sym (len l)) e.pre.0,
+      subst (Threaded e.args.from.now e.args.to.now e.args.heads.now e.args.nexts.now) (sym (len l)) e.requires.rows,
       (
-        subst (Threaded e.args.to.now e.args.from.now e.args.back-heads.now e.args.back-nexts.now) (sym (len l)) e.pre.1,
-        subst (λ (k : ℕ). get_or e.args.to.now l.loop.row 0 < k) (sym (len l)) (to_in w),
+        subst (Threaded e.args.to.now e.args.from.now e.args.back-heads.now e.args.back-nexts.now) (sym (len l)) e.requires.back,
+        subst (λ (k : ℕ). get_or e.args.to.now l.loop-row.row 0 < k) (sym (len l)) (to_in w),
       ),
     )
 
-add-row-3 : tie.Need-overflow-add-row-3 invariant-loop decreases-loop
+add-row-3 : tie.Need-overflow_step-row-in-loop-row invariant-loop decreases-loop
 add-row-3 c = search rules
 
-loop-less-3 : tie.Need-loop-smaller-3 invariant-loop decreases-loop
+loop-less-3 : tie.Need-loop-row-smaller invariant-loop decreases-loop
 loop-less-3 c = search rules
 
-loop-again-3 : tie.Need-loop-preserved-3 invariant-loop decreases-loop
+loop-again-3 : tie.Need-loop-row-preserved invariant-loop decreases-loop
 loop-again-3 c =
     let k = c.before.before in
     let w = k.before.before.before.before.before.before.before in
     let l = w.before in
     let a = (entry l).args in (
       refl,
-      labelled_step l.loop.invariant.1 k.label-component.new.1.1.1.1.1.1.1.0 w.loop-test.true
-          (k.label-component.ensures ∙ ap (λ (n : ℕ). component_labelled n (values_of a.from.now a.to.now) (get_or a.to.now l.loop.row 0) l.loop.labels) l.loop.invariant.1.len),
+      labelled_step l.loop-row.invariant.1 k.label_component.new.1.1.1.1.1.1.1.0 w.loop-row-test.true
+          (k.label_component.ensures ∙ ap (λ (n : ℕ). component_labelled n (values_of a.from.now a.to.now) (get_or a.to.now l.loop-row.row 0) l.loop-row.labels) l.loop-row.invariant.1.len),
     )
 
-same_length : tie.Need-same-length invariant-loop decreases-loop
+same_length : tie.Need-shape_of-labels invariant-loop decreases-loop
 same_length c = len c.before
 
 returns : tie.Need-returns invariant-loop decreases-loop
 returns c =
     let l = c.before in
     let a = (entry l).args in
-    labelled-end l.loop.invariant.1 c.loop-test.false ∙ ap (λ (n : ℕ). labels n (values_of a.from.now a.to.now)) (size-len l)
+    labelled-end l.loop-row.invariant.1 c.loop-row-test.false ∙ ap (λ (n : ℕ). labels n (values_of a.from.now a.to.now)) (size-len l)
 
-pub label-rows-spec : {M : Type 1} → statement M
-label-rows-spec =
+pub label_rows_spec : {M : Type 1} → statement M
+label_rows_spec =
     tie.close
     (tie.spec
     invariant-loop

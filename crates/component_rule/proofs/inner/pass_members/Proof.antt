@@ -18,22 +18,22 @@ use Rattle.component_rule.proofs.inner.pass_members.Tie as tie
 
 -- the entry, its project, and what was cut
 
-abbrev entry : tie.After-column2 → tie.Start
+abbrev entry : tie.After-column-2 → tie.Start
 entry k = k.before.before.before.before.before.before.before.before.before.before.before.before.before
 
 abbrev of : tie.Start → Project
 of e = let a = e.args in read (table a.runtime a.dynamic a.bounds.now a.columns.now) a.importers.now a.kinds.now a.targets.now a.dependencies.now a.members.now
 
-close-cyclic-chunk-members-requires : tie.Need-close-cyclic-chunk-members-requires
+close-cyclic-chunk-members-requires : tie.Need-close_cyclic_chunk_members-requires
 unfolding table read
 close-cyclic-chunk-members-requires c κs =
     let k = c.before in
     let e = entry k in
     let p = of e in
-    let sets = e.pre.0 in
+    let sets = e.requires.0 in
     asked5 (λ chunk member_chunk labels sensitives eligibles. Members chunk member_chunk p.member labels sensitives eligibles (length e.args.plan.now))
-    k.before.column.ensures k.column2.ensures sets.label sets.sensitive_set sets.eligible_set
-    (subst (Members p.chunk p.member_chunk p.member (labels_of p) (sensitive_marks p) (eligible_marks p)) (sym e.pre.1.size) (members-fit p sets.accepted))
+    k.column.ensures k.column-2.ensures sets.label sets.sensitive_set sets.eligible_set
+    (subst (Members p.chunk p.member_chunk p.member (labels_of p) (sensitive_marks p) (eligible_marks p)) (sym e.requires.1.size) (members-fit p sets.accepted))
 
 returns : tie.Need-returns
 unfolding table read
@@ -42,13 +42,13 @@ returns c =
     let k = call.before.before in
     let e = entry k in
     let p = of e in
-    let sets = e.pre.0 in
+    let sets = e.requires.0 in
     let plan = e.args.plan.now in
     component-pass p sets.accepted plan
-    (given5 (λ chunk member_chunk labels sensitives eligibles. Added (λ (m : ℕ). Together chunk member_chunk p.member labels plan m × (has sensitives m ≡ true) × (has eligibles m ≡ true)) plan call.close-cyclic-chunk-members.new.1.1.1.1.1.1.0 call.close-cyclic-chunk-members.result)
-    k.before.column.ensures k.column2.ensures sets.label sets.sensitive_set sets.eligible_set call.close-cyclic-chunk-members.ensures)
+    (given5 (λ chunk member_chunk labels sensitives eligibles. Added (λ (m : ℕ). Together chunk member_chunk p.member labels plan m × (has sensitives m ≡ true) × (has eligibles m ≡ true)) plan call.close_cyclic_chunk_members.new.1.1.1.1.1.1.0 call.close_cyclic_chunk_members.result)
+    k.column.ensures k.column-2.ensures sets.label sets.sensitive_set sets.eligible_set call.close_cyclic_chunk_members.ensures)
 
-pub pass-members-spec : {M : Type 1} → statement M
-pass-members-spec =
+pub pass_members_spec : {M : Type 1} → statement M
+pass_members_spec =
     tie.close
     (tie.spec (λ c κs. search rules) (λ c κs. search rules) close-cyclic-chunk-members-requires (λ c. search rules) returns)

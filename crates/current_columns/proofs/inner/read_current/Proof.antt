@@ -21,23 +21,23 @@ rows e =
     let s = e.requires.0.sizes in
     (omega (arith, s.newer, s.normal), omega (arith, s.record_target, s.record_module), omega (arith, s.dependency, s.dependency_module))
 
-read-columns-requires : tie.Need-read-columns-requires
+read-columns-requires : tie.Need-read_columns-requires
 unfolding table read
 read-columns-requires c κs =
     let e = c.before.before.before.before.before.before.before.before.before.before.before in (
-      asked1 (λ newer. newer_fits newer ≡ true) c.before.before.before.column.ensures e.requires.0.newer,
+      asked1 (λ newer. newer_fits newer ≡ true) c.column.ensures e.requires.0.newer,
       (
-        asked2 (λ newer dependencies. (length newer ≤ module_limit) × (length e.args.targets.now ≤ row_limit) × (length dependencies ≤ row_limit)) c.before.before.before.column.ensures c.before.before.column2.ensures (rows e),
+        asked2 (λ newer dependencies. (length newer ≤ module_limit) × (length e.args.targets.now ≤ row_limit) × (length dependencies ≤ row_limit)) c.column.ensures c.column-2.ensures (rows e),
         e.requires.1,
       ),
     )
 
 returns : tie.Need-returns
 returns c =
-    let done = c.before.before.before.before.read-columns in
+    let done = c.read_columns in
     let targets : List ℕ = done.new.1.1.1.0 in
     let dependencies : List ℕ = done.new.1.1.1.1.0 in
-    given2 (λ newer column. Columns newer c.before.before.before.before.before.before.before.before.before.before.before.before.before.before.before.before.args.targets.now column targets dependencies) c.before.before.before.before.before.before.before.before.column.ensures c.before.before.before.before.before.before.before.column2.ensures done.ensures
+    given2 (λ newer column. Columns newer c.args.targets.now column targets dependencies) c.column.ensures c.column-2.ensures done.ensures
 
-pub read-current-spec : {M : Type 1} → statement M
-read-current-spec = tie.close (tie.spec (λ c κs. search rules) (λ c κs. search rules) read-columns-requires (λ c. search rules) (λ c. search rules) returns)
+pub read_current_spec : {M : Type 1} → statement M
+read_current_spec = tie.close (tie.spec (λ c κs. search rules) (λ c κs. search rules) read-columns-requires (λ c. search rules) (λ c. search rules) returns)

@@ -12,14 +12,14 @@ use Rattle.eligibility.proofs.inner.mark_eligible.Reads as reads
 use Rattle.eligibility.proofs.inner.mark_eligible.Lts as lts
 use Rattle.eligibility.proofs.inner.is_order_wrap_eligible.Reads as is-order-wrap-eligible-reads
 
-abbrev invariant-loop : tie.invariant-loop
+abbrev invariant-loop : tie.invariant-loop-m
 invariant-loop normal included exports wrap marks₀ runtime m₀ m-end marks m = Passed (is_eligible runtime normal included exports wrap) marks₀ m marks
 
-abbrev decreases-loop : tie.decreases-loop
+abbrev decreases-loop : tie.decreases-loop-m
 decreases-loop normal included exports wrap marks₀ runtime m₀ m-end marks m = length marks - m
 
 abbrev Loop : Type 0
-Loop = lts.At-loop (is-order-wrap-eligible-reads.Asked, is-order-wrap-eligible-reads.Learnt) reads.Pre reads.Post invariant-loop decreases-loop
+Loop = lts.At-loop-m (is-order-wrap-eligible-reads.Asked, is-order-wrap-eligible-reads.Learnt) reads.Pre reads.Post invariant-loop decreases-loop
 
 abbrev entry : Loop → lts.Start (is-order-wrap-eligible-reads.Asked, is-order-wrap-eligible-reads.Learnt) reads.Pre reads.Post invariant-loop decreases-loop
 entry l = l.before.before.before.before.before.before
@@ -27,40 +27,40 @@ entry l = l.before.before.before.before.before.before
 abbrev eligible-at : Loop → ℕ → Bool
 eligible-at l = let a = (entry l).args in is_eligible a.runtime a.normal.now a.included.now a.exports.now a.wrap.now
 
-len : (l : Loop) → length l.loop.marks ≡ length (entry l).args.marks.now
-len l = passed_length (eligible-at l) (entry l).args.marks.now l.loop.m l.loop.marks l.loop.inv
+len : (l : Loop) → length l.loop-m.marks ≡ length (entry l).args.marks.now
+len l = passed_length (eligible-at l) (entry l).args.marks.now l.loop-m.m l.loop-m.marks l.loop-m.invariant
 
-loop-holds : tie.Need-loop-init invariant-loop decreases-loop
+loop-holds : tie.Need-loop-m-init invariant-loop decreases-loop
 loop-holds c = search rules
 
-is-order-wrap-eligible-requires : tie.Need-is-order-wrap-eligible-requires invariant-loop decreases-loop
-is-order-wrap-eligible-requires c κs = let l = c.before in ((entry l).requires.0, omega (arith, len l, (entry l).requires.1, c.loop-test.true))
+is-order-wrap-eligible-requires : tie.Need-is_order_wrap_eligible-requires invariant-loop decreases-loop
+is-order-wrap-eligible-requires c κs = let l = c.before in ((entry l).requires.0, omega (arith, len l, (entry l).requires.1, c.loop-m-test.true))
 
-mul-marks : tie.Need-overflow-mul-marks invariant-loop decreases-loop
-mul-marks c = let l = c.before.before in omega (arith, (entry l).well-formed, len l, c.before.loop-test.true)
+mul-marks : tie.Need-offset_bounds-marks-m invariant-loop decreases-loop
+mul-marks c = let l = c.before.before in omega (arith, (entry l).well_formed, len l, c.loop-m-test.true)
 
-slice-write-marks : tie.Need-slice-write-marks invariant-loop decreases-loop
-slice-write-marks c = let l = c.before.before in omega (arith, len l, c.before.loop-test.true)
+slice-write-marks : tie.Need-bounds-marks-m invariant-loop decreases-loop
+slice-write-marks c = let l = c.before.before in omega (arith, len l, c.loop-m-test.true)
 
-add-m : tie.Need-overflow-add-m invariant-loop decreases-loop
-add-m c = let l = c.before.before in omega (arith, (entry l).well-formed, len l, c.before.loop-test.true)
+add-m : tie.Need-overflow_step-m invariant-loop decreases-loop
+add-m c = let l = c.before.before in omega (arith, (entry l).well_formed, len l, c.loop-m-test.true)
 
-loop-less : tie.Need-loop-smaller invariant-loop decreases-loop
-loop-less c = let l = c.before.before in simp length-set (omega (arith, len l, c.before.loop-test.true))
+loop-less : tie.Need-loop-m-smaller invariant-loop decreases-loop
+loop-less c = let l = c.before.before in simp length-set (omega (arith, len l, c.loop-m-test.true))
 
-loop-again : tie.Need-loop-preserved invariant-loop decreases-loop
+loop-again : tie.Need-loop-m-preserved invariant-loop decreases-loop
 loop-again c =
     let l = c.before.before in
-    passed-more (eligible-at l) (entry l).args.marks.now l.loop.m l.loop.marks l.loop.invariant c.is-order-wrap-eligible.result c.is-order-wrap-eligible.ensures (omega (arith, len l, c.before.loop-test.true))
+    passed-more (eligible-at l) (entry l).args.marks.now l.loop-m.m l.loop-m.marks l.loop-m.invariant c.is_order_wrap_eligible.result c.is_order_wrap_eligible.ensures (omega (arith, len l, c.loop-m-test.true))
 
-same_length : tie.Need-same-length invariant-loop decreases-loop
+same_length : tie.Need-shape_of-marks invariant-loop decreases-loop
 same_length c = len c.before
 
 returns : tie.Need-returns invariant-loop decreases-loop
-returns c = let l = c.before in passed-end (eligible-at l) (entry l).args.marks.now l.loop.m l.loop.marks l.loop.invariant (omega (arith, len l, c.loop-test.false))
+returns c = let l = c.before in passed-end (eligible-at l) (entry l).args.marks.now l.loop-m.m l.loop-m.marks l.loop-m.invariant (omega (arith, len l, c.loop-m-test.false))
 
-pub mark-eligible-spec : {M : Type 1} → statement M
-mark-eligible-spec =
+pub mark_eligible_spec : {M : Type 1} → statement M
+mark_eligible_spec =
     tie.close
     (tie.spec
     invariant-loop

@@ -6,17 +6,17 @@ use Rattle.eligibility.proofs.Facts.{as_number}
 use Rattle.eligibility.proofs.inner.not_common_js.Statement.{statement}
 use Rattle.eligibility.proofs.inner.not_common_js.Tie as tie
 
-mul-result : tie.Need-overflow-mul-result
+mul-result : tie.Need-offset_bounds-exports-m
 mul-result c = search rules
 
-shared-slice-read-result : tie.Need-shared-slice-read-result
+shared-slice-read-result : tie.Need-bounds-exports-m
 shared-slice-read-result c = search rules
 
-cast-result : tie.Need-overflow-cast-result
+cast-result : tie.Need-overflow_cast-result
 cast-result c = search rules
 
 returns : tie.Need-returns
-returns c = let a = c.before.args in as_number (ltb (get_or a.exports.now a.m 0) 2)
+returns c = let a = c.args in as_number (ltb (get_or a.exports.now a.m 0) 2)
 
-pub not-common-js-spec : {M : Type 1} → statement M
-not-common-js-spec = tie.close (tie.spec mul-result shared-slice-read-result cast-result returns)
+pub not_common_js_spec : {M : Type 1} → statement M
+not_common_js_spec = tie.close (tie.spec mul-result shared-slice-read-result cast-result returns)

@@ -6,17 +6,17 @@ use Rattle.eligibility.proofs.Facts.{as-number-twice-not}
 use Rattle.eligibility.proofs.inner.not_wrapped.Statement.{statement}
 use Rattle.eligibility.proofs.inner.not_wrapped.Tie as tie
 
-mul-result : tie.Need-overflow-mul-result
+mul-result : tie.Need-offset_bounds-wrap-m
 mul-result c = search rules
 
-shared-slice-read-result : tie.Need-shared-slice-read-result
+shared-slice-read-result : tie.Need-bounds-wrap-m
 shared-slice-read-result c = search rules
 
-cast-result : tie.Need-overflow-cast-result
+cast-result : tie.Need-overflow_cast-result
 cast-result c = search rules
 
 returns : tie.Need-returns
-returns c = let a = c.before.args in as-number-twice-not (eqb (get_or a.wrap.now a.m 0) 0)
+returns c = let a = c.args in as-number-twice-not (eqb (get_or a.wrap.now a.m 0) 0)
 
-pub not-wrapped-spec : {M : Type 1} → statement M
-not-wrapped-spec = tie.close (tie.spec mul-result shared-slice-read-result cast-result returns)
+pub not_wrapped_spec : {M : Type 1} → statement M
+not_wrapped_spec = tie.close (tie.spec mul-result shared-slice-read-result cast-result returns)

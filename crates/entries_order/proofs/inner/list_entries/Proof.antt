@@ -16,33 +16,33 @@ use Rattle.entries_order.proofs.inner.list_entries.Tie as tie
 
 -- the entry, and its project
 
-abbrev entry : tie.After-column2 → tie.Start
+abbrev entry : tie.After-column-2 → tie.Start
 entry k = k.before.before.before.before.before.before.before.before.before.before.before
 
 abbrev of : tie.Start → Project
 of e = let a = e.args in read (table a.runtime a.dynamic a.bounds.now a.columns.now) a.importers.now a.kinds.now a.targets.now a.dependencies.now a.members.now
 
-expected-order-for-entries-requires : tie.Need-expected-order-for-entries-requires
+expected-order-for-entries-requires : tie.Need-expected_order_for_entries-requires
 unfolding table read
 expected-order-for-entries-requires c κs =
     let k = c.before in
     let e = entry k in (
-      asked2 (λ normal included. Fit normal included (of e).record_module (of e).record_kind (of e).record_target (length normal)) k.before.column.ensures k.column2.ensures (accepted-fit (of e) e.pre.accepted),
+      asked2 (λ normal included. Fit normal included (of e).record_module (of e).record_kind (of e).record_target (length normal)) k.column.ensures k.column-2.ensures (accepted-fit (of e) e.requires.accepted),
       (
-        asked1 (λ normal. Below (length normal) e.args.entries.now) k.before.column.ensures e.pre.inside,
-        asked1 (λ normal. length normal ≤ length e.args.order.now) k.before.column.ensures e.pre.room,
+        asked1 (λ normal. Below (length normal) e.args.entries.now) k.column.ensures e.requires.inside,
+        asked1 (λ normal. length normal ≤ length e.args.order.now) k.column.ensures e.requires.room,
       ),
     )
 
 returns : tie.Need-returns
 unfolding table read expected_of_entries
 returns c =
-    let done = c.before.before.expected-order-for-entries in
+    let done = c.expected_order_for_entries in
     let k = c.before.before.before.before in
     let e = entry k in
     given2 (λ normal included. Written (entries_order normal included (of e).record_module (of e).record_kind (of e).record_target e.args.entries.now) e.args.order.now done.new.1.1.1.1.1.1.0 done.result)
-    k.before.column.ensures k.column2.ensures
+    k.column.ensures k.column-2.ensures
     done.ensures
 
-pub list-entries-spec : {M : Type 1} → statement M
-list-entries-spec = tie.close (tie.spec (λ c κs. search rules) (λ c κs. search rules) expected-order-for-entries-requires (λ c. search rules) returns)
+pub list_entries_spec : {M : Type 1} → statement M
+list_entries_spec = tie.close (tie.spec (λ c κs. search rules) (λ c κs. search rules) expected-order-for-entries-requires (λ c. search rules) returns)

@@ -20,18 +20,18 @@ use Rattle.entries_order.proofs.inner.visit_entries.Reads as reads
 use Rattle.entries_order.proofs.inner.visit_entries.Lts as lts
 use Rattle.expected_visit.proofs.inner.visit.Reads as visit-reads
 
-abbrev invariant-loop : tie.invariant-loop
+abbrev invariant-loop : tie.invariant-loop-k
 invariant-loop normal included record-module record-kind record-target starts entries marks₀ order₀ count₀ k₀ k-end marks order count k =
     Going (normal_imports_of normal record-module record-kind record-target) everywhere (place (flagged included)) (turn normal included entries) 0 (held marks₀ order₀ 0) k (held marks order count) × (k ≤ k-end) × (k-end ≡ length entries)
 
-abbrev decreases-loop : tie.decreases-loop
+abbrev decreases-loop : tie.decreases-loop-k
 decreases-loop normal included record-module record-kind record-target starts entries marks₀ order₀ count₀ k₀ k-end marks order count k =
     k-end - k
 
 -- the entry, seen from the loop's head
 
 abbrev Loop : Type 0
-Loop = tie.At-loop invariant-loop decreases-loop
+Loop = tie.At-loop-k invariant-loop decreases-loop
 
 abbrev from-loop : Loop → tie.Start invariant-loop decreases-loop
 from-loop l = l.before.before.before.before.before.before.before.before.before.before
@@ -54,38 +54,38 @@ module _ (l : Loop) where
 
   -- what the loop looks at
   abbrev at : ℕ
-  at = get_or entry.args.entries.now l.loop.k 0
+  at = get_or entry.args.entries.now l.loop-k.k 0
 
-  so_far : Going succ everywhere act row 0 begun l.loop.k (held l.loop.marks l.loop.order l.loop.count)
-  so_far = l.loop.inv.0
+  so_far : Going succ everywhere act row 0 begun l.loop-k.k (held l.loop-k.marks l.loop-k.order l.loop-k.count)
+  so_far = l.loop-k.invariant.0
 
-  grown : Grown entry.args.marks.now l.loop.marks
+  grown : Grown entry.args.marks.now l.loop-k.marks
   grown = visited-grown succ everywhere act so_far.so_far
 
-  order-len : length l.loop.order ≡ length entry.args.order.now
+  order-len : length l.loop-k.order ≡ length entry.args.order.now
   order-len =
       let n = length entry.args.order.now in
-      visited-keeps succ everywhere act (λ (p : Placed). length p.order ≡ n) (place-length (flagged entry.args.included.now) n) so_far.so_far refl
+      visited-keeps succ everywhere act (λ (p : Placed). length p.order-1 ≡ n) (place-length (flagged entry.args.included.now) n) so_far.so_far refl
 
-  roomy : l.loop.count + zeros l.loop.marks ≤ 0 + zeros entry.args.marks.now
+  roomy : l.loop-k.count + zeros l.loop-k.marks ≤ 0 + zeros entry.args.marks.now
   roomy = visited-room succ everywhere act (λ (p : Placed). p.count) (place-count (flagged entry.args.included.now)) so_far.so_far
 
   -- an entry has a row
-  below : l.loop.k < length entry.args.entries.now → at < length entry.args.marks.now
-  below h = entry.pre.1.1.1.0 l.loop.k h
+  below : l.loop-k.k < length entry.args.entries.now → at < length entry.args.marks.now
+  below h = entry.requires.entries l.loop-k.k h
 
 -- at a turn of the loop
-module _ (i : tie.In-loop invariant-loop decreases-loop) where
+module _ (i : tie.In-loop-k invariant-loop decreases-loop) where
   abbrev loop : Loop
   loop = i.before
 
   inside : at loop < length (from-loop loop).args.marks.now
-  inside = below loop (omega (arith, i.loop-test.taken, loop.loop.inv.2))
+  inside = below loop (omega (arith, i.loop-k-test.taken, loop.loop-k.invariant.2))
 
   within : at loop < 4096
-  within = let f = (from-loop loop).pre.0 in omega (arith, inside, f.few)
+  within = let f = (from-loop loop).requires.fit in omega (arith, inside, f.few)
 
-loop-holds : tie.Need-loop-init invariant-loop decreases-loop
+loop-holds : tie.Need-loop-k-init invariant-loop decreases-loop
 loop-holds c = let e = c.before.before.before.before.before.before.before.before.before in
     let a = e.args in (
       going_start (normal_imports_of a.normal.now a.record-module.now a.record-kind.now a.record-target.now) everywhere (place (flagged a.included.now)) (turn a.normal.now a.included.now a.entries.now) 0 (held a.marks.now a.order.now 0),
@@ -93,63 +93,63 @@ loop-holds c = let e = c.before.before.before.before.before.before.before.before
       refl,
     )
 
-mul-e : tie.Need-overflow-mul-e invariant-loop decreases-loop
+mul-e : tie.Need-offset_bounds-entries-k invariant-loop decreases-loop
 mul-e c = search rules
 
-shared-slice-read-e : tie.Need-shared-slice-read-e invariant-loop decreases-loop
+shared-slice-read-e : tie.Need-bounds-entries-k invariant-loop decreases-loop
 shared-slice-read-e c = search rules
 
-cast-at : tie.Need-overflow-cast-at invariant-loop decreases-loop
+cast-at : tie.Need-overflow_cast-at invariant-loop decreases-loop
 cast-at c = let i = c.before in omega (arith, within i)
 
-mul-if1 : tie.Need-overflow-mul-if1 invariant-loop decreases-loop
+mul-if1 : tie.Need-offset_bounds-included-at invariant-loop decreases-loop
 mul-if1 c = let i = c.before in omega (arith, within i)
 
-shared-slice-read-if1 : tie.Need-shared-slice-read-if1 invariant-loop decreases-loop
-shared-slice-read-if1 c = let i = c.before.before in omega (arith, inside i, (from-loop i.before).pre.0.includeds)
+shared-slice-read-if1 : tie.Need-bounds-included-at invariant-loop decreases-loop
+shared-slice-read-if1 c = let i = c.before.before in omega (arith, inside i, (from-loop i.before).requires.fit.includeds)
 
-add-k : tie.Need-overflow-add-k invariant-loop decreases-loop
+add-k : tie.Need-overflow_step-k invariant-loop decreases-loop
 add-k c = search rules
 
-loop-less : tie.Need-loop-smaller invariant-loop decreases-loop
+loop-less : tie.Need-loop-k-smaller-then-included-at-ne1 invariant-loop decreases-loop
 loop-less c = search rules
 
-loop-again : tie.Need-loop-preserved invariant-loop decreases-loop
+loop-again : tie.Need-loop-k-preserved-then-included-at-ne1 invariant-loop decreases-loop
 loop-again c = let i = c.before.before.before in
     let l = i.before in
     let a = (from-loop l).args in (
-      going-none (succ l) everywhere (act l) (row l) 0 (begun l) (so_far l) (turn-excluded a.normal.now a.included.now a.entries.now l.loop.k (ne_eqb _ _ c.if1.true)),
-      omega (arith, i.loop-test.true),
-      l.loop.invariant.2,
+      going-none (succ l) everywhere (act l) (row l) 0 (begun l) (so_far l) (turn-excluded a.normal.now a.included.now a.entries.now l.loop-k.k (ne_eqb _ _ c.if-included-at-ne1.true)),
+      omega (arith, i.loop-k-test.true),
+      l.loop-k.invariant.2,
     )
 
-mul-if2 : tie.Need-overflow-mul-if2 invariant-loop decreases-loop
+mul-if2 : tie.Need-offset_bounds-normal-at invariant-loop decreases-loop
 mul-if2 c = let i = c.before.before.before in omega (arith, within i)
 
-shared-slice-read-if2 : tie.Need-shared-slice-read-if2 invariant-loop decreases-loop
-shared-slice-read-if2 c = let i = c.before.before.before.before in omega (arith, inside i, (from-loop i.before).pre.0.normals)
+shared-slice-read-if2 : tie.Need-bounds-normal-at invariant-loop decreases-loop
+shared-slice-read-if2 c = let i = c.before.before.before.before in omega (arith, inside i, (from-loop i.before).requires.fit.normals)
 
-add-k-2 : tie.Need-overflow-add-k-2 invariant-loop decreases-loop
+add-k-2 : tie.Need-overflow_step-k-then-normal-at-ne1 invariant-loop decreases-loop
 add-k-2 c = search rules
 
-loop-less-2 : tie.Need-loop-smaller-2 invariant-loop decreases-loop
+loop-less-2 : tie.Need-loop-k-smaller-then-normal-at-ne1 invariant-loop decreases-loop
 loop-less-2 c = search rules
 
-loop-again-2 : tie.Need-loop-preserved-2 invariant-loop decreases-loop
+loop-again-2 : tie.Need-loop-k-preserved-then-normal-at-ne1 invariant-loop decreases-loop
 loop-again-2 c = let i = c.before.before.before.before.before in
     let l = i.before in
     let a = (from-loop l).args in (
-      going-none (succ l) everywhere (act l) (row l) 0 (begun l) (so_far l) (turn-external a.normal.now a.included.now a.entries.now l.loop.k (ne_eqb _ _ c.if2.true)),
-      omega (arith, i.loop-test.true),
-      l.loop.invariant.2,
+      going-none (succ l) everywhere (act l) (row l) 0 (begun l) (so_far l) (turn-external a.normal.now a.included.now a.entries.now l.loop-k.k (ne_eqb _ _ c.if-normal-at-ne1.true)),
+      omega (arith, i.loop-k-test.true),
+      l.loop-k.invariant.2,
     )
 
-visit-requires : tie.Need-visit-requires invariant-loop decreases-loop
+visit-requires : tie.Need-visit-count-requires invariant-loop decreases-loop
 visit-requires c κs = let i = c.before.before.before.before.before.before.before in
     let l = i.before in
     let e = from-loop l in
     let a = e.args in
-    let p = e.pre in (
+    let p = e.requires in (
       subst (Fit a.normal.now a.included.now a.record-module.now a.record-kind.now a.record-target.now) (sym (grown l).len) p.0,
       (
         p.1.0,
@@ -160,38 +160,38 @@ visit-requires c κs = let i = c.before.before.before.before.before.before.befor
       ),
     )
 
-add-k-3 : tie.Need-overflow-add-k-3 invariant-loop decreases-loop
+add-k-3 : tie.Need-overflow_step-k-in-loop-k invariant-loop decreases-loop
 add-k-3 c = search rules
 
-loop-less-3 : tie.Need-loop-smaller-3 invariant-loop decreases-loop
+loop-less-3 : tie.Need-loop-k-smaller invariant-loop decreases-loop
 loop-less-3 c = search rules
 
-loop-again-3 : tie.Need-loop-preserved-3 invariant-loop decreases-loop
+loop-again-3 : tie.Need-loop-k-preserved invariant-loop decreases-loop
 loop-again-3 c = let v = c.before.before.before.before in
     let n = v.before.before.before in
     let i = n.before.before.before.before.before in
     let l = i.before in
     let a = (from-loop l).args in (
-      going-found (succ l) everywhere (act l) (row l) 0 (begun l) (so_far l) {u = held v.visit.new.1.1.1.1.1.1.0 v.visit.new.1.1.1.1.1.1.1.0 v.visit.result}
-          (turn-walked a.normal.now a.included.now a.entries.now l.loop.k (eq-eqb _ _ n.before.before.if1.false) (eq-eqb _ _ n.if2.false))
-          v.visit.ensures,
-      omega (arith, i.loop-test.true),
-      l.loop.invariant.2,
+      going-found (succ l) everywhere (act l) (row l) 0 (begun l) (so_far l) {u = held v.visit-count.new.1.1.1.1.1.1.0 v.visit-count.new.1.1.1.1.1.1.1.0 v.visit-count.result}
+          (turn-walked a.normal.now a.included.now a.entries.now l.loop-k.k (eq-eqb _ _ n.if-included-at-ne1.false) (eq-eqb _ _ n.if-normal-at-ne1.false))
+          v.visit-count.ensures,
+      omega (arith, i.loop-k-test.true),
+      l.loop-k.invariant.2,
     )
 
-same_length : tie.Need-same-length invariant-loop decreases-loop
+same_length : tie.Need-shape_of-marks invariant-loop decreases-loop
 same_length c = (grown c.before).len
 
-same-length-2 : tie.Need-same-length-2 invariant-loop decreases-loop
+same-length-2 : tie.Need-shape_of-order invariant-loop decreases-loop
 same-length-2 c = order-len c.before
 
 returns : tie.Need-returns invariant-loop decreases-loop
 returns c = let l = c.before in
     let a = (from-loop l).args in
-    going_end (succ l) everywhere (act l) (row l) 0 (begun l) (so_far l) {end = length a.entries.now} (omega (arith, c.loop-test.false, l.loop.invariant.1, l.loop.invariant.2)) (all-turns a.normal.now a.included.now a.entries.now)
+    going_end (succ l) everywhere (act l) (row l) 0 (begun l) (so_far l) {end = length a.entries.now} (omega (arith, c.loop-k-test.false, l.loop-k.invariant.1, l.loop-k.invariant.2)) (all-turns a.normal.now a.included.now a.entries.now)
 
-pub visit-entries-spec : {M : Type 1} → statement M
-visit-entries-spec =
+pub visit_entries_spec : {M : Type 1} → statement M
+visit_entries_spec =
     tie.close
     (tie.spec
     invariant-loop

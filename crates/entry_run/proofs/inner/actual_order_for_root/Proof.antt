@@ -35,18 +35,18 @@ module _ (e : tie.Start) where
   n = length e.args.hosts.now
 
   marks-size : n ≡ length (take n (replicate {A = ℕ} 4096 0))
-  marks-size = sym (ap length (zeroed n 4096 e.pre.modules) ∙ length-replicate n 0)
+  marks-size = sym (ap length (zeroed n 4096 e.requires.modules) ∙ length-replicate n 0)
 
   chunk-marks-size : e.args.chunks ≡ length (take e.args.chunks (replicate {A = ℕ} 1024 0))
-  chunk-marks-size = sym (ap length (zeroed e.args.chunks 1024 e.pre.places) ∙ length-replicate e.args.chunks 0)
+  chunk-marks-size = sym (ap length (zeroed e.args.chunks 1024 e.requires.places) ∙ length-replicate e.args.chunks 0)
 
-slice-aggregate-visit-and-execute-2 : tie.Need-slice-aggregate-visit-and-execute-2
+slice-aggregate-visit-and-execute-2 : tie.Need-slice_bounds-visit_and_execute-end-2
 slice-aggregate-visit-and-execute-2 c = chunk-marks-size c.before.before.before.before.before.before.before.before.before.before.before.before.before.before.before
 
-slice-aggregate-visit-and-execute-3 : tie.Need-slice-aggregate-visit-and-execute-3
+slice-aggregate-visit-and-execute-3 : tie.Need-slice_bounds-visit_and_execute-end-3
 slice-aggregate-visit-and-execute-3 c = marks-size c.before.before.before.before.before.before.before.before.before.before.before.before.before.before.before.before
 
-visit-and-execute-requires : tie.Need-visit-and-execute-requires
+visit-and-execute-requires : tie.Need-visit_and_execute-all-requires
 visit-and-execute-requires c κs =
     let filled = c.before.before.before.before.before.before.before in
     let e = filled.before.before.before.before.before.before.before.before.before.before.before in
@@ -59,7 +59,7 @@ visit-and-execute-requires c κs =
         ready = record {
           spans = subst (Spans a.starts.now (length a.triggers.now)) m f.spans;
           inside = subst (λ (i : ℕ). BelowOrMissing i a.triggers.now) m f.triggered;
-          hosted = filled.fill.auto.0 ∙ m;
+          hosted = filled.fill.auto.slots ∙ m;
           room = record { equal = refl; room = omega (arith, z, f.room); limit = omega (arith, z, f.modules) };
         };
         each = f.each ∙ m;
@@ -78,18 +78,18 @@ returns c =
     let filled = x.before.before.before.before.before.before.before.before in
     let e = filled.before.before.before.before.before.before.before.before.before.before.before in
     let a = e.args in
-    let k = x.visit-and-execute.new.1.1.1.1.1.1.1.1 in
+    let k = x.visit_and_execute-all.new.1.1.1.1.1.1.1.1 in
     let run = hosted (leads a.starts.now a.triggers.now) in
     let hosts : List ℕ = turns a.ways.now a.member.now a.member-starts.now a.load-starts.now a.loads.now a.chunks a.root a.chunk in
     let s : St Filling = executing (take (n e) (replicate 4096 0)) a.order.now filled.fill.new.0 0 in
-    let t : St Filling = executing k.1.0 k.1.1.0 k.1.1.1.0 x.visit-and-execute.result.placed in
+    let t : St Filling = executing k.1.0 k.1.1.0 k.1.1.1.0 x.visit_and_execute-all.result.placed in
     ap (λ (u : St Filling). u.made)
     (ap (λ (m : List ℕ). foldl run (executing m a.order.now (replicate (n e) missing) 0) hosts) (sym (zeroed (n e) 4096 e.requires.modules))
     ∙ ap (λ (h : List ℕ). foldl run (executing (take (n e) (replicate 4096 0)) a.order.now h 0) hosts) (sym filled.fill.ensures)
     ∙ ran-turns a.ways.now a.starts.now a.triggers.now a.member.now a.member-starts.now a.load-starts.now a.loads.now a.chunks a.root a.chunk s t k.0
-    (subst (λ (m : List ℕ). Ran a.ways.now a.starts.now a.triggers.now a.member.now a.member-starts.now a.load-starts.now a.loads.now a.chunk (a.root ∷ []) m s k.0 t) (zeroed a.chunks 1024 e.requires.places) x.visit-and-execute.ensures))
+    (subst (λ (m : List ℕ). Ran a.ways.now a.starts.now a.triggers.now a.member.now a.member-starts.now a.load-starts.now a.loads.now a.chunk (a.root ∷ []) m s k.0 t) (zeroed a.chunks 1024 e.requires.places) x.visit_and_execute-all.ensures))
 
-pub actual-order-for-root-spec : {M : Type 1} → statement M
-actual-order-for-root-spec =
+pub actual_order_for_root_spec : {M : Type 1} → statement M
+actual_order_for_root_spec =
     tie.close
     (tie.spec (λ c κs. search rules) (λ c. search rules) (λ c. search rules) slice-aggregate-visit-and-execute-2 (λ c. search rules) slice-aggregate-visit-and-execute-3 visit-and-execute-requires (λ c. search rules) (λ c. search rules) returns)

@@ -23,50 +23,50 @@ module _ (e : tie.Start) where
   of = read w e.args.importers.now e.args.kinds.now e.args.targets.now e.args.dependencies.now e.args.members.now
 
   ok : Accepted of
-  ok = e.pre.1.accepted
+  ok = e.requires.1.accepted
 
-abbrev entry : tie.After-arranged → tie.Start
+abbrev entry : tie.After-arranged-1 → tie.Start
 entry k = k.before.before.before.before.before.before.before.before.before.before.before
 
 -- the members that were made
-abbrev made : tie.After-read-members → List ℕ
-made k = k.read-members.new.1.1.1.1.1.1.1.1.1.1.0
+abbrev made : tie.After-read_members → List ℕ
+made k = k.read_members.new.1.1.1.1.1.1.1.1.1.1.0
 
-array-borrow-prefix-arranged : tie.Need-array-borrow-prefix-arranged
+array-borrow-prefix-arranged : tie.Need-slice_bounds-arranged-end
 array-borrow-prefix-arranged c = let e = c.before.before.before.before.before.before.before.before.before.before in members.members-room (w e) e.args.importers.now e.args.kinds.now e.args.targets.now e.args.dependencies.now e.args.members.now e.args.names.now (ok e)
 
-slice-aggregate-read-members : tie.Need-slice-aggregate-read-members
+slice-aggregate-read-members : tie.Need-slice_bounds-read_members-end
 slice-aggregate-read-members c = let e = entry c in sym (members.members-part (w e) e.args.importers.now e.args.kinds.now e.args.targets.now e.args.dependencies.now e.args.members.now e.args.names.now (ok e))
 
-read-members-requires : tie.Need-read-members-requires
-read-members-requires c κs = let e = entry c in (members.members-places (w e) e.args.importers.now e.args.kinds.now e.args.targets.now e.args.dependencies.now e.args.members.now e.args.names.now (ok e), e.pre.0)
+read-members-requires : tie.Need-read_members-requires
+read-members-requires c κs = let e = entry c in (members.members-places (w e) e.args.importers.now e.args.kinds.now e.args.targets.now e.args.dependencies.now e.args.members.now e.args.names.now (ok e), e.requires.0)
 
-array-share-prefix-arranged : tie.Need-array-share-prefix-arranged
-array-share-prefix-arranged c = let k = c.before in let e = entry k.before in members.made-room (w e) e.args.importers.now e.args.kinds.now e.args.targets.now e.args.dependencies.now e.args.members.now e.args.names.now (ok e) k.read-members.ensures
+array-share-prefix-arranged : tie.Need-slice_bounds-arranged-end-2
+array-share-prefix-arranged c = let k = c.before in let e = entry k.before in members.made-room (w e) e.args.importers.now e.args.kinds.now e.args.targets.now e.args.dependencies.now e.args.members.now e.args.names.now (ok e) k.read_members.ensures
 
-slice-aggregate-prepare-and-list : tie.Need-slice-aggregate-prepare-and-list
-slice-aggregate-prepare-and-list c = let k = c.before.before in let e = entry k.before in members.made-part (w e) e.args.importers.now e.args.kinds.now e.args.targets.now e.args.dependencies.now e.args.members.now e.args.names.now (ok e) k.read-members.ensures
+slice-aggregate-prepare-and-list : tie.Need-slice_bounds-prepare_and_list-end
+slice-aggregate-prepare-and-list c = let k = c.before.before in let e = entry k.before in members.made-part (w e) e.args.importers.now e.args.kinds.now e.args.targets.now e.args.dependencies.now e.args.members.now e.args.names.now (ok e) k.read_members.ensures
 
-own : (k : tie.After-read-members) → let e = entry k.before in read (w e) e.args.importers.now e.args.kinds.now e.args.targets.now e.args.dependencies.now (take (length e.args.members.now) (made k ++ drop (length e.args.members.now) (replicate 16384 0))) ≡ named (of e) e.args.names.now
-own k = let e = entry k.before in members.made-own (w e) e.args.importers.now e.args.kinds.now e.args.targets.now e.args.dependencies.now e.args.members.now e.args.names.now (ok e) k.read-members.ensures
+own : (k : tie.After-read_members) → let e = entry k.before in read (w e) e.args.importers.now e.args.kinds.now e.args.targets.now e.args.dependencies.now (take (length e.args.members.now) (made k ++ drop (length e.args.members.now) (replicate 16384 0))) ≡ named (of e) e.args.names.now
+own k = let e = entry k.before in members.made-own (w e) e.args.importers.now e.args.kinds.now e.args.targets.now e.args.dependencies.now e.args.members.now e.args.names.now (ok e) k.read_members.ensures
 
-prepare-and-list-requires : tie.Need-prepare-and-list-requires
+prepare-and-list-requires : tie.Need-prepare_and_list-requires
 prepare-and-list-requires c κs =
     let k = c.before.before.before.before in
     let e = entry k.before in
-    subst (λ (p : Project). Listing p e.args.root e.args.chunk (length e.args.order.now) (length e.args.hosts.now)) (sym (own k)) (listing-named (of e) e.args.names.now e.pre.1)
+    subst (λ (p : Project). Listing p e.args.root e.args.chunk (length e.args.order.now) (length e.args.hosts.now)) (sym (own k)) (listing-named (of e) e.args.names.now e.requires.1)
 
 returns : tie.Need-returns
 returns c =
     let k = c.before.before.before.before.before.before.before.before.before in
     let e = entry k.before in
-    let done = c.before.before.before.before.prepare-and-list in
+    let done = c.prepare_and_list in
     let order : List ℕ = done.new.1.1.1.1.1.1.1.1.1.0 in
     let hosts : List ℕ = done.new.1.1.1.1.1.1.1.1.1.1.0 in
     subst (λ (p : Project). Listed (run_of p p.wrap e.args.root) e.args.order.now order hosts done.result) (own k) done.ensures
 
-pub arrange-and-list-spec : {M : Type 1} → statement M
-arrange-and-list-spec =
+pub arrange_and_list_spec : {M : Type 1} → statement M
+arrange_and_list_spec =
     tie.close
     (tie.spec
     array-borrow-prefix-arranged

@@ -17,7 +17,7 @@ use Rattle.entry_run.proofs.inner.list_prepared.Tie as tie
 abbrev of : tie.Start → Project
 of e = let a = e.args in read (table a.runtime a.dynamic a.bounds.now a.columns.now) a.importers.now a.kinds.now a.targets.now a.dependencies.now a.members.now
 
-abbrev entry : tie.After-rows → tie.Start
+abbrev entry : tie.After-rows-chunks → tie.Start
 entry r = r.before.before.before.before.before.before.before.before.before.before.before
 
 module _ (e : tie.Start) where
@@ -26,41 +26,41 @@ module _ (e : tie.Start) where
 
   few-records : length e.args.importers.now ≤ 16384
   unfolding table read
-  few-records = e.pre.1.accepted.sizes.record_module
+  few-records = e.requires.1.accepted.sizes.record_module
 
   size : length e.args.prepared.now ≡ 43011
-  size = e.pre.0.1.parts.size
+  size = e.requires.0.1.parts.size
 
-counted : (r : tie.After-rows) → r.rows.result ≡ chunks (of (entry r))
+counted : (r : tie.After-rows-chunks) → r.rows-chunks.result ≡ chunks (of (entry r))
 unfolding table read
-counted r = r.rows.ensures
+counted r = r.rows-chunks.ensures
 
-few-chunks : (r : tie.After-rows) → r.rows.result ≤ 1024
+few-chunks : (r : tie.After-rows-chunks) → r.rows-chunks.result ≤ 1024
 few-chunks r = omega (arith, counted r, (entry r).requires.1.accepted.sizes.order)
 
-imports-counted : (r : tie.After-rows2) → r.rows2.result ≡ length (of (entry r.before)).import_chunk
+imports-counted : (r : tie.After-rows-loads_end) → r.rows-loads_end.result ≡ length (of (entry r.before)).import_chunk
 unfolding table read
-imports-counted r = r.rows2.ensures
+imports-counted r = r.rows-loads_end.ensures
 
-few-imports : (r : tie.After-rows2) → r.rows2.result ≤ 16384
+few-imports : (r : tie.After-rows-loads_end) → r.rows-loads_end.result ≤ 16384
 few-imports r = omega (arith, imports-counted r, (entry r.before).requires.1.accepted.sizes.import_chunk)
 
-add-member-end : tie.Need-overflow-add-member-end
+add-member-end : tie.Need-overflow_add-member_end
 add-member-end c = omega (arith, few-chunks c)
 
-add-member-end-2 : tie.Need-overflow-add-member-end-2
+add-member-end-2 : tie.Need-overflow_add-member_end-2
 add-member-end-2 c = omega (arith, few-chunks c)
 
-add-load-end : tie.Need-overflow-add-load-end
+add-load-end : tie.Need-overflow_add-load_end
 add-load-end c = omega (arith, few-chunks c)
 
-add-load-end-2 : tie.Need-overflow-add-load-end-2
+add-load-end-2 : tie.Need-overflow_add-load_end-2
 add-load-end-2 c = omega (arith, few-chunks c)
 
-add-loads-end : tie.Need-overflow-add-loads-end
+add-loads-end : tie.Need-overflow_add-loads_end
 add-loads-end c = omega (arith, few-imports c)
 
-slice-aggregate-actual-order-for-root : tie.Need-slice-aggregate-actual-order-for-root
+slice-aggregate-actual-order-for-root : tie.Need-slice_bounds-actual_order_for_root-end
 slice-aggregate-actual-order-for-root c = let e = entry c.before.before in sym (length-take-le (length e.args.hosts.now) e.args.prepared.now (omega (arith, size e, few e)))
 
 part-actual-order-for-root-end-2 : tie.Need-slice-bounds-actual-order-for-root-end-2
@@ -75,13 +75,13 @@ part-actual-order-for-root-end-4 c = let r = c.before.before.before.before.befor
 part-actual-order-for-root-end-5 : tie.Need-slice-bounds-actual-order-for-root-end-5
 part-actual-order-for-root-end-5 c = let r = c.before.before.before.before.before in omega (arith, size (entry r.before), few-imports r)
 
-actual-order-for-root-requires : tie.Need-actual-order-for-root-requires
+actual-order-for-root-requires : tie.Need-actual_order_for_root-requires
 unfolding table read
 actual-order-for-root-requires c κs =
     let r = c.before.before.before.before.before.before.before.before in
     let e = entry r.before in
     let a = e.args in
-    runnable (of e) e.pre.0.0 a.prepared.now e.pre.0.1 a.root a.chunk a.order.now a.hosts.now e.pre.1 (length a.hosts.now) r.before.rows.result r.rows2.result e.pre.1.size (counted r.before) (imports-counted r)
+    runnable (of e) e.requires.0.0 a.prepared.now e.requires.0.1 a.root a.chunk a.order.now a.hosts.now e.requires.1 (length a.hosts.now) r.rows-chunks.result r.rows-loads_end.result e.requires.1.size (counted r.before) (imports-counted r)
 
 returns : tie.Need-returns
 unfolding table read
@@ -90,13 +90,13 @@ returns c =
     let r = done.before.before.before.before.before.before.before.before.before in
     let e = entry r.before in
     let a = e.args in
-    let out = done.actual-order-for-root.new.1.1.1.1.1.1.1 in
+    let out = done.actual_order_for_root.new.1.1.1.1.1.1.1 in
     λ wraps k.
-    made-listed (of e) wraps a.prepared.now k a.root a.chunk a.order.now a.hosts.now e.pre.1 (length a.hosts.now) r.before.rows.result r.rows2.result e.pre.1.size (counted r.before) (imports-counted r)
-    out.0 out.1.0 done.actual-order-for-root.result done.actual-order-for-root.ensures
+    made-listed (of e) wraps a.prepared.now k a.root a.chunk a.order.now a.hosts.now e.requires.1 (length a.hosts.now) r.rows-chunks.result r.rows-loads_end.result e.requires.1.size (counted r.before) (imports-counted r)
+    out.0 out.1.0 done.actual_order_for_root.result done.actual_order_for_root.ensures
 
-pub list-prepared-spec : {M : Type 1} → statement M
-list-prepared-spec =
+pub list_prepared_spec : {M : Type 1} → statement M
+list_prepared_spec =
     tie.close
     (tie.spec
     (λ c κs. search rules) (λ c. search rules) (λ c. search rules) (λ c. search rules) add-member-end add-member-end-2 add-load-end add-load-end-2 (λ c κs. search rules) add-loads-end slice-aggregate-actual-order-for-root

@@ -16,34 +16,34 @@ use Rattle.expected_order.proofs.inner.list_expected.Tie as tie
 
 -- the entry, and its project
 
-abbrev entry : tie.After-column2 → tie.Start
+abbrev entry : tie.After-column-2 → tie.Start
 entry k = k.before.before.before.before.before.before.before.before.before.before.before
 
 abbrev of : tie.Start → Project
 of e = let a = e.args in read (table a.runtime a.dynamic a.bounds.now a.columns.now) a.importers.now a.kinds.now a.targets.now a.dependencies.now a.members.now
 
-expected-order-for-root-requires : tie.Need-expected-order-for-root-requires
+expected-order-for-root-requires : tie.Need-expected_order_for_root-requires
 unfolding table read
 expected-order-for-root-requires c κs =
     let k = c.before.before in
     let e = entry k in (
       asked2 (λ normal included. Fit normal included (of e).record_module (of e).record_kind (of e).record_target (length e.args.marks.now))
-          k.before.column.ensures k.column2.ensures
-          (subst (Fit (of e).normal (of e).included (of e).record_module (of e).record_kind (of e).record_target) (sym e.pre.size) (accepted-fit (of e) e.pre.accepted)),
-      (e.pre.within, e.pre.room),
+          k.column.ensures k.column-2.ensures
+          (subst (Fit (of e).normal (of e).included (of e).record_module (of e).record_kind (of e).record_target) (sym e.requires.size) (accepted-fit (of e) e.requires.accepted)),
+      (e.requires.within, e.requires.room),
     )
 
 returns : tie.Need-returns
 unfolding table read expected_of
 returns c =
-    let done = c.before.before.before.before.expected-order-for-root in
+    let done = c.expected_order_for_root in
     let k = c.before.before.before.before.before.before.before in
     let e = entry k in
     given2 (λ normal included. Listed (expected normal included (of e).record_module (of e).record_kind (of e).record_target e.args.root) e.args.marks.now e.args.order.now done.new.1.1.1.1.1.0 done.new.1.1.1.1.1.1.0 done.result)
-    k.before.column.ensures k.column2.ensures
+    k.column.ensures k.column-2.ensures
     done.ensures
 
-pub list-expected-spec : {M : Type 1} → statement M
-list-expected-spec =
+pub list_expected_spec : {M : Type 1} → statement M
+list_expected_spec =
     tie.close
     (tie.spec (λ c κs. search rules) (λ c κs. search rules) expected-order-for-root-requires (λ c. search rules) (λ c. search rules) returns)

@@ -8,8 +8,8 @@ use Rattle.grounds.proofs.inner.mark_grounds.Tie as tie
 
 returns : tie.Need-returns
 returns c =
-    let made = c.before.before.before.before.mark-table-sensitive.ensures in
-    (made, c.count-marked.ensures ∙ ap ones made)
+    let made = c.mark_table_sensitive.ensures in
+    (made, c.count_marked.ensures ∙ ap ones made)
 
-pub mark-grounds-spec : {M : Type 1} → statement M
-mark-grounds-spec = tie.close (tie.spec (λ c κs. search rules) (λ c κs. search rules) (λ c. search rules) returns)
+pub mark_grounds_spec : {M : Type 1} → statement M
+mark_grounds_spec = tie.close (tie.spec (λ c κs. search rules) (λ c κs. search rules) (λ c. search rules) returns)

@@ -30,35 +30,35 @@ column-requires c κs = search rules
 column-requires-2 : tie.Need-column-requires-2
 column-requires-2 c κs = search rules
 
-gather-circles-requires : tie.Need-gather-circles-requires
+gather-circles-requires : tie.Need-gather_circles-requires
 unfolding table read
 gather-circles-requires c κs =
     let e = c.before.before.before.before.before.before.before.before.before.before.before.before.before in
     let a = e.args in
     let ok = e.requires in (
-      asked1 (λ normal. Fit normal a.importers.now a.kinds.now a.targets.now (length normal)) c.before.before.before.column.ensures (accepted-fit (of e) ok),
+      asked1 (λ normal. Fit normal a.importers.now a.kinds.now a.targets.now (length normal)) c.column.ensures (accepted-fit (of e) ok),
       (
-        asked1 (λ normal. Below (length normal) a.importers.now) c.before.before.before.column.ensures ok.values.record_module,
-        asked2 (λ normal entry. (a.runtime < length normal) × Below (length normal) entry × (length entry ≤ row_limit)) c.before.before.before.column.ensures c.before.before.column2.ensures (ok.values.runtime, ok.values.entry, ok.sizes.entry),
+        asked1 (λ normal. Below (length normal) a.importers.now) c.column.ensures ok.values.record_module,
+        asked2 (λ normal entry. (a.runtime < length normal) × Below (length normal) entry × (length entry ≤ row_limit)) c.column.ensures c.column-2.ensures (ok.values.runtime, ok.values.entry, ok.sizes.entry),
       ),
     )
 
-same_length : tie.Need-same-length
+same_length : tie.Need-shape_of-paths
 same_length c = search rules
 
-same-length-2 : tie.Need-same-length-2
+same-length-2 : tie.Need-shape_of-lengths
 same-length-2 c = search rules
 
 returns : tie.Need-returns
 unfolding table read circles_of walked roots_of
 returns c =
-    let a = c.before.before.before.before.before.before.before.before.before.before.before.before.before.before.before.before.before.before.args in
-    let done = c.before.before.before.before.gather-circles in
+    let a = c.args in
+    let done = c.gather_circles in
     given2 (λ normal entry. Gathered (circles (statics_of a.dynamic normal a.importers.now a.kinds.now a.targets.now) (length normal) (a.runtime ∷ entry)) a.paths.now a.lengths.now done.result done.new.1.1.1.1.1.0 done.new.1.1.1.1.1.1.0)
-    c.before.before.before.before.before.before.before.before.column.ensures c.before.before.before.before.before.before.before.column2.ensures done.ensures
+    c.column.ensures c.column-2.ensures done.ensures
 
-pub list-circles-spec : {M : Type 1} → statement M
-list-circles-spec =
+pub list_circles_spec : {M : Type 1} → statement M
+list_circles_spec =
     tie.close
     (tie.spec
     column-requires

@@ -11,18 +11,18 @@ use Rattle.import_edges.proofs.inner.list_edges.Tie as tie
 abbrev entry : tie.After-column → tie.Start
 entry k = k.before.before.before.before.before.before.before.before.before.before
 
-import-edges-requires : tie.Need-import-edges-requires
+import-edges-requires : tie.Need-import_edges-requires
 unfolding table read
 import-edges-requires c κs =
     let e = entry c.before.before in
-    let ok = e.pre.0.accepted.sizes in
-    (ok.record_kind, (ok.record_target, (omega (arith, ok.record_module, e.pre.0.fits), omega (arith, ok.record_module, e.pre.1.fits))))
+    let ok = e.requires.0.accepted.sizes in
+    (ok.record_kind, (ok.record_target, (omega (arith, ok.record_module, e.requires.0.fits), omega (arith, ok.record_module, e.requires.1.fits))))
 
 returns : tie.Need-returns
 unfolding table read
-returns c = c.before.before.before.before.import-edges.ensures
+returns c = c.import_edges.ensures
 
-pub list-edges-spec : {M : Type 1} → statement M
-list-edges-spec =
+pub list_edges_spec : {M : Type 1} → statement M
+list_edges_spec =
     tie.close
     (tie.spec (λ c κs. search rules) import-edges-requires (λ c. search rules) (λ c. search rules) returns)

@@ -12,96 +12,96 @@ use Rattle.import_edges.proofs.Spreading.{Spreading, spreading-start, spreading-
 use Rattle.import_edges.proofs.inner.spread.Statement.{statement}
 use Rattle.import_edges.proofs.inner.spread.Tie as tie
 
-abbrev invariant-loop : tie.invariant-loop
+abbrev invariant-loop : tie.invariant-loop-m
 invariant-loop from to heads nexts set marks₀ m₀ m-end marks m = (m-end ≡ length set) × Spreading from to set m marks
 
-abbrev decreases-loop : tie.decreases-loop
+abbrev decreases-loop : tie.decreases-loop-m
 decreases-loop from to heads nexts set marks₀ m₀ m-end marks m = m-end - m
 
 abbrev Loop : Type 0
-Loop = tie.At-loop invariant-loop decreases-loop
+Loop = tie.At-loop-m invariant-loop decreases-loop
 
 abbrev entry : Loop → tie.Start invariant-loop decreases-loop
 entry l = l.before.before.before.before.before.before.before
 
-same : (l : Loop) → length l.loop.marks ≡ length (entry l).args.set.now
-same l = l.loop.inv.1.len
+same : (l : Loop) → length l.loop-m.marks ≡ length (entry l).args.set.now
+same l = l.loop-m.invariant.1.len
 
-pass : (l : Loop) → let a = (entry l).args in (has a.set.now l.loop.m ≡ true → has l.loop.marks l.loop.m ≡ true) → Spreading a.from.now a.to.now a.set.now (l.loop.m + 1) l.loop.marks
-pass l = let a = (entry l).args in spreading-pass a.from.now a.to.now a.set.now l.loop.m l.loop.marks l.loop.inv.1
+pass : (l : Loop) → let a = (entry l).args in (has a.set.now l.loop-m.m ≡ true → has l.loop-m.marks l.loop-m.m ≡ true) → Spreading a.from.now a.to.now a.set.now (l.loop-m.m + 1) l.loop-m.marks
+pass l = let a = (entry l).args in spreading-pass a.from.now a.to.now a.set.now l.loop-m.m l.loop-m.marks l.loop-m.invariant.1
 
-loop-holds : tie.Need-loop-init invariant-loop decreases-loop
+loop-holds : tie.Need-loop-m-init invariant-loop decreases-loop
 loop-holds c = let e = c.before.before.before.before.before.before in (refl, spreading-start e.args.from.now e.args.to.now e.args.set.now e.requires)
 
-mul-if1 : tie.Need-overflow-mul-if1 invariant-loop decreases-loop
+mul-if1 : tie.Need-offset_bounds-set-m invariant-loop decreases-loop
 mul-if1 c = search rules
 
-shared-slice-read-if1 : tie.Need-shared-slice-read-if1 invariant-loop decreases-loop
+shared-slice-read-if1 : tie.Need-bounds-set-m invariant-loop decreases-loop
 shared-slice-read-if1 c = search rules
 
-add-m : tie.Need-overflow-add-m invariant-loop decreases-loop
+add-m : tie.Need-overflow_step-m invariant-loop decreases-loop
 add-m c = search rules
 
-loop-less : tie.Need-loop-smaller invariant-loop decreases-loop
+loop-less : tie.Need-loop-m-smaller-then-set-m-eq0 invariant-loop decreases-loop
 loop-less c = search rules
 
-loop-again : tie.Need-loop-preserved invariant-loop decreases-loop
+loop-again : tie.Need-loop-m-preserved-then-set-m-eq0 invariant-loop decreases-loop
 loop-again c =
     let l = c.before.before.before in
-    (refl, pass l (λ h. absurd (true≢false (sym h ∙ mark-out (get_or (entry l).args.set.now l.loop.m 0) c.if1.true))))
+    (refl, pass l (λ h. absurd (true≢false (sym h ∙ mark-out (get_or (entry l).args.set.now l.loop-m.m 0) c.if-set-m-eq0.true))))
 
-mul-if2 : tie.Need-overflow-mul-if2 invariant-loop decreases-loop
-mul-if2 c = let l = c.before.before.before in omega (arith, same l, c.before.before.loop-test.true, (entry l).requires.few)
+mul-if2 : tie.Need-offset_bounds-marks-m invariant-loop decreases-loop
+mul-if2 c = let l = c.before.before.before in omega (arith, same l, c.loop-m-test.true, (entry l).requires.few)
 
-slice-read-if2 : tie.Need-slice-read-if2 invariant-loop decreases-loop
-slice-read-if2 c = let l = c.before.before.before.before in omega (arith, same l, c.before.before.before.loop-test.true)
+slice-read-if2 : tie.Need-bounds-marks-m invariant-loop decreases-loop
+slice-read-if2 c = let l = c.before.before.before.before in omega (arith, same l, c.loop-m-test.true)
 
-add-m-2 : tie.Need-overflow-add-m-2 invariant-loop decreases-loop
+add-m-2 : tie.Need-overflow_step-m-then-marks-m-ne0 invariant-loop decreases-loop
 add-m-2 c = search rules
 
-loop-less-2 : tie.Need-loop-smaller-2 invariant-loop decreases-loop
+loop-less-2 : tie.Need-loop-m-smaller-then-marks-m-ne0 invariant-loop decreases-loop
 loop-less-2 c = search rules
 
-loop-again-2 : tie.Need-loop-preserved-2 invariant-loop decreases-loop
+loop-again-2 : tie.Need-loop-m-preserved-then-marks-m-ne0 invariant-loop decreases-loop
 loop-again-2 c =
     let l = c.before.before.before.before.before in
-    (refl, pass l (λ h. mark-in (get_or l.loop.marks l.loop.m 0) c.if2.true))
+    (refl, pass l (λ h. mark-in (get_or l.loop-m.marks l.loop-m.m 0) c.if-marks-m-ne0.true))
 
-cast-visit : tie.Need-overflow-cast-visit invariant-loop decreases-loop
-cast-visit c = let l = c.before.before.before.before.before in omega (arith, c.before.before.before.before.loop-test.true, (entry l).requires.few)
+cast-visit : tie.Need-overflow_cast-m invariant-loop decreases-loop
+cast-visit c = let l = c.before.before.before.before.before in omega (arith, c.loop-m-test.true, (entry l).requires.few)
 
 visit-requires : tie.Need-visit-requires invariant-loop decreases-loop
 visit-requires c κs =
     let l = c.before.before.before.before.before.before in
     let a = (entry l).args in (
       subst (Linked a.from.now a.to.now a.heads.now a.nexts.now) (sym (same l)) (entry l).requires.linked,
-      omega (arith, same l, c.before.before.before.before.before.loop-test.true),
+      omega (arith, same l, c.loop-m-test.true),
     )
 
-add-m-3 : tie.Need-overflow-add-m-3 invariant-loop decreases-loop
+add-m-3 : tie.Need-overflow_step-m-in-loop-m invariant-loop decreases-loop
 add-m-3 c = search rules
 
-loop-less-3 : tie.Need-loop-smaller-3 invariant-loop decreases-loop
+loop-less-3 : tie.Need-loop-m-smaller invariant-loop decreases-loop
 loop-less-3 c = search rules
 
-loop-again-3 : tie.Need-loop-preserved-3 invariant-loop decreases-loop
+loop-again-3 : tie.Need-loop-m-preserved invariant-loop decreases-loop
 loop-again-3 c =
     let l = c.before.before.before.before.before.before.before.before.before in
     let a = (entry l).args in
-    let v = c.before.before.visit in
-    (refl, spreading-visit a.from.now a.to.now a.set.now l.loop.m l.loop.marks l.loop.invariant.1 v.new.1.1.1.1.1.0 (mark-in (get_or a.set.now l.loop.m 0) c.before.before.before.before.before.before.if1.false) v.ensures)
+    let v = c.visit in
+    (refl, spreading-visit a.from.now a.to.now a.set.now l.loop-m.m l.loop-m.marks l.loop-m.invariant.1 v.new.1.1.1.1.1.0 (mark-in (get_or a.set.now l.loop-m.m 0) c.if-set-m-eq0.false) v.ensures)
 
-same_length : tie.Need-same-length invariant-loop decreases-loop
+same_length : tie.Need-shape_of-marks invariant-loop decreases-loop
 same_length c = let l = c.before in same l ∙ sym (entry l).requires.len
 
 returns : tie.Need-returns invariant-loop decreases-loop
 returns c =
     let l = c.before in
     let a = (entry l).args in
-    spreading-end a.from.now a.to.now a.set.now l.loop.m l.loop.marks l.loop.invariant.1 (omega (arith, c.loop-test.false, l.loop.invariant.0))
+    spreading-end a.from.now a.to.now a.set.now l.loop-m.m l.loop-m.marks l.loop-m.invariant.1 (omega (arith, c.loop-m-test.false, l.loop-m.invariant.0))
 
-pub spread-spec : {M : Type 1} → statement M
-spread-spec =
+pub spread_spec : {M : Type 1} → statement M
+spread_spec =
     tie.close
     (tie.spec
     invariant-loop

@@ -18,70 +18,70 @@ abbrev size : tie.Start → ℕ
 size e = length e.args.plan.now
 
 -- the modules with a target that leads to the plan
-abbrev entry : tie.After-mark-owners → tie.Start
+abbrev entry : tie.After-mark_owners → tie.Start
 entry k = k.before.before.before.before.before.before.before.before.before.before.before.before.before.before.before.before.before
 
-abbrev leading : tie.After-mark-owners → List ℕ
-leading k = k.mark-owners.new.1.1.1.0
+abbrev leading : tie.After-mark_owners → List ℕ
+leading k = k.mark_owners.new.1.1.1.0
 
-leading-lent : (k : tie.After-mark-owners) → Lent 4096 (size (entry k)) (leading k)
-leading-lent k = record { fits = (entry k).requires.1.few; kept = k.mark-owners.auto.1.1.1.0 }
+leading-lent : (k : tie.After-mark_owners) → Lent 4096 (size (entry k)) (leading k)
+leading-lent k = record { fits = (entry k).requires.1.few; kept = k.mark_owners.auto.marks }
 
 -- the modules with a planned dependency
-abbrev first : tie.After-mark-owners2 → tie.After-mark-owners
+abbrev first : tie.After-mark_owners-2 → tie.After-mark_owners
 first k = k.before.before.before.before
 
-abbrev dependents : tie.After-mark-owners2 → List ℕ
-dependents k = k.mark-owners2.new.1.1.1.0
+abbrev dependents : tie.After-mark_owners-2 → List ℕ
+dependents k = k.mark_owners-2.new.1.1.1.0
 
-dependents-lent : (k : tie.After-mark-owners2) → Lent 4096 (size (entry (first k))) (dependents k)
-dependents-lent k = record { fits = (entry (first k)).requires.1.few; kept = k.mark-owners2.auto.1.1.1.0 }
+dependents-lent : (k : tie.After-mark_owners-2) → Lent 4096 (size (entry (first k))) (dependents k)
+dependents-lent k = record { fits = (entry (first k)).requires.1.few; kept = k.mark_owners-2.auto.marks }
 
 spread-requires : tie.Need-spread-requires
 spread-requires c κs = search rules
 
-array-borrow-prefix-leading : tie.Need-array-borrow-prefix-leading
+array-borrow-prefix-leading : tie.Need-slice_bounds-leading-end
 array-borrow-prefix-leading c = search rules
 
-slice-aggregate-mark-owners : tie.Need-slice-aggregate-mark-owners
+slice-aggregate-mark-owners : tie.Need-slice_bounds-mark_owners-end
 slice-aggregate-mark-owners c = let e = c.before.before.before.before.before.before.before.before.before.before.before.before.before.before.before.before in sym (part_length 4096 (size e) e.requires.1.few)
 
-mark-owners-requires : tie.Need-mark-owners-requires
+mark-owners-requires : tie.Need-mark_owners-requires
 mark-owners-requires c κs =
     let e = c.before.before.before.before.before.before.before.before.before.before.before.before.before.before.before.before in
-    let s = c.before.before.before.before.spread in
+    let s = c.spread in
     (sym e.requires.1.linked.lengths, (subst (λ (n : ℕ). Below n e.args.targets.now) (sym s.ensures.len) e.requires.0.imported, subst (λ (n : ℕ). Below n e.args.importers.now) (sym (part_length 4096 (size e) e.requires.1.few)) e.requires.0.importing))
 
-array-borrow-prefix-dependents : tie.Need-array-borrow-prefix-dependents
+array-borrow-prefix-dependents : tie.Need-slice_bounds-dependents-end
 array-borrow-prefix-dependents c = search rules
 
-slice-aggregate-mark-owners-2 : tie.Need-slice-aggregate-mark-owners-2
+slice-aggregate-mark-owners-2 : tie.Need-slice_bounds-mark_owners-end-2
 slice-aggregate-mark-owners-2 c = let e = c.before.before.before.before.before.before.before.before.before.before.before.before.before.before.before.before.before.before.before.before in sym (part_length 4096 (size e) e.requires.1.few)
 
-mark-owners-requires-2 : tie.Need-mark-owners-requires-2
+mark-owners-requires-2 : tie.Need-mark_owners-requires-2
 mark-owners-requires-2 c κs =
     let e = c.before.before.before.before.before.before.before.before.before.before.before.before.before.before.before.before.before.before.before.before in
     (e.requires.0.dependencies, (e.requires.0.depended, subst (λ (n : ℕ). Below n e.args.dependency-module.now) (sym (part_length 4096 (size e) e.requires.1.few)) e.requires.0.dependents))
 
-array-share-prefix-leading : tie.Need-array-share-prefix-leading
+array-share-prefix-leading : tie.Need-slice_bounds-leading-end-2
 array-share-prefix-leading c = view-room (leading-lent c.before.before.before.before.before)
 
-slice-aggregate-add : tie.Need-slice-aggregate-add
+slice-aggregate-add : tie.Need-slice_bounds-add-end
 slice-aggregate-add c = sym (view-length (leading-lent c.before.before.before.before.before.before))
 
-array-share-prefix-dependents : tie.Need-array-share-prefix-dependents
+array-share-prefix-dependents : tie.Need-slice_bounds-dependents-end-2
 array-share-prefix-dependents c = view-room (dependents-lent c.before.before)
 
-slice-aggregate-add-2 : tie.Need-slice-aggregate-add-2
+slice-aggregate-add-2 : tie.Need-slice_bounds-add-end-2
 slice-aggregate-add-2 c = sym (view-length (dependents-lent c.before.before.before))
 
 add-requires : tie.Need-add-requires
 add-requires c κs = let k = c.before.before.before.before in (view-length (leading-lent (first k)), (view-length (dependents-lent k), (entry (first k)).requires.0.candidate))
 
-same_length : tie.Need-same-length
+same_length : tie.Need-shape_of-leads
 same_length c = search rules
 
-same-length-2 : tie.Need-same-length-2
+same-length-2 : tie.Need-shape_of-plan
 same-length-2 c = search rules
 
 -- over any columns, with K places for the marks
@@ -105,17 +105,17 @@ returns c =
     let i = first d in
     let e = entry i in
     let a = e.args in
-    let s = c.before.before.before.before.before.before.before.before.before.before.before.before.before.before.before.before.spread in
-    let o = c.before.before.add in (
+    let s = c.spread in
+    let o = c.add in (
       s.ensures,
       closed 4096 a.importers.now a.targets.now a.dependency-module.now a.dependency.now a.candidates.now a.plan.now s.new.1.1.1.1.1.0 (leading i) (dependents d) o.new.1.1.1.0 o.result
-          e.pre.1.few (sym e.pre.1.linked.lengths) e.pre.0.dependencies i.mark-owners.ensures d.mark-owners2.ensures
+          e.requires.leads.few (sym e.requires.leads.linked.lengths) e.requires.columns.dependencies i.mark_owners.ensures d.mark_owners-2.ensures
           (subst (λ (x : List ℕ). Added (InAll x (dependents d) a.candidates.now) a.plan.now o.new.1.1.1.0 o.result) (view-is (leading-lent i))
           (subst (λ (x : List ℕ). Added (InAll (view 4096 (size e) (leading i)) x a.candidates.now) a.plan.now o.new.1.1.1.0 o.result) (view-is (dependents-lent d)) o.ensures)),
     )
 
-pub close-static-importers-spec : {M : Type 1} → statement M
-close-static-importers-spec =
+pub close_static_importers_spec : {M : Type 1} → statement M
+close_static_importers_spec =
     tie.close
     (tie.spec
     spread-requires

@@ -21,18 +21,18 @@ entry k = k.before.before.before.before.before.before.before.before.before.befor
 abbrev of : tie.Start → Project
 of e = let a = e.args in read (table a.runtime a.dynamic a.bounds.now a.columns.now) a.importers.now a.kinds.now a.targets.now a.dependencies.now a.members.now
 
-close-static-importers-requires : tie.Need-close-static-importers-requires
+close-static-importers-requires : tie.Need-close_static_importers-requires
 unfolding table read
 close-static-importers-requires c κs =
     let k = c.before.before in
     let e = entry k in
     let a = e.args in
     let p = of e in
-    let sets = e.pre.0 in (
+    let sets = e.requires.0 in (
       asked2 (λ dependency_module candidates. Importing a.from.now a.to.now dependency_module p.dependency candidates (length a.plan.now))
           k.column.ensures sets.candidate_set
-          (subst (Importing a.from.now a.to.now p.dependency_module p.dependency (candidate_marks p)) (sym e.pre.1.1.0.size) (importing-fit p sets.accepted e.pre.1.0.graph)),
-      leads-ready p sets.accepted e.pre.1.0 a.plan.now a.leads.now e.pre.1.1.0 e.pre.1.1.1,
+          (subst (Importing a.from.now a.to.now p.dependency_module p.dependency (candidate_marks p)) (sym e.requires.1.1.0.size) (importing-fit p sets.accepted e.requires.1.0.graph)),
+      leads-ready p sets.accepted e.requires.1.0 a.plan.now a.leads.now e.requires.1.1.0 e.requires.1.1.1,
     )
 
 returns : tie.Need-returns
@@ -42,15 +42,15 @@ returns c =
     let k = call.before.before.before in
     let e = entry k in
     let a = e.args in
-    let sets = e.pre.0 in
-    let done = call.close-static-importers in
+    let sets = e.requires.0 in
+    let done = call.close_static_importers in
     let leads : List ℕ = done.new.1.1.1.1.1.1.1.0 in
     let plan : List ℕ = done.new.1.1.1.1.1.1.1.1.0 in
-    imports-passed (of e) sets.accepted e.pre.1.0 a.plan.now leads plan done.result e.pre.1.1.0 done.ensures.0
+    imports-passed (of e) sets.accepted e.requires.1.0 a.plan.now leads plan done.result e.requires.1.1.0 done.ensures.0
     (given2 (λ dependency_module candidates. Added (Importer a.from.now a.to.now dependency_module (of e).dependency candidates a.plan.now leads) a.plan.now plan done.result)
     k.column.ensures sets.candidate_set done.ensures.1)
 
-pub pass-importers-spec : {M : Type 1} → statement M
-pass-importers-spec =
+pub pass_importers_spec : {M : Type 1} → statement M
+pass_importers_spec =
     tie.close
     (tie.spec (λ c κs. search rules) close-static-importers-requires (λ c. search rules) (λ c. search rules) returns)

@@ -5,15 +5,15 @@ use borrow.Author.Rules.{rules}
 use Rattle.lines.proofs.lines.field_len.Statement.{statement}
 use Rattle.lines.proofs.lines.field_len.Tie as tie
 
-returns : tie.Need-returns
-returns c = ap length (sym (field-mark c.before.args.v c.if1.true))
+returns : tie.Need-returns-then-v-eq-MISSING
+returns c = ap length (sym (field-mark c.args.v c.if-v-eq-MISSING.true))
 
-number-len-requires : tie.Need-number-len-requires
+number-len-requires : tie.Need-number_len-requires
 number-len-requires c κs = search rules
 
-returns-2 : tie.Need-returns-2
+returns-2 : tie.Need-returns
 returns-2 c =
-    c.number-len.ensures ∙ ap length (sym (field-other c.before.before.args.v c.before.if1.false))
+    c.number_len.ensures ∙ ap length (sym (field-other c.args.v c.if-v-eq-MISSING.false))
 
-pub field-len-spec : {M : Type 1} → statement M
-field-len-spec = tie.close (tie.spec returns number-len-requires returns-2)
+pub field_len_spec : {M : Type 1} → statement M
+field_len_spec = tie.close (tie.spec returns number-len-requires returns-2)

@@ -5,116 +5,116 @@ use Rattle.listing.proofs.Stripes.{Spreading, spreading, spread-sizes, spread-ro
 use Rattle.listing.proofs.columns.spread_list.Statement.{statement}
 use Rattle.listing.proofs.columns.spread_list.Tie as tie
 
-abbrev invariant-loop : tie.invariant-loop
+abbrev invariant-loop : tie.invariant-loop-k
 invariant-loop rows bounds₀ columns₀ first w n to j k₀ at₀ bounds columns k at = Spreading rows columns₀ bounds₀ first w n to j columns bounds k at
 
-abbrev decreases-loop : tie.decreases-loop
+abbrev decreases-loop : tie.decreases-loop-k
 decreases-loop rows bounds₀ columns₀ first w n to j k₀ at₀ bounds columns k at = w - k
 
-loop-holds : tie.Need-loop-init invariant-loop decreases-loop
+loop-holds : tie.Need-loop-k-init invariant-loop decreases-loop
 loop-holds c =
-    let a = c.before.before.args in
+    let a = c.args in
     spreading a.rows.now a.columns.now a.bounds.now a.first a.w a.n a.to a.j
 
-add-copy-column : tie.Need-overflow-add-copy-column invariant-loop decreases-loop
+add-copy-column : tie.Need-overflow_add-first invariant-loop decreases-loop
 add-copy-column c =
     let s = c.before.before.before.before in
     let a = s.args in
-    let l = c.before.loop in
-    omega (arith, c.loop-test.true, s.requires.0, s.requires.2)
+    let l = c.loop-k in
+    omega (arith, c.loop-k-test.true, s.requires.0, s.requires.2)
 
-copy-column-requires : tie.Need-copy-column-requires invariant-loop decreases-loop
+copy-column-requires : tie.Need-copy_column-requires invariant-loop decreases-loop
 copy-column-requires c κs =
     let s = c.before.before.before.before.before in
     let a = s.args in
-    let l = c.before.before.loop in
+    let l = c.loop-k in
     let z = spread-sizes a.rows.now a.columns.now a.bounds.now a.first a.w a.n a.to a.j l.columns l.bounds l.k l.at l.invariant in
-    let t : l.k < a.w = c.before.loop-test.true in
+    let t : l.k < a.w = c.loop-k-test.true in
     (λ r h. stripe-inside a.first a.w a.n l.k r 32768 t h s.requires.0, s.requires.2, spread-room a.rows.now a.columns.now a.bounds.now a.first a.w a.n a.to a.j l.columns l.bounds l.k l.at l.invariant t s.requires.1, z.0 ∙ s.requires.4)
 
-add_at : tie.Need-overflow-add-at invariant-loop decreases-loop
+add_at : tie.Need-overflow_add-at invariant-loop decreases-loop
 add_at c =
     let s = c.before.before.before.before.before.before.before.before in
     let a = s.args in
-    let l = c.before.before.before.before.before.loop in
-    let h : l.at + a.n ≤ 32768 = spread-room a.rows.now a.columns.now a.bounds.now a.first a.w a.n a.to a.j l.columns l.bounds l.k l.at l.invariant c.before.before.before.before.loop-test.true s.requires.1 in
+    let l = c.loop-k in
+    let h : l.at + a.n ≤ 32768 = spread-room a.rows.now a.columns.now a.bounds.now a.first a.w a.n a.to a.j l.columns l.bounds l.k l.at l.invariant c.loop-k-test.true s.requires.1 in
     omega arith
 
-add-k : tie.Need-overflow-add-k invariant-loop decreases-loop
+add-k : tie.Need-overflow_add-k invariant-loop decreases-loop
 add-k c =
     let s = c.before.before.before.before.before.before.before.before in
     let a = s.args in
-    let l = c.before.before.before.before.before.loop in
-    omega (arith, c.before.before.before.before.loop-test.true, s.requires.2)
+    let l = c.loop-k in
+    omega (arith, c.loop-k-test.true, s.requires.2)
 
-cast-bounds : tie.Need-overflow-cast-bounds invariant-loop decreases-loop
+cast-bounds : tie.Need-overflow_cast-bounds invariant-loop decreases-loop
 cast-bounds c =
     let s = c.before.before.before.before.before.before.before.before in
     let a = s.args in
-    let l = c.before.before.before.before.before.loop in
-    let h : l.at + a.n ≤ 32768 = spread-room a.rows.now a.columns.now a.bounds.now a.first a.w a.n a.to a.j l.columns l.bounds l.k l.at l.invariant c.before.before.before.before.loop-test.true s.requires.1 in
+    let l = c.loop-k in
+    let h : l.at + a.n ≤ 32768 = spread-room a.rows.now a.columns.now a.bounds.now a.first a.w a.n a.to a.j l.columns l.bounds l.k l.at l.invariant c.loop-k-test.true s.requires.1 in
     omega arith
 
-add-bounds : tie.Need-overflow-add-bounds invariant-loop decreases-loop
+add-bounds : tie.Need-overflow_add-bounds invariant-loop decreases-loop
 add-bounds c =
     let s = c.before.before.before.before.before.before.before.before in
     let a = s.args in
-    let l = c.before.before.before.before.before.loop in
-    omega (arith, c.before.before.before.before.loop-test.true, s.requires.3)
+    let l = c.loop-k in
+    omega (arith, c.loop-k-test.true, s.requires.3)
 
-mul-bounds : tie.Need-overflow-mul-bounds invariant-loop decreases-loop
+mul-bounds : tie.Need-offset_bounds-bounds-j invariant-loop decreases-loop
 mul-bounds c =
     let s = c.before.before.before.before.before.before.before.before in
     let a = s.args in
-    let l = c.before.before.before.before.before.loop in
-    omega (arith, c.before.before.before.before.loop-test.true, s.requires.3)
+    let l = c.loop-k in
+    omega (arith, c.loop-k-test.true, s.requires.3)
 
-slice-write-bounds : tie.Need-slice-write-bounds invariant-loop decreases-loop
+slice-write-bounds : tie.Need-bounds-bounds-j invariant-loop decreases-loop
 slice-write-bounds c =
     let s = c.before.before.before.before.before.before.before.before in
     let a = s.args in
-    let l = c.before.before.before.before.before.loop in
+    let l = c.loop-k in
     let z = spread-sizes a.rows.now a.columns.now a.bounds.now a.first a.w a.n a.to a.j l.columns l.bounds l.k l.at l.invariant in
-    omega (arith, c.before.before.before.before.loop-test.true, s.requires.3, s.requires.5, z.1)
+    omega (arith, c.loop-k-test.true, s.requires.3, s.requires.5, z.1)
 
-loop-less : tie.Need-loop-smaller invariant-loop decreases-loop
+loop-less : tie.Need-loop-k-smaller invariant-loop decreases-loop
 loop-less c =
     let s = c.before.before.before.before.before.before.before.before in
     let a = s.args in
-    let l = c.before.before.before.before.before.loop in
-    omega (arith, c.before.before.before.before.loop-test.true)
+    let l = c.loop-k in
+    omega (arith, c.loop-k-test.true)
 
-loop-again : tie.Need-loop-preserved invariant-loop decreases-loop
+loop-again : tie.Need-loop-k-preserved invariant-loop decreases-loop
 loop-again c =
     let s = c.before.before.before.before.before.before.before.before in
     let a = s.args in
-    let l = c.before.before.before.before.before.loop in
-    spread-more a.rows.now a.columns.now a.bounds.now a.first a.w a.n a.to a.j l.columns l.bounds l.k l.at l.invariant c.before.before.copy-column.new.1.1.1.1.0 c.before.before.before.before.loop-test.true c.before.before.copy-column.ensures
+    let l = c.loop-k in
+    spread-more a.rows.now a.columns.now a.bounds.now a.first a.w a.n a.to a.j l.columns l.bounds l.k l.at l.invariant c.copy_column.new.1.1.1.1.0 c.loop-k-test.true c.copy_column.ensures
 
-same_length : tie.Need-same-length invariant-loop decreases-loop
+same_length : tie.Need-shape_of-bounds invariant-loop decreases-loop
 same_length c =
     let s = c.before.before.before.before in
     let a = s.args in
-    let l = c.before.loop in
+    let l = c.loop-k in
     (spread-sizes a.rows.now a.columns.now a.bounds.now a.first a.w a.n a.to a.j l.columns l.bounds l.k l.at l.invariant).1
 
-same-length-2 : tie.Need-same-length-2 invariant-loop decreases-loop
+same-length-2 : tie.Need-shape_of-columns invariant-loop decreases-loop
 same-length-2 c =
     let s = c.before.before.before.before in
     let a = s.args in
-    let l = c.before.loop in
+    let l = c.loop-k in
     (spread-sizes a.rows.now a.columns.now a.bounds.now a.first a.w a.n a.to a.j l.columns l.bounds l.k l.at l.invariant).0
 
 returns : tie.Need-returns invariant-loop decreases-loop
 returns c =
     let s = c.before.before.before.before in
     let a = s.args in
-    let l = c.before.loop in
-    let e = spread_end a.rows.now a.columns.now a.bounds.now a.first a.w a.n a.to a.j l.columns l.bounds l.k l.at l.invariant c.loop-test.false in
+    let l = c.loop-k in
+    let e = spread_end a.rows.now a.columns.now a.bounds.now a.first a.w a.n a.to a.j l.columns l.bounds l.k l.at l.invariant c.loop-k-test.false in
     (e.0, (e.1, e.2))
 
-pub spread-list-spec : {M : Type 1} → statement M
-spread-list-spec =
+pub spread_list_spec : {M : Type 1} → statement M
+spread_list_spec =
     tie.close
     (tie.spec
     invariant-loop

@@ -10,45 +10,45 @@ use Rattle.lists.proofs.Laws.{front-more, replicate_more}
 use Rattle.lists.proofs.inner.fill.Statement.{statement}
 use Rattle.lists.proofs.inner.fill.Tie as tie
 
-abbrev invariant-loop : tie.invariant-loop
+abbrev invariant-loop : tie.invariant-loop-i
 invariant-loop slots₀ value i₀ slots i = (i ≤ length slots₀) × (length slots ≡ length slots₀) × (slots ≡ replicate i value ++ drop i slots₀)
 
-abbrev decreases-loop : tie.decreases-loop
+abbrev decreases-loop : tie.decreases-loop-i
 decreases-loop slots₀ value i₀ slots i = length slots₀ - i
 
-loop-holds : tie.Need-loop-init invariant-loop decreases-loop
+loop-holds : tie.Need-loop-i-init invariant-loop decreases-loop
 loop-holds c = (omega arith, refl, refl)
 
-mul-slots : tie.Need-overflow-mul-slots invariant-loop decreases-loop
+mul-slots : tie.Need-offset_bounds-slots-i invariant-loop decreases-loop
 mul-slots c = omega arith
 
-slice-write-slots : tie.Need-slice-write-slots invariant-loop decreases-loop
+slice-write-slots : tie.Need-bounds-slots-i invariant-loop decreases-loop
 slice-write-slots c = omega arith
 
-add-i : tie.Need-overflow-add-i invariant-loop decreases-loop
+add-i : tie.Need-overflow_add-i invariant-loop decreases-loop
 add-i c = omega arith
 
-loop-less : tie.Need-loop-smaller invariant-loop decreases-loop
+loop-less : tie.Need-loop-i-smaller invariant-loop decreases-loop
 loop-less c = omega arith
 
-loop-again : tie.Need-loop-preserved invariant-loop decreases-loop
+loop-again : tie.Need-loop-i-preserved invariant-loop decreases-loop
 loop-again c =
-    let l = c.before.loop in
-    let s = c.before.before.args.slots.now in
-    let v = c.before.before.args.value in (
+    let l = c.loop-i in
+    let s = c.args.slots.now in
+    let v = c.args.value in (
       omega arith,
       length-set l.slots l.i v ∙ l.invariant.1,
       ap (λ (x : List ℕ). set x l.i v) l.invariant.2 ∙ front-more (replicate l.i v) s l.i v (length-replicate l.i v) (omega arith) ∙ ap (λ (x : List ℕ). x ++ drop (l.i + 1) s) (replicate_more l.i v),
     )
 
-same_length : tie.Need-same-length invariant-loop decreases-loop
-same_length c = c.before.loop.invariant.1
+same_length : tie.Need-shape_of-slots invariant-loop decreases-loop
+same_length c = c.loop-i.invariant.1
 
 returns : tie.Need-returns invariant-loop decreases-loop
 returns c =
-    let l = c.before.loop in
-    let s = c.before.before.args.slots.now in
-    let v = c.before.before.args.value in
+    let l = c.loop-i in
+    let s = c.args.slots.now in
+    let v = c.args.value in
     let n : l.i ≡ length s = omega arith in
     l.invariant.2 ∙ ap (λ (i : ℕ). replicate i v ++ drop i s) n ∙ ap (λ (x : List ℕ). replicate (length s) v ++ x) (drop-length s) ∙ append-nil (replicate (length s) v)
 

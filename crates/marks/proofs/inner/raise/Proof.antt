@@ -8,29 +8,29 @@ use Rattle.marks.proofs.inner.raise.Reads as reads
 use Rattle.marks.proofs.inner.raise.Lts as lts
 use Rattle.tables.proofs.inner.greater.Reads as greater-reads
 
-mul-greater : tie.Need-overflow-mul-greater
+mul-greater : tie.Need-offset_bounds-marks-m
 mul-greater c = search rules
 
-slice-read-greater : tie.Need-slice-read-greater
+slice-read-greater : tie.Need-bounds-marks-m
 slice-read-greater c = search rules
 
 greater-requires : tie.Need-greater-requires
 greater-requires c κs = search rules
 
-mul-marks : tie.Need-overflow-mul-marks
+mul-marks : tie.Need-offset_bounds-marks-m-2
 mul-marks c = search rules
 
-slice-write-marks : tie.Need-slice-write-marks
+slice-write-marks : tie.Need-bounds-marks-m-2
 slice-write-marks c = search rules
 
-same_length : tie.Need-same-length
+same_length : tie.Need-shape_of-marks
 same_length c = search rules
 
 returns : tie.Need-returns
-returns c = let a = c.before.before.before.args in raised-put a.at a.mark c.greater.result a.marks.now c.greater.ensures
+returns c = let a = c.args in raised-put a.at a.mark c.greater.result a.marks.now c.greater.ensures
 
-pub raise-spec : {M : Type 1} → statement M
-raise-spec =
+pub raise_spec : {M : Type 1} → statement M
+raise_spec =
     tie.close
     (tie.spec
     mul-greater

@@ -8,21 +8,21 @@ use borrow.Author.Rules.{rules}
 use Rattle.module_keys.proofs.inner.find_keys.Statement.{statement}
 use Rattle.module_keys.proofs.inner.find_keys.Tie as tie
 
-find-starts-requires : tie.Need-find-starts-requires
+find-starts-requires : tie.Need-find_starts-requires
 find-starts-requires c κs =
     let e = c.before.before.before.before.before.before.before.before in
     subst (λ (n : ℕ). names_fit n e.args.names.now ≡ true) (sym e.requires.1.1.1) e.requires.1.0
 
-fill-groups-requires : tie.Need-fill-groups-requires
+fill-groups-requires : tie.Need-fill_groups-requires
 fill-groups-requires c κs = search rules
 
-put-numbers-requires : tie.Need-put-numbers-requires
+put-numbers-requires : tie.Need-put_numbers-requires
 put-numbers-requires c κs = search rules
 
-same_length : tie.Need-same-length
+same_length : tie.Need-shape_of-groups
 same_length c = search rules
 
-same-length-2 : tie.Need-same-length-2
+same-length-2 : tie.Need-shape_of-places
 same-length-2 c = search rules
 
 returns : tie.Need-returns
@@ -32,16 +32,16 @@ returns c =
     let find = fill.before.before.before.before.before in
     let e = find.before.before.before.before.before.before.before.before.before in
     let a = e.args in
-    keys-held a.names.now a.normal.now a.importers.now a.sensitive.now a.numbers.now find.find-starts.new.1.0 fill.fill-groups.new.1.1.1.1.1.0 put.put-numbers.new.1.1.0
-    find.find-starts.ensures
-    (fill.before.before.before.before.places.given ∙ e.requires.1.1.1)
-    (put.before.before.before.before.groups.given ∙ e.requires.1.1.0)
-    (c.before.places2.given ∙ fill.before.before.before.before.places.given ∙ e.requires.1.1.1)
-    fill.fill-groups.ensures
-    put.put-numbers.ensures
+    keys-held a.names.now a.normal.now a.importers.now a.sensitive.now a.numbers.now find.find_starts.new.1.0 fill.fill_groups.new.1.1.1.1.1.0 put.put_numbers.new.1.1.0
+    find.find_starts.ensures
+    (fill.places-1.given ∙ e.requires.1.1.1)
+    (put.groups-1.given ∙ e.requires.1.1.0)
+    (c.places-2-1.given ∙ fill.places-1.given ∙ e.requires.1.1.1)
+    fill.fill_groups.ensures
+    put.put_numbers.ensures
 
-pub find-keys-spec : {M : Type 1} → statement M
-find-keys-spec =
+pub find_keys_spec : {M : Type 1} → statement M
+find_keys_spec =
     tie.close
     (tie.spec
     find-starts-requires

@@ -8,61 +8,61 @@ use borrow.Author.Rules.{rules}
 use Rattle.module_keys.proofs.inner.group_of.Statement.{statement}
 use Rattle.module_keys.proofs.inner.group_of.Tie as tie
 
-is-runtime-requires : tie.Need-is-runtime-requires
+is-runtime-requires : tie.Need-is_runtime-requires
 is-runtime-requires c κs = search rules
 
-returns : tie.Need-returns
+returns : tie.Need-returns-then-is_runtime
 returns c =
     let k = c.before in
-    let a = k.before.before.before.before.before.args in
+    let a = k.args in
     let name = turned (line_at a.names.now a.at) in
-    group-runtime name a.normal.now a.importers.now a.sensitive.now a.m (sym k.is-runtime.ensures ∙ c.if1.true)
+    group-runtime name a.normal.now a.importers.now a.sensitive.now a.m (sym k.is_runtime.ensures ∙ c.if-is_runtime.true)
 
-mul-if2 : tie.Need-overflow-mul-if2
+mul-if2 : tie.Need-offset_bounds-normal-m
 mul-if2 c = search rules
 
-shared-slice-read-if2 : tie.Need-shared-slice-read-if2
+shared-slice-read-if2 : tie.Need-bounds-normal-m
 shared-slice-read-if2 c = search rules
 
-returns-2 : tie.Need-returns-2
+returns-2 : tie.Need-returns-then-normal-m-ne1
 returns-2 c =
     let k = c.before.before.before in
-    let a = k.before.before.before.before.before.args in
+    let a = k.args in
     let name = turned (line_at a.names.now a.at) in
-    group-external name a.normal.now a.importers.now a.sensitive.now a.m (sym k.is-runtime.ensures ∙ c.before.before.if1.false) c.if2.true
+    group-external name a.normal.now a.importers.now a.sensitive.now a.m (sym k.is_runtime.ensures ∙ c.if-is_runtime.false) c.if-normal-m-ne1.true
 
-mul-if3 : tie.Need-overflow-mul-if3
+mul-if3 : tie.Need-offset_bounds-sensitive-m
 mul-if3 c = search rules
 
-shared-slice-read-if3 : tie.Need-shared-slice-read-if3
+shared-slice-read-if3 : tie.Need-bounds-sensitive-m
 shared-slice-read-if3 c = search rules
 
-returns-3 : tie.Need-returns-3
+returns-3 : tie.Need-returns-then-sensitive-m-ne0
 returns-3 c =
     let k = c.before.before.before.before.before in
-    let a = k.before.before.before.before.before.args in
+    let a = k.args in
     let name = turned (line_at a.names.now a.at) in
-    group-sensitive name a.normal.now a.importers.now a.sensitive.now a.m (sym k.is-runtime.ensures ∙ c.before.before.before.before.if1.false) c.before.before.if2.false c.if3.true
+    group-sensitive name a.normal.now a.importers.now a.sensitive.now a.m (sym k.is_runtime.ensures ∙ c.if-is_runtime.false) c.if-normal-m-ne1.false c.if-sensitive-m-ne0.true
 
-is-recordless-requires : tie.Need-is-recordless-requires
+is-recordless-requires : tie.Need-is_recordless-requires
 is-recordless-requires c κs = search rules
 
-returns-4 : tie.Need-returns-4
+returns-4 : tie.Need-returns-then-is_recordless
 returns-4 c =
     let k = c.before.before.before.before.before.before.before in
-    let a = k.before.before.before.before.before.args in
+    let a = k.args in
     let name = turned (line_at a.names.now a.at) in
-    group-leaf name a.normal.now a.importers.now a.sensitive.now a.m (sym k.is-runtime.ensures ∙ c.before.before.before.before.before.before.if1.false) c.before.before.before.before.if2.false c.before.before.if3.false (sym c.before.is-recordless.ensures ∙ c.if4.true)
+    group-leaf name a.normal.now a.importers.now a.sensitive.now a.m (sym k.is_runtime.ensures ∙ c.if-is_runtime.false) c.if-normal-m-ne1.false c.if-sensitive-m-ne0.false (sym c.is_recordless.ensures ∙ c.if-is_recordless.true)
 
-returns-5 : tie.Need-returns-5
+returns-5 : tie.Need-returns-else-is_recordless
 returns-5 c =
     let k = c.before.before.before.before.before.before.before in
-    let a = k.before.before.before.before.before.args in
+    let a = k.args in
     let name = turned (line_at a.names.now a.at) in
-    group-record name a.normal.now a.importers.now a.sensitive.now a.m (sym k.is-runtime.ensures ∙ c.before.before.before.before.before.before.if1.false) c.before.before.before.before.if2.false c.before.before.if3.false (sym c.before.is-recordless.ensures ∙ c.if4.false)
+    group-record name a.normal.now a.importers.now a.sensitive.now a.m (sym k.is_runtime.ensures ∙ c.if-is_runtime.false) c.if-normal-m-ne1.false c.if-sensitive-m-ne0.false (sym c.is_recordless.ensures ∙ c.if-is_recordless.false)
 
-pub group-of-spec : {M : Type 1} → statement M
-group-of-spec =
+pub group_of_spec : {M : Type 1} → statement M
+group_of_spec =
     tie.close
     (tie.spec
     is-runtime-requires

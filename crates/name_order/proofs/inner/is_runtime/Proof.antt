@@ -8,51 +8,51 @@ use borrow.Author.Rules.{rules}
 use Rattle.name_order.proofs.inner.is_runtime.Statement.{statement}
 use Rattle.name_order.proofs.inner.is_runtime.Tie as tie
 
-byte-at-requires : tie.Need-byte-at-requires
+byte-at-requires : tie.Need-byte_at-b-requires
 byte-at-requires c κs = search rules
 
-returns : tie.Need-returns
+returns : tie.Need-returns-then-b-eq10
 returns c =
-    let a = c.before.before.before.args in
-    runtime-stop a.names.now a.at (sym c.before.byte_at.ensures ∙ c.if1.true)
+    let a = c.args in
+    runtime-stop a.names.now a.at (sym c.byte_at-b.ensures ∙ c.if-b-eq10.true)
 
 turn-requires : tie.Need-turn-requires
 turn-requires c κs = search rules
 
-add-line-begins : tie.Need-overflow-add-line-begins
+add-line-begins : tie.Need-overflow_add-at
 add-line-begins c =
     let b = c.before.before.before in
-    let a = b.before.before.args in
-    omega (arith, line-inside a.names.now a.at (λ e. c.before.before.if1.false (b.byte_at.ensures ∙ e)))
+    let a = b.args in
+    omega (arith, line-inside a.names.now a.at (λ e. c.if-b-eq10.false (b.byte_at-b.ensures ∙ e)))
 
 slice-aggregate-line-begins : tie.Need-slice-aggregate-line-begins
 slice-aggregate-line-begins c = search rules
 
-line-begins-requires : tie.Need-line-begins-requires
+line-begins-requires : tie.Need-line_begins-requires
 line-begins-requires c κs = search rules
 
-returns-2 : tie.Need-returns-2
+returns-2 : tie.Need-returns-then-turn-eq0
 returns-2 c =
     let t = c.before.before in
     let b = t.before.before.before in
-    let a = b.before.before.args in
-    c.line-begins.ensures ∙ runtime-folder a.names.now a.at (λ e. t.before.before.if1.false (b.byte_at.ensures ∙ e)) (ap start_byte (sym b.byte_at.ensures) ∙ sym t.before.turn.ensures ∙ t.if2.true)
+    let a = b.args in
+    c.line_begins.ensures ∙ runtime-folder a.names.now a.at (λ e. t.if-b-eq10.false (b.byte_at-b.ensures ∙ e)) (ap start_byte (sym b.byte_at-b.ensures) ∙ sym t.turn.ensures ∙ t.if-turn-eq0.true)
 
 slice-aggregate-line-begins-2 : tie.Need-slice-aggregate-line-begins-2
 slice-aggregate-line-begins-2 c = search rules
 
-line-begins-requires-2 : tie.Need-line-begins-requires-2
+line-begins-requires-2 : tie.Need-line_begins-requires-2
 line-begins-requires-2 c κs = search rules
 
-returns-3 : tie.Need-returns-3
+returns-3 : tie.Need-returns
 returns-3 c =
     let t = c.before.before in
     let b = t.before.before.before in
-    let a = b.before.before.args in
-    c.line-begins2.ensures ∙ runtime-prefix a.names.now a.at (λ e. t.before.before.if1.false (b.byte_at.ensures ∙ e)) (λ e. t.if2.false (t.before.turn.ensures ∙ ap start_byte b.byte_at.ensures ∙ e))
+    let a = b.args in
+    c.line_begins-2.ensures ∙ runtime-prefix a.names.now a.at (λ e. t.if-b-eq10.false (b.byte_at-b.ensures ∙ e)) (λ e. t.if-turn-eq0.false (t.turn.ensures ∙ ap start_byte b.byte_at-b.ensures ∙ e))
 
-pub is-runtime-spec : {M : Type 1} → statement M
-is-runtime-spec =
+pub is_runtime_spec : {M : Type 1} → statement M
+is_runtime_spec =
     tie.close
     (tie.spec
     byte-at-requires

@@ -9,43 +9,43 @@ use Rattle.names.proofs.Lines.{ends-in, ends-out, ends-none}
 use Rattle.names.proofs.inner.count_lines.Statement.{statement}
 use Rattle.names.proofs.inner.count_lines.Tie as tie
 
-abbrev invariant-loop : tie.invariant-loop
+abbrev invariant-loop : tie.invariant-loop-i
 invariant-loop names lines₀ i₀ lines i = (i ≤ length names) × (lines ≤ i) × (lines + line_ends (drop i names) ≡ line_ends names)
 
-abbrev decreases-loop : tie.decreases-loop
+abbrev decreases-loop : tie.decreases-loop-i
 decreases-loop names lines₀ i₀ lines i = length names - i
 
-loop-holds : tie.Need-loop-init invariant-loop decreases-loop
+loop-holds : tie.Need-loop-i-init invariant-loop decreases-loop
 loop-holds c = (omega arith, omega arith, zero-add (line_ends c.args.names.now))
 
-shared-slice-read-if1 : tie.Need-shared-slice-read-if1 invariant-loop decreases-loop
+shared-slice-read-if1 : tie.Need-bounds-names-i invariant-loop decreases-loop
 shared-slice-read-if1 c = omega arith
 
-add-lines : tie.Need-overflow-add-lines invariant-loop decreases-loop
+add-lines : tie.Need-overflow_add-lines invariant-loop decreases-loop
 add-lines c = omega arith
 
-add-i : tie.Need-overflow-add-i invariant-loop decreases-loop
+add-i : tie.Need-overflow_add-i invariant-loop decreases-loop
 add-i c = omega arith
 
-loop-less : tie.Need-loop-smaller invariant-loop decreases-loop
+loop-less : tie.Need-loop-i-smaller invariant-loop decreases-loop
 loop-less c = omega arith
 
-loop-again : tie.Need-loop-preserved invariant-loop decreases-loop
+loop-again : tie.Need-loop-i-preserved invariant-loop decreases-loop
 loop-again c =
     let l = c.before.before.before in
-    let s = l.before.args.names.now in
-    let i = l.loop.i in
+    let s = l.args.names.now in
+    let i = l.loop-i.i in
     let inside : i < length s = omega arith in
-    ⊎_elim (λ w. (omega arith, omega arith, omega (arith, ends-in s i inside w.0.taken))) (λ w. (omega arith, omega arith, omega (arith, ends-out s i inside w.0.left))) c.if1.branch
+    ⊎_elim (λ w. (omega arith, omega arith, omega (arith, ends-in s i inside w.0.taken))) (λ w. (omega arith, omega arith, omega (arith, ends-out s i inside w.0.left))) c.if-names-i-eq10.branch
 
 returns : tie.Need-returns invariant-loop decreases-loop
 returns c =
-    let l = c.before.loop in
-    let s = c.before.before.args.names.now in
+    let l = c.loop-i in
+    let s = c.args.names.now in
     omega (arith, ends-none s l.i (omega arith))
 
-pub count-lines-spec : {M : Type 1} → statement M
-count-lines-spec =
+pub count_lines_spec : {M : Type 1} → statement M
+count_lines_spec =
     tie.close
     (tie.spec
     invariant-loop

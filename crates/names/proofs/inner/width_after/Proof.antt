@@ -10,31 +10,31 @@ use borrow.Author.Rules.{rules}
 use Rattle.names.proofs.inner.width_after.Statement.{statement}
 use Rattle.names.proofs.inner.width_after.Tie as tie
 
-returns : tie.Need-returns
-returns c = rw (lt-ltb 64 _ c.if1.true)
+returns : tie.Need-returns-then-width-gt64
+returns c = rw (lt-ltb 64 _ c.if-width-gt64.true)
 
-returns-2 : tie.Need-returns-2
-returns-2 c = rw (le-ltb 64 _ c.before.before.if1.false, eq-eqb _ 10 c.before.if2.true, ap is_zero c.if3.true)
+returns-2 : tie.Need-returns-then-width-eq0
+returns-2 c = rw (le-ltb 64 _ c.if-width-gt64.false, eq-eqb _ 10 c.if-b-eq10.true, ap is_zero c.if-width-eq0.true)
 
-returns-3 : tie.Need-returns-3
-returns-3 c = rw (le-ltb 64 _ c.before.before.if1.false, eq-eqb _ 10 c.before.if2.true, not-zero c.before.before.before.args.width (omega (arith, c.if3.false)))
+returns-3 : tie.Need-returns-else-width-eq0
+returns-3 c = rw (le-ltb 64 _ c.if-width-gt64.false, eq-eqb _ 10 c.if-b-eq10.true, not-zero c.args.width (omega (arith, c.if-width-eq0.false)))
 
-is-printable-requires : tie.Need-is-printable-requires
+is-printable-requires : tie.Need-is_printable-requires
 is-printable-requires c κs = search rules
 
-add-result : tie.Need-overflow-add-result
+add-result : tie.Need-overflow_add-result
 add-result c = search rules
 
-returns-4 : tie.Need-returns-4
+returns-4 : tie.Need-returns-then-is_printable
 returns-4 c =
-    rw (le-ltb 64 _ c.before.before.before.if1.false, ne_eqb _ 10 c.before.before.if2.false, sym c.before.is-printable.ensures ∙ c.if4.true)
-    (add-one c.before.before.before.before.args.width)
+    rw (le-ltb 64 _ c.if-width-gt64.false, ne_eqb _ 10 c.if-b-eq10.false, sym c.is_printable.ensures ∙ c.if-is_printable.true)
+    (add-one c.args.width)
 
-returns-5 : tie.Need-returns-5
+returns-5 : tie.Need-returns-else-is_printable
 returns-5 c =
-    rw (le-ltb 64 _ c.before.before.before.if1.false, ne_eqb _ 10 c.before.before.if2.false, sym c.before.is-printable.ensures ∙ c.if4.false)
+    rw (le-ltb 64 _ c.if-width-gt64.false, ne_eqb _ 10 c.if-b-eq10.false, sym c.is_printable.ensures ∙ c.if-is_printable.false)
 
-pub width-after-spec : {M : Type 1} → statement M
-width-after-spec =
+pub width_after_spec : {M : Type 1} → statement M
+width_after_spec =
     tie.close
     (tie.spec returns returns-2 returns-3 is-printable-requires add-result returns-4 returns-5)

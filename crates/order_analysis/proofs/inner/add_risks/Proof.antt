@@ -21,12 +21,12 @@ use Rattle.order_analysis.proofs.inner.add_risks.Tie as tie
 abbrev put : Project → ℕ → ℕ → Bool
 put p root = has (risk_of_entry p root)
 
-abbrev invariant-loop : tie.invariant-loop
+abbrev invariant-loop : tie.invariant-loop-k
 invariant-loop runtime dynamic bounds columns importers kinds targets dependencies members roots prepared labels sensitives eligibles out₀ count k₀ out k =
     (count ≡ length roots) × (k ≤ count) × (length out ≡ length out₀)
     × (out ≡ join out₀ (of_first (put (read (table runtime dynamic bounds columns) importers kinds targets dependencies members)) roots out₀ k))
 
-abbrev decreases-loop : tie.decreases-loop
+abbrev decreases-loop : tie.decreases-loop-k
 decreases-loop runtime dynamic bounds columns importers kinds targets dependencies members roots prepared labels sensitives eligibles out₀ count k₀ out k = count - k
 
 abbrev Start : Type 0
@@ -36,66 +36,66 @@ abbrev of : Start → Project
 of e = let a = e.args in read (table a.runtime a.dynamic a.bounds.now a.columns.now) a.importers.now a.kinds.now a.targets.now a.dependencies.now a.members.now
 
 abbrev Loop : Type 0
-Loop = tie.At-loop invariant-loop decreases-loop
+Loop = tie.At-loop-k invariant-loop decreases-loop
 
 abbrev entry : Loop → Start
 entry l = l.before.before.before.before.before.before.before.before.before.before.before.before.before.before
 
 abbrev root : Loop → ℕ
-root l = get_or (entry l).args.roots.now l.loop.k 0
+root l = get_or (entry l).args.roots.now l.loop-k.k 0
 
 -- the chunk that was found is the root's entry chunk
-found : (t : tie.After-find-entry invariant-loop decreases-loop) → let l = t.before.before.before in Entry (of (entry l)) (root l) t.find-entry.result
+found : (t : tie.After-find_entry-chunk invariant-loop decreases-loop) → let l = t.before.before.before in Entry (of (entry l)) (root l) t.find_entry-chunk.result
 found t =
     let l = t.before.before.before in
     let e = entry l in
-    let f = t.find-entry.ensures in
-    let h : Memᴰ (root l) e.args.roots.now = get_d-mem e.args.roots.now l.loop.k (omega (arith, t.before.before.loop-test.true, l.loop.invariant.0)) in
-    (f.some (λ z. true≢false (sym (root-analysed (of e) (root l) (subst (Memᴰ (root l)) e.pre.0 h)) ∙ f.none z))).1
+    let f = t.find_entry-chunk.ensures in
+    let h : Memᴰ (root l) e.args.roots.now = get_d-mem e.args.roots.now l.loop-k.k (omega (arith, t.loop-k-test.true, l.loop-k.invariant.0)) in
+    (f.some (λ z. true≢false (sym (root-analysed (of e) (root l) (subst (Memᴰ (root l)) e.requires.0 h)) ∙ f.none z))).1
 
-loop-holds : tie.Need-loop-init invariant-loop decreases-loop
+loop-holds : tie.Need-loop-k-init invariant-loop decreases-loop
 loop-holds c = let e = c.before.before.before.before.before.before.before.before.before.before.before.before.before in (refl, omega arith, refl, roots-start (put (of e)) e.args.roots.now e.args.out.now)
 
-find-entry-requires : tie.Need-find-entry-requires invariant-loop decreases-loop
-find-entry-requires c κs = c.before.before.before.before.before.before.before.before.before.before.before.before.before.before.before.before.requires.1.basis.accepted
+find-entry-requires : tie.Need-find_entry-chunk-requires invariant-loop decreases-loop
+find-entry-requires c κs = c.requires.1.basis.accepted
 
-add-entry-risk-requires : tie.Need-add-entry-risk-requires invariant-loop decreases-loop
+add-entry-risk-requires : tie.Need-add_entry_risk-requires invariant-loop decreases-loop
 add-entry-risk-requires c κs =
     let t = c.before in
     let l = c.before.before.before.before in
     let m = (entry l).requires.1 in
-    (m.columns, (m.basis.label, (record { accepted = m.basis.accepted; sensitive_set = m.basis.sensitive_set; eligible_set = m.basis.eligible_set }, record { entry = found t; size = l.loop.invariant.2 ∙ m.size })))
+    (m.columns, (m.basis.label, (record { accepted = m.basis.accepted; sensitive_set = m.basis.sensitive_set; eligible_set = m.basis.eligible_set }, record { entry = found t; size = l.loop-k.invariant.2 ∙ m.size })))
 
-add-k : tie.Need-overflow-add-k invariant-loop decreases-loop
-add-k c = let t = c.before.before.before.before.before.before.loop-test.true in let i = c.before.before.before.before.before.before.before.loop.invariant in let g = c.before.before.before.before.before.before.before.before.before.before.before.before.before.before.before.before.before.before.before.before.before.well-formed in search rules
+add-k : tie.Need-overflow_step-k invariant-loop decreases-loop
+add-k c = let t = c.loop-k-test.true in let i = c.loop-k.invariant in let g = c.well_formed in search rules
 
-loop-less : tie.Need-loop-smaller invariant-loop decreases-loop
-loop-less c = let t = c.before.before.before.before.before.before.loop-test.true in search rules
+loop-less : tie.Need-loop-k-smaller invariant-loop decreases-loop
+loop-less c = let t = c.loop-k-test.true in search rules
 
-loop-again : tie.Need-loop-preserved invariant-loop decreases-loop
+loop-again : tie.Need-loop-k-preserved invariant-loop decreases-loop
 loop-again c =
-    let r = c.before.before.add-entry-risk in
+    let r = c.add_entry_risk in
     let l = c.before.before.before.before.before.before.before in
     let e = entry l in
-    let t = c.before.before.before.before.before.before.loop-test.true in (
+    let t = c.loop-k-test.true in (
       refl,
       omega (arith, t),
-      r.auto.1.1.1.1.1.1.1.1.1.1.1.1.1.0 ∙ l.loop.invariant.2,
-      roots-put (put (of e)) e.args.roots.now e.args.out.now l.loop.k l.loop.out r.new.1.1.1.1.1.1.1.1.1.1.1.1.1.0 l.loop.invariant.3 (omega (arith, t, l.loop.invariant.0)) r.ensures,
+      r.auto.1.1.1.1.1.1.1.1.1.1.1.1.1.0 ∙ l.loop-k.invariant.2,
+      roots-put (put (of e)) e.args.roots.now e.args.out.now l.loop-k.k l.loop-k.out r.new.1.1.1.1.1.1.1.1.1.1.1.1.1.0 l.loop-k.invariant.3 (omega (arith, t, l.loop-k.invariant.0)) r.ensures,
     )
 
-same_length : tie.Need-same-length invariant-loop decreases-loop
-same_length c = c.before.loop.invariant.2
+same_length : tie.Need-shape_of-out invariant-loop decreases-loop
+same_length c = c.loop-k.invariant.2
 
 returns : tie.Need-returns invariant-loop decreases-loop
 returns c =
     let l = c.before in
     let e = entry l in
-    roots-end (put (of e)) e.args.roots.now e.args.out.now l.loop.k l.loop.out l.loop.invariant.3 (omega (arith, c.loop-test.false, l.loop.invariant.0))
-    ∙ ap (λ (xs : List ℕ). join e.args.out.now (λ (m : ℕ). any (λ (x : ℕ). put (of e) x m) xs)) e.pre.0
+    roots-end (put (of e)) e.args.roots.now e.args.out.now l.loop-k.k l.loop-k.out l.loop-k.invariant.3 (omega (arith, c.loop-k-test.false, l.loop-k.invariant.0))
+    ∙ ap (λ (xs : List ℕ). join e.args.out.now (λ (m : ℕ). any (λ (x : ℕ). put (of e) x m) xs)) e.requires.0
 
-pub add-risks-spec : {M : Type 1} → statement M
-add-risks-spec =
+pub add_risks_spec : {M : Type 1} → statement M
+add_risks_spec =
     tie.close
     (tie.spec
     invariant-loop

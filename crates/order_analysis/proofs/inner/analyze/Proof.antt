@@ -26,50 +26,50 @@ few e = omega (arith, e.requires.size, e.requires.accepted.sizes.normal)
 
 -- the count of chunks
 
-abbrev entry : tie.After-rows → tie.Start
+abbrev entry : tie.After-rows-chunks → tie.Start
 entry k = k.before.before.before.before.before.before.before.before.before
 
-abbrev count : tie.After-rows → ℕ
-count k = k.rows.result
+abbrev count : tie.After-rows-chunks → ℕ
+count k = k.rows-chunks.result
 
-counted : (k : tie.After-rows) → count k ≡ chunks (of (entry k))
+counted : (k : tie.After-rows-chunks) → count k ≡ chunks (of (entry k))
 unfolding table read
-counted k = k.rows.ensures
+counted k = k.rows-chunks.ensures
 
-few-chunks : (k : tie.After-rows) → count k ≤ 1024
+few-chunks : (k : tie.After-rows-chunks) → count k ≤ 1024
 few-chunks k = omega (arith, counted k, (entry k).requires.accepted.sizes.order)
 
 -- labels and marks, each made after the one before
 
-abbrev rows_before : tie.After-label-table → tie.After-rows
+abbrev rows_before : tie.After-label_table → tie.After-rows-chunks
 rows_before k = k.before.before
 
-labels-lent : (k : tie.After-label-table) → Lent 1024 (count (rows_before k)) k.label-table.new.1.1.1.1.1.1.1.1.1.0
-labels-lent k = record { fits = few-chunks (rows_before k); kept = k.label-table.auto.1.1.1.1.1.1.1.1.1.0 }
+labels-lent : (k : tie.After-label_table) → Lent 1024 (count (rows_before k)) k.label_table.new.1.1.1.1.1.1.1.1.1.0
+labels-lent k = record { fits = few-chunks (rows_before k); kept = k.label_table.auto.labels }
 
-abbrev labels-before : tie.After-prepare-table → tie.After-label-table
+abbrev labels-before : tie.After-prepare_table → tie.After-label_table
 labels-before k = k.before.before.before
 
-abbrev columns-before : tie.After-mark-table-sensitive → tie.After-prepare-table
+abbrev columns-before : tie.After-mark_table_sensitive → tie.After-prepare_table
 columns-before k = k.before.before.before
 
-abbrev sensitives-entry : tie.After-mark-table-sensitive → tie.Start
+abbrev sensitives-entry : tie.After-mark_table_sensitive → tie.Start
 sensitives-entry k = entry (rows_before (labels-before (columns-before k)))
 
-sensitives-lent : (k : tie.After-mark-table-sensitive) → Lent 4096 (size (sensitives-entry k)) k.mark-table-sensitive.new.1.1.1.1.1.1.1.1.1.0
-sensitives-lent k = record { fits = few (sensitives-entry k); kept = k.mark-table-sensitive.auto.1.1.1.1.1.1.1.1.1.0 }
+sensitives-lent : (k : tie.After-mark_table_sensitive) → Lent 4096 (size (sensitives-entry k)) k.mark_table_sensitive.new.1.1.1.1.1.1.1.1.1.0
+sensitives-lent k = record { fits = few (sensitives-entry k); kept = k.mark_table_sensitive.auto.marks }
 
-abbrev sensitives-before : tie.After-mark-table-eligible → tie.After-mark-table-sensitive
+abbrev sensitives-before : tie.After-mark_table_eligible → tie.After-mark_table_sensitive
 sensitives-before k = k.before.before.before
 
-abbrev eligibles-entry : tie.After-mark-table-eligible → tie.Start
+abbrev eligibles-entry : tie.After-mark_table_eligible → tie.Start
 eligibles-entry k = sensitives-entry (sensitives-before k)
 
-eligibles-lent : (k : tie.After-mark-table-eligible) → Lent 4096 (size (eligibles-entry k)) k.mark-table-eligible.new.1.1.1.1.1.1.1.1.1.0
-eligibles-lent k = record { fits = few (eligibles-entry k); kept = k.mark-table-eligible.auto.1.1.1.1.1.1.1.1.1.0 }
+eligibles-lent : (k : tie.After-mark_table_eligible) → Lent 4096 (size (eligibles-entry k)) k.mark_table_eligible.new.1.1.1.1.1.1.1.1.1.0
+eligibles-lent k = record { fits = few (eligibles-entry k); kept = k.mark_table_eligible.auto.marks }
 
-made : (k : tie.After-mark-table-eligible) → let e = eligibles-entry k in let s = sensitives-before k in let o = columns-before s in let l = labels-before o in
-    Made (of e) (view 1024 (count (rows_before l)) l.label-table.last.1.1.1.1.1.1.1.1.1.0) o.prepare-table.last.1.1.1.1.1.1.1.1.1.0 (view 4096 (size e) s.mark-table-sensitive.last.1.1.1.1.1.1.1.1.1.0) (view 4096 (size e) k.mark-table-eligible.new.1.1.1.1.1.1.1.1.1.0) (size e)
+made : (k : tie.After-mark_table_eligible) → let e = eligibles-entry k in let s = sensitives-before k in let o = columns-before s in let l = labels-before o in
+    Made (of e) (view 1024 (count (rows_before l)) l.label_table.last.1.1.1.1.1.1.1.1.1.0) o.prepare_table.last.1.1.1.1.1.1.1.1.1.0 (view 4096 (size e) s.mark_table_sensitive.last.1.1.1.1.1.1.1.1.1.0) (view 4096 (size e) k.mark_table_eligible.new.1.1.1.1.1.1.1.1.1.0) (size e)
 made k =
     let e = eligibles-entry k in
     let s = sensitives-before k in
@@ -77,64 +77,64 @@ made k =
     let l = labels-before o in
     record {
       basis = record {
-        accepted = e.pre.accepted;
-        label = view-is (labels-lent l) ∙ l.label-table.ensures.same;
-        sensitive_set = view-is (sensitives-lent s) ∙ s.mark-table-sensitive.ensures;
-        eligible_set = view-is (eligibles-lent k) ∙ k.mark-table-eligible.ensures;
+        accepted = e.requires.accepted;
+        label = view-is (labels-lent l) ∙ l.label_table.ensures.same;
+        sensitive_set = view-is (sensitives-lent s) ∙ s.mark_table_sensitive.ensures;
+        eligible_set = view-is (eligibles-lent k) ∙ k.mark_table_eligible.ensures;
       };
-      columns = o.prepare-table.ensures;
-      size = e.pre.size;
+      columns = o.prepare_table.ensures;
+      size = e.requires.size;
     }
 
-array-borrow-prefix-labels : tie.Need-array-borrow-prefix-labels
+array-borrow-prefix-labels : tie.Need-slice_bounds-labels-end
 array-borrow-prefix-labels c = few-chunks c
 
-slice-aggregate-label-table : tie.Need-slice-aggregate-label-table
+slice-aggregate-label-table : tie.Need-slice_bounds-label_table-end
 slice-aggregate-label-table c = let k = c.before in sym (part_length 1024 (count k) (few-chunks k))
 
-label-table-requires : tie.Need-label-table-requires
+label-table-requires : tie.Need-label_table-requires
 label-table-requires c κs = let k = c.before in record { accepted = (entry k).requires.accepted; size = part_length 1024 (count k) (few-chunks k) ∙ counted k }
 
-slice-aggregate-mark-table-sensitive : tie.Need-slice-aggregate-mark-table-sensitive
+slice-aggregate-mark-table-sensitive : tie.Need-slice_bounds-mark_table_sensitive-end
 slice-aggregate-mark-table-sensitive c = let e = entry (rows_before (labels-before c.before.before)) in sym (part_length 4096 (size e) (few e))
 
-mark-table-sensitive-requires : tie.Need-mark-table-sensitive-requires
-mark-table-sensitive-requires c κs = let e = entry (rows_before (labels-before c.before.before)) in record { accepted = e.pre.accepted; size = part_length 4096 (size e) (few e) ∙ e.pre.size }
+mark-table-sensitive-requires : tie.Need-mark_table_sensitive-requires
+mark-table-sensitive-requires c κs = let e = entry (rows_before (labels-before c.before.before)) in record { accepted = e.requires.accepted; size = part_length 4096 (size e) (few e) ∙ e.requires.size }
 
-array-borrow-prefix-eligibles : tie.Need-array-borrow-prefix-eligibles
+array-borrow-prefix-eligibles : tie.Need-slice_bounds-eligibles-end
 array-borrow-prefix-eligibles c = few (sensitives-entry c.before)
 
-slice-aggregate-mark-table-eligible : tie.Need-slice-aggregate-mark-table-eligible
+slice-aggregate-mark-table-eligible : tie.Need-slice_bounds-mark_table_eligible-end
 slice-aggregate-mark-table-eligible c = let e = sensitives-entry c.before.before in sym (part_length 4096 (size e) (few e))
 
-mark-table-eligible-requires : tie.Need-mark-table-eligible-requires
-mark-table-eligible-requires c κs = let e = sensitives-entry c.before.before in record { accepted = e.pre.accepted; size = part_length 4096 (size e) (few e) ∙ e.pre.size }
+mark-table-eligible-requires : tie.Need-mark_table_eligible-requires
+mark-table-eligible-requires c κs = let e = sensitives-entry c.before.before in record { accepted = e.requires.accepted; size = part_length 4096 (size e) (few e) ∙ e.requires.size }
 
-array-share-prefix-labels : tie.Need-array-share-prefix-labels
+array-share-prefix-labels : tie.Need-slice_bounds-labels-end-2
 array-share-prefix-labels c = view-room (labels-lent (labels-before (columns-before (sensitives-before c.before.before))))
 
-slice-aggregate-plan-risks-2 : tie.Need-slice-aggregate-plan-risks-2
+slice-aggregate-plan-risks-2 : tie.Need-slice_bounds-plan_risks-end-2
 slice-aggregate-plan-risks-2 c = sym (view-length (labels-lent (labels-before (columns-before (sensitives-before c.before.before.before)))))
 
-array-share-prefix-sensitives : tie.Need-array-share-prefix-sensitives
+array-share-prefix-sensitives : tie.Need-slice_bounds-sensitives-end-2
 array-share-prefix-sensitives c = view-room (sensitives-lent (sensitives-before c.before.before.before))
 
-slice-aggregate-plan-risks-3 : tie.Need-slice-aggregate-plan-risks-3
+slice-aggregate-plan-risks-3 : tie.Need-slice_bounds-plan_risks-end-3
 slice-aggregate-plan-risks-3 c = sym (view-length (sensitives-lent (sensitives-before c.before.before.before.before)))
 
-array-share-prefix-eligibles : tie.Need-array-share-prefix-eligibles
+array-share-prefix-eligibles : tie.Need-slice_bounds-eligibles-end-2
 array-share-prefix-eligibles c = view-room (eligibles-lent c.before.before.before.before)
 
-slice-aggregate-plan-risks-4 : tie.Need-slice-aggregate-plan-risks-4
+slice-aggregate-plan-risks-4 : tie.Need-slice_bounds-plan_risks-end-4
 slice-aggregate-plan-risks-4 c = sym (view-length (eligibles-lent c.before.before.before.before.before))
 
-plan-risks-requires : tie.Need-plan-risks-requires
+plan-risks-requires : tie.Need-plan_risks-requires
 plan-risks-requires c κs = made c.before.before.before.before.before.before
 
 returns : tie.Need-returns
-returns c = let q = c.before.before.before.before.plan-risks.ensures in (q, c.count-marked.ensures ∙ ap ones q)
+returns c = let q = c.plan_risks.ensures in (q, c.count_marked.ensures ∙ ap ones q)
 
-pub analyze-spec : {M : Type 1} → statement M
-analyze-spec =
+pub analyze_spec : {M : Type 1} → statement M
+analyze_spec =
     tie.close
     (tie.spec (λ c κs. search rules) array-borrow-prefix-labels slice-aggregate-label-table label-table-requires (λ c. search rules) (λ c κs. search rules) (λ c. search rules) slice-aggregate-mark-table-sensitive mark-table-sensitive-requires array-borrow-prefix-eligibles slice-aggregate-mark-table-eligible mark-table-eligible-requires (λ c. search rules) array-share-prefix-labels slice-aggregate-plan-risks-2 array-share-prefix-sensitives slice-aggregate-plan-risks-3 array-share-prefix-eligibles slice-aggregate-plan-risks-4 plan-risks-requires (λ c κs. search rules) (λ c. search rules) returns)

@@ -18,33 +18,33 @@ of e = let a = e.args in read (table a.runtime a.dynamic a.bounds.now a.columns.
 
 -- the marks of the risks, and of the seed rows besides
 
-abbrev risked : tie.After-mark-table-seeds → List ℕ
-risked k = k.before.before.before.before.mark-risks.new.1.1.1.1.1.1.1.1.1.1.1.1.1.0
+abbrev risked : tie.After-mark_table_seeds → List ℕ
+risked k = k.mark_risks.new.1.1.1.1.1.1.1.1.1.1.1.1.1.0
 
-abbrev seeded : tie.After-mark-table-seeds → List ℕ
-seeded k = k.mark-table-seeds.new.1.1.1.1.1.1.1.1.1.1.0
+abbrev seeded : tie.After-mark_table_seeds → List ℕ
+seeded k = k.mark_table_seeds.new.1.1.1.1.1.1.1.1.1.1.0
 
-mark-table-seeds-requires : tie.Need-mark-table-seeds-requires
+mark-table-seeds-requires : tie.Need-mark_table_seeds-requires
 mark-table-seeds-requires c κs =
     let e = c.before.before.before.before.before.before.before.before.before.before.before.before.before.before.before.before.before in
     let p = of e in
     let ok = e.requires.basis.accepted in
-    (record { accepted = ok; size = ap length e.requires.basis.eligible_set ∙ length-marks_of (eligible p) (modules p) }, record { accepted = ok; size = ap length c.before.before.before.mark-risks.ensures ∙ length-marks_of (risks_of p) (modules p) })
+    (record { accepted = ok; size = ap length e.requires.basis.eligible_set ∙ length-marks_of (eligible p) (modules p) }, record { accepted = ok; size = ap length c.mark_risks.ensures ∙ length-marks_of (risks_of p) (modules p) })
 
-build-order-wrap-plan-requires : tie.Need-build-order-wrap-plan-requires
+build-order-wrap-plan-requires : tie.Need-build_order_wrap_plan-requires
 build-order-wrap-plan-requires c κs =
     let k = c.before.before.before in
     let e = c.before.before.before.before.before.before.before.before.before.before.before.before.before.before.before.before.before.before.before.before.before in
-    (e.requires.basis, whole-marked (of e) e.args.eligibles.now e.requires.basis.eligible_set (risked k) (seeded k) c.before.before.before.before.before.before.before.mark-risks.ensures k.mark-table-seeds.ensures)
+    (e.requires.basis, whole-marked (of e) e.args.eligibles.now e.requires.basis.eligible_set (risked k) (seeded k) c.mark_risks.ensures k.mark_table_seeds.ensures)
 
 returns : tie.Need-returns
 returns c =
     let k = c.before.before.before.before.before.before in
     let e = c.before.before.before.before.before.before.before.before.before.before.before.before.before.before.before.before.before.before.before.before.before.before.before.before in
-    let b = c.before.before.build-order-wrap-plan in
-    whole-planned (of e) e.args.eligibles.now e.requires.basis.eligible_set (risked k) (seeded k) c.before.before.before.before.before.before.before.before.before.before.mark-risks.ensures k.mark-table-seeds.ensures b.new.1.1.1.1.1.1.1.1.1.1.1.1.0 b.ensures
+    let b = c.build_order_wrap_plan in
+    whole-planned (of e) e.args.eligibles.now e.requires.basis.eligible_set (risked k) (seeded k) c.mark_risks.ensures k.mark_table_seeds.ensures b.new.1.1.1.1.1.1.1.1.1.1.1.1.0 b.ensures
 
-pub plan-risks-spec : {M : Type 1} → statement M
-plan-risks-spec =
+pub plan_risks_spec : {M : Type 1} → statement M
+plan_risks_spec =
     tie.close
     (tie.spec (λ c κs. search rules) mark-table-seeds-requires build-order-wrap-plan-requires (λ c. search rules) returns)

@@ -23,53 +23,53 @@ module _ (e : tie.Start) where
   of = read w e.args.importers.now e.args.kinds.now e.args.targets.now e.args.dependencies.now e.args.members.now
 
   ok : Accepted of
-  ok = e.pre.1.0
+  ok = e.requires.1.0
 
-abbrev entry : tie.After-arranged → tie.Start
+abbrev entry : tie.After-arranged-1 → tie.Start
 entry k = k.before.before.before.before.before.before.before.before.before.before
 
 -- the members that were made
-abbrev made : tie.After-read-members → List ℕ
-made k = k.read-members.new.1.1.1.1.1.1.1.1.1.1.0
+abbrev made : tie.After-read_members → List ℕ
+made k = k.read_members.new.1.1.1.1.1.1.1.1.1.1.0
 
-array-borrow-prefix-arranged : tie.Need-array-borrow-prefix-arranged
+array-borrow-prefix-arranged : tie.Need-slice_bounds-arranged-end
 array-borrow-prefix-arranged c = let e = c.before.before.before.before.before.before.before.before.before in members.members-room (w e) e.args.importers.now e.args.kinds.now e.args.targets.now e.args.dependencies.now e.args.members.now e.args.names.now (ok e)
 
-slice-aggregate-read-members : tie.Need-slice-aggregate-read-members
+slice-aggregate-read-members : tie.Need-slice_bounds-read_members-end
 slice-aggregate-read-members c = let e = entry c in sym (members.members-part (w e) e.args.importers.now e.args.kinds.now e.args.targets.now e.args.dependencies.now e.args.members.now e.args.names.now (ok e))
 
-read-members-requires : tie.Need-read-members-requires
-read-members-requires c κs = let e = entry c in (members.members-places (w e) e.args.importers.now e.args.kinds.now e.args.targets.now e.args.dependencies.now e.args.members.now e.args.names.now (ok e), e.pre.0)
+read-members-requires : tie.Need-read_members-requires
+read-members-requires c κs = let e = entry c in (members.members-places (w e) e.args.importers.now e.args.kinds.now e.args.targets.now e.args.dependencies.now e.args.members.now e.args.names.now (ok e), e.requires.0)
 
-array-share-prefix-arranged : tie.Need-array-share-prefix-arranged
-array-share-prefix-arranged c = let k = c.before in let e = entry k.before in members.made-room (w e) e.args.importers.now e.args.kinds.now e.args.targets.now e.args.dependencies.now e.args.members.now e.args.names.now (ok e) k.read-members.ensures
+array-share-prefix-arranged : tie.Need-slice_bounds-arranged-end-2
+array-share-prefix-arranged c = let k = c.before in let e = entry k.before in members.made-room (w e) e.args.importers.now e.args.kinds.now e.args.targets.now e.args.dependencies.now e.args.members.now e.args.names.now (ok e) k.read_members.ensures
 
-slice-aggregate-mark-order-risk : tie.Need-slice-aggregate-mark-order-risk
-slice-aggregate-mark-order-risk c = let k = c.before.before in let e = entry k.before in members.made-part (w e) e.args.importers.now e.args.kinds.now e.args.targets.now e.args.dependencies.now e.args.members.now e.args.names.now (ok e) k.read-members.ensures
+slice-aggregate-mark-order-risk : tie.Need-slice_bounds-mark_order_risk-end
+slice-aggregate-mark-order-risk c = let k = c.before.before in let e = entry k.before in members.made-part (w e) e.args.importers.now e.args.kinds.now e.args.targets.now e.args.dependencies.now e.args.members.now e.args.names.now (ok e) k.read_members.ensures
 
-own : (k : tie.After-read-members) → let e = entry k.before in read (w e) e.args.importers.now e.args.kinds.now e.args.targets.now e.args.dependencies.now (take (length e.args.members.now) (made k ++ drop (length e.args.members.now) (replicate 16384 0))) ≡ named (of e) e.args.names.now
-own k = let e = entry k.before in members.made-own (w e) e.args.importers.now e.args.kinds.now e.args.targets.now e.args.dependencies.now e.args.members.now e.args.names.now (ok e) k.read-members.ensures
+own : (k : tie.After-read_members) → let e = entry k.before in read (w e) e.args.importers.now e.args.kinds.now e.args.targets.now e.args.dependencies.now (take (length e.args.members.now) (made k ++ drop (length e.args.members.now) (replicate 16384 0))) ≡ named (of e) e.args.names.now
+own k = let e = entry k.before in members.made-own (w e) e.args.importers.now e.args.kinds.now e.args.targets.now e.args.dependencies.now e.args.members.now e.args.names.now (ok e) k.read_members.ensures
 
 entered-named : (p : Project) (names : List ℕ) {root chunk room : ℕ} → Entered p root chunk room → Entered (named p names) root chunk room
 unfolding named read
 entered-named p names d = record { entry = entry_named p names d.entry; size = d.size }
 
-mark-order-risk-requires : tie.Need-mark-order-risk-requires
+mark-order-risk-requires : tie.Need-mark_order_risk-requires
 mark-order-risk-requires c κs =
     let k = c.before.before.before in
     let e = entry k.before in
-    subst (λ (p : Project). Accepted p × Entered p e.args.root e.args.chunk (length e.args.out.now)) (sym (own k)) (named-accepted (of e) (ok e) e.args.names.now, entered-named (of e) e.args.names.now e.pre.1.1)
+    subst (λ (p : Project). Accepted p × Entered p e.args.root e.args.chunk (length e.args.out.now)) (sym (own k)) (named-accepted (of e) (ok e) e.args.names.now, entered-named (of e) e.args.names.now e.requires.1.1)
 
 returns : tie.Need-returns
 returns c =
     let k = c.before.before.before.before.before.before in
     let e = entry k.before in
-    let done = c.before.before.mark-order-risk in
+    let done = c.mark_order_risk in
     let out : List ℕ = done.new.1.1.1.1.1.1.1.1.1.0 in
     subst (λ (p : Project). Marked (order_risk_of_entry p e.args.root) out done.result) (own k) done.ensures
 
-pub mark-named-order-risk-spec : {M : Type 1} → statement M
-mark-named-order-risk-spec =
+pub mark_named_order_risk_spec : {M : Type 1} → statement M
+mark_named_order_risk_spec =
     tie.close
     (tie.spec
     array-borrow-prefix-arranged

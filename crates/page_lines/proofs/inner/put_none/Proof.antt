@@ -9,7 +9,7 @@ use Rattle.page_lines.proofs.inner.put_none.Statement.{statement}
 use Rattle.page_lines.proofs.inner.put_none.Tie as tie
 
 returns : tie.Need-returns
-returns c = put_as (right_is (bytes "-") 7 refl) (put_then c.before.before.before.before.before.before.put-spaces.ensures c.before.before.put_byte.ensures)
+returns c = put_as (right_is (bytes "-") 7 refl) (put_then c.put_spaces-p.ensures c.put_byte.ensures)
 
-pub put-none-spec : {M : Type 1} → statement M
-put-none-spec = tie.close (tie.spec (λ c κs. search rules) (λ c κs. search rules) (λ c. search rules) returns)
+pub put_none_spec : {M : Type 1} → statement M
+put_none_spec = tie.close (tie.spec (λ c κs. search rules) (λ c κs. search rules) (λ c. search rules) returns)

@@ -8,11 +8,11 @@ use borrow.Author.Rules.{rules}
 use Rattle.page_lines.proofs.inner.put_planned.Statement.{statement}
 use Rattle.page_lines.proofs.inner.put_planned.Tie as tie
 
-returns : tie.Need-returns
-returns c = put_as (ap (λ (b : Bool). cond b (bytes "yes") (bytes " no")) (sym c.before.before.before.before.before.if1.true)) c.before.before.put-bytes.ensures
+returns : tie.Need-returns-then-planned
+returns c = put_as (ap (λ (b : Bool). cond b (bytes "yes") (bytes " no")) (sym c.if-planned.true)) c.put_bytes.ensures
 
-returns-2 : tie.Need-returns-2
-returns-2 c = put_as (ap (λ (b : Bool). cond b (bytes "yes") (bytes " no")) (sym c.before.before.before.before.before.if1.false)) c.before.before.put-bytes2.ensures
+returns-2 : tie.Need-returns
+returns-2 c = put_as (ap (λ (b : Bool). cond b (bytes "yes") (bytes " no")) (sym c.if-planned.false)) c.put_bytes-2.ensures
 
-pub put-planned-spec : {M : Type 1} → statement M
-put-planned-spec = tie.close (tie.spec (λ c. search rules) (λ c κs. search rules) (λ c. search rules) returns (λ c. search rules) (λ c κs. search rules) (λ c. search rules) returns-2)
+pub put_planned_spec : {M : Type 1} → statement M
+put_planned_spec = tie.close (tie.spec (λ c. search rules) (λ c κs. search rules) (λ c. search rules) returns (λ c. search rules) (λ c κs. search rules) (λ c. search rules) returns-2)

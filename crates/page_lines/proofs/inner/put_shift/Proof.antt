@@ -14,11 +14,11 @@ use borrow.Author.Rules.{rules}
 use Rattle.page_lines.proofs.inner.put_shift.Statement.{statement}
 use Rattle.page_lines.proofs.inner.put_shift.Tie as tie
 
-returns : tie.Need-returns
-returns c = let e = c.before.before.before.before.before.before in put_as (ap right (sym (shift-unexpected e.args.expected e.args.actual c.before.before.before.before.if1.true))) c.before.before.put-none.ensures
+returns : tie.Need-returns-then-expected-eq0
+returns c = let e = c.before.before.before.before.before.before in put_as (ap right (sym (shift-unexpected e.args.expected e.args.actual c.if-expected-eq0.true))) c.put_none.ensures
 
-returns-2 : tie.Need-returns-2
-returns-2 c = let e = c.before.before.before.before.before.before.before in put_as (ap right (sym (shift-absent e.args.expected e.args.actual c.before.before.before.before.if2.true))) c.before.before.put-none2.ensures
+returns-2 : tie.Need-returns-then-actual-eq0
+returns-2 c = let e = c.before.before.before.before.before.before.before in put_as (ap right (sym (shift-absent e.args.expected e.args.actual c.if-actual-eq0.true))) c.put_none-then-actual-eq0.ensures
 
 -- the two places, and the difference as it is handed on
 module _ (x : tie.After-shift) where
@@ -32,24 +32,24 @@ module _ (x : tie.After-shift) where
   expected = start.args.expected - 1
 
   actual-in : actual < 4096
-  actual-in = omega (arith, start.pre.1, x.before.before.if2.left)
+  actual-in = omega (arith, start.requires.1, x.if-actual-eq0.left)
 
   expected-in : expected < 4096
-  expected-in = omega (arith, start.pre.0, x.before.before.before.if1.left)
+  expected-in = omega (arith, start.requires.0, x.if-expected-eq0.left)
 
   known : to_z w32 (of_z w32 x.shift.result) ≡ pos actual -ℤ pos expected
   known = ap (λ (z : ℤ). to_z w32 (of_z w32 z)) x.shift.ensures ∙ to_z-of_z w32 (pos actual -ℤ pos expected) (sub-fits actual expected actual-in expected-in)
 
-put-signed-requires : tie.Need-put-signed-requires
+put-signed-requires : tie.Need-put_signed-requires
 put-signed-requires c κs = (rw (known c) (abs-sub (actual c) (expected c) (actual-in c) (expected-in c)), (start c).requires.2)
 
-returns-3 : tie.Need-returns-3
+returns-3 : tie.Need-returns
 returns-3 c =
     let x = c.before.before.before in
     let e = c.before.before.before.before.before.before.before.before in
-    put_as (ap right (ap signed (known x) ∙ sym (shift-both e.args.expected e.args.actual (expected x) (actual x) (omega (arith, c.before.before.before.before.before.before.if1.false)) (omega (arith, c.before.before.before.before.before.if2.false))))) c.before.before.put-signed.ensures
+    put_as (ap right (ap signed (known x) ∙ sym (shift-both e.args.expected e.args.actual (expected x) (actual x) (omega (arith, c.if-expected-eq0.false)) (omega (arith, c.if-actual-eq0.false))))) c.put_signed.ensures
 
-pub put-shift-spec : {M : Type 1} → statement M
-put-shift-spec =
+pub put_shift_spec : {M : Type 1} → statement M
+put_shift_spec =
     tie.close
     (tie.spec (λ c κs. search rules) (λ c. search rules) returns (λ c κs. search rules) (λ c. search rules) returns-2 (λ c. search rules) (λ c. search rules) (λ c κs. search rules) put-signed-requires (λ c. search rules) returns-3)

@@ -16,55 +16,55 @@ use Rattle.page_lines.proofs.inner.put_signed.Tie as tie
 
 -- the number without its sign, its length, and the sign that the machine tests
 
-sized : (x : tie.After-size) → x.size.result ≡ nat_abs x.before.before.args.d
-sized x = let e = x.before.before in x.size.ensures ∙ ap nat_abs (back e.args.d e.requires.0)
+sized : (x : tie.After-size-n) → x.size-n.result ≡ nat_abs x.args.d
+sized x = let e = x.before.before in x.size-n.ensures ∙ ap nat_abs (back e.args.d e.requires.0)
 
-few : (x : tie.After-size) → length (number x.size.result) ≤ 4
-few x = let e = x.before.before in four-digits x.size.result (omega (arith, sized x, e.requires.0))
+few : (x : tie.After-size-n) → length (number x.size-n.result) ≤ 4
+few x = let e = x.before.before in four-digits x.size-n.result (omega (arith, sized x, e.requires.0))
 
-below : (x : tie.Then1) → lt_z x.before.before.before.args.d (pos 0) ≡ true
-below x = let e = x.before.before.before in rw (back e.args.d e.requires.0) at x.if1.true
+below : (x : tie.Then-d-lt0) → lt_z x.args.d (pos 0) ≡ true
+below x = let e = x.before.before.before in rw (back e.args.d e.requires.0) at x.if-d-lt0.true
 
-above : (x : tie.Else1) → lt_z x.before.before.before.args.d (pos 0) ≡ false
-above x = let e = x.before.before.before in rw (back e.args.d e.requires.0) at x.if1.false
+above : (x : tie.Else-d-lt0) → lt_z x.args.d (pos 0) ≡ false
+above x = let e = x.before.before.before in rw (back e.args.d e.requires.0) at x.if-d-lt0.false
 
-size-requires : tie.Need-size-requires
+size-requires : tie.Need-size-n-requires
 size-requires c κs = let e = c.before in rw (back e.args.d e.requires.0) e.requires.0
 
-sub-put-spaces : tie.Need-overflow-sub-put-spaces
-sub-put-spaces c = omega (arith, c.before.number-len.ensures, few c.before.before.before)
+sub-put-spaces : tie.Need-overflow_sub-k
+sub-put-spaces c = omega (arith, c.number_len-k.ensures, few c.before.before.before)
 
-put-byte-requires : tie.Need-put-byte-requires
+put-byte-requires : tie.Need-put_byte-q-requires
 put-byte-requires c κs =
-    let s = c.before.before.before.put-spaces in
-    let k = c.before.before.before.before.before.number-len in
-    omega (arith, k.ensures, few c.before.before.before.before.before.before.before, s.ensures.next, s.auto.0, c.before.before.before.before.before.before.before.before.before.requires.1, length-replicate {A = ℕ} (7 - k.result) 32)
+    let s = c.put_spaces-p in
+    let k = c.number_len-k in
+    omega (arith, k.ensures, few c.before.before.before.before.before.before.before, s.ensures.next, s.auto.0, c.requires.1, length-replicate {A = ℕ} (7 - k.result) 32)
 
-put-number-requires : tie.Need-put-number-requires
+put-number-requires : tie.Need-put_number-requires
 put-number-requires c κs =
-    let s = c.before.before.before.before.before.before.before.put-spaces in
-    let b = c.before.before.before.put_byte in
-    let k = c.before.before.before.before.before.before.before.before.before.number-len in
-    omega (arith, k.ensures, few c.before.before.before.before.before.before.before.before.before.before.before, s.ensures.next, s.auto.0, b.ensures.next, b.auto.0, c.before.before.before.before.before.before.before.before.before.before.before.before.before.requires.1, length-replicate {A = ℕ} (7 - k.result) 32)
+    let s = c.put_spaces-p in
+    let b = c.put_byte-q in
+    let k = c.number_len-k in
+    omega (arith, k.ensures, few c.before.before.before.before.before.before.before.before.before.before.before, s.ensures.next, s.auto.0, b.ensures.next, b.auto.0, c.requires.1, length-replicate {A = ℕ} (7 - k.result) 32)
 
-returns : tie.Need-returns
+returns : tie.Need-returns-then-d-lt0
 returns c =
     let e = c.before.before.before.before.before.before.before.before.before.before.before.before.before.before.before.before in
-    let n = c.before.before.before.before.before.before.before.before.before.before.before.before.before.before.size in
-    let k = c.before.before.before.before.before.before.before.before.before.before.before.before.number-len in
+    let n = c.size-n in
+    let k = c.number_len-k in
     let text : signed e.args.d ≡ bytes "-" ++ number n.result = signed_below e.args.d (below c.before.before.before.before.before.before.before.before.before.before.before.before.before) ∙ ap (λ (i : ℕ). bytes "-" ++ number i) (sym (sized c.before.before.before.before.before.before.before.before.before.before.before.before.before.before)) in
     put_as (right_is (signed e.args.d) (7 - k.result) (omega (arith, ap length text, length-append (bytes "-") (number n.result), k.ensures)))
-    (put_as (ap (λ (l : List ℕ). replicate (7 - k.result) 32 ++ l) (sym text)) (put_then c.before.before.before.before.before.before.before.before.before.before.put-spaces.ensures (put_then c.before.before.before.before.before.before.put_byte.ensures c.before.before.put-number.ensures)))
+    (put_as (ap (λ (l : List ℕ). replicate (7 - k.result) 32 ++ l) (sym text)) (put_then c.put_spaces-p.ensures (put_then c.put_byte-q.ensures c.put_number.ensures)))
 
-put-number-right-requires : tie.Need-put-number-right-requires
+put-number-right-requires : tie.Need-put_number_right-requires
 put-number-right-requires c κs = let e = c.before.before.before.before in (omega (arith, sized c.before.before, e.requires.0), e.requires.1)
 
-returns-2 : tie.Need-returns-2
+returns-2 : tie.Need-returns
 returns-2 c =
     let e = c.before.before.before.before.before.before.before in
-    put_as (ap right (sym (signed-else e.args.d (above c.before.before.before.before) ∙ ap number (sym (sized c.before.before.before.before.before))))) c.before.before.put-number-right.ensures
+    put_as (ap right (sym (signed-else e.args.d (above c.before.before.before.before) ∙ ap number (sym (sized c.before.before.before.before.before))))) c.put_number_right.ensures
 
-pub put-signed-spec : {M : Type 1} → statement M
-put-signed-spec =
+pub put_signed_spec : {M : Type 1} → statement M
+put_signed_spec =
     tie.close
     (tie.spec size-requires (λ c κs. search rules) sub-put-spaces (λ c κs. search rules) put-byte-requires put-number-requires (λ c. search rules) returns put-number-right-requires (λ c. search rules) returns-2)

@@ -9,32 +9,32 @@ use Rattle.page_lines.proofs.inner.size.Tie as tie
 use Rattle.page_lines.proofs.inner.size.Reads as reads
 use Rattle.page_lines.proofs.inner.size.Lts as lts
 
-sub-result : tie.Need-overflow-sub-result
+sub-result : tie.Need-overflow_sub-result
 sub-result c =
-    let d = c.before.args.d in
-    let e = back d c.before.requires in
-    rw (e, turned d (rw e at c.if1.true)) (record { sfits = omega arith })
+    let d = c.args.d in
+    let e = back d c.requires in
+    rw (e, turned d (rw e at c.if-d-lt0.true)) (record { sfits = omega arith })
 
-cast-result : tie.Need-overflow-cast-result
+cast-result : tie.Need-overflow_cast-result
 cast-result c =
-    let d = c.before.args.d in
-    let e = back d c.before.requires in
-    rw (e, turned d (rw e at c.if1.true), back (pos (nat_abs d)) c.before.requires) (tt, record { fits = omega arith })
+    let d = c.args.d in
+    let e = back d c.requires in
+    rw (e, turned d (rw e at c.if-d-lt0.true), back (pos (nat_abs d)) c.requires) (tt, record { fits = omega arith })
 
-returns : tie.Need-returns
+returns : tie.Need-returns-then-d-lt0
 returns c =
-    let d = c.before.args.d in
-    let e = back d c.before.requires in
-    rw (e, turned d (rw e at c.if1.true), back (pos (nat_abs d)) c.before.requires)
+    let d = c.args.d in
+    let e = back d c.requires in
+    rw (e, turned d (rw e at c.if-d-lt0.true), back (pos (nat_abs d)) c.requires)
 
-cast-result-2 : tie.Need-overflow-cast-result-2
+cast-result-2 : tie.Need-overflow_cast-result-2
 cast-result-2 c =
-    let d = c.before.args.d in
-    let e = back d c.before.requires in
-    rw (e) (rw (kept d (rw e at c.if1.false)) (tt, record { fits = omega arith }))
+    let d = c.args.d in
+    let e = back d c.requires in
+    rw (e) (rw (kept d (rw e at c.if-d-lt0.false)) (tt, record { fits = omega arith }))
 
-returns-2 : tie.Need-returns-2
+returns-2 : tie.Need-returns
 returns-2 c = search rules
 
-pub size-spec : {M : Type 1} → statement M
-size-spec = tie.close (tie.spec sub-result cast-result returns cast-result-2 returns-2)
+pub size_spec : {M : Type 1} → statement M
+size_spec = tie.close (tie.spec sub-result cast-result returns cast-result-2 returns-2)

@@ -7,8 +7,8 @@ use borrow.Author.Rules.{rules}
 use Rattle.page_rows.proofs.inner.absent.Statement.{statement}
 use Rattle.page_rows.proofs.inner.absent.Tie as tie
 
-returns-2 : tie.Need-returns-2
-returns-2 c = sym (ap bit (not-zero c.before.args.place c.if1.false))
+returns-2 : tie.Need-returns
+returns-2 c = sym (ap bit (not-zero c.args.place c.if-place-eq0.false))
 
-pub absent-spec : {M : Type 1} → statement M
-absent-spec = tie.close (tie.spec (λ c. search rules) returns-2)
+pub absent_spec : {M : Type 1} → statement M
+absent_spec = tie.close (tie.spec (λ c. search rules) returns-2)

@@ -11,99 +11,99 @@ use Rattle.page_rows.proofs.inner.keep_marked.Tie as tie
 use Rattle.page_rows.proofs.inner.keep_marked.Reads as reads
 use Rattle.page_rows.proofs.inner.keep_marked.Lts as lts
 
-abbrev invariant-loop : tie.invariant-loop
+abbrev invariant-loop : tie.invariant-loop-k
 invariant-loop order marks kept₀ count₀ k₀ k-end kept count k = Kept (has marks) order kept₀ k count kept
 
-abbrev decreases-loop : tie.decreases-loop
+abbrev decreases-loop : tie.decreases-loop-k
 decreases-loop order marks kept₀ count₀ k₀ k-end kept count k = length order - k
 
 abbrev In : Type 0
-In = lts.In-loop reads.Pre reads.Post invariant-loop decreases-loop
+In = lts.In-loop-k reads.Pre reads.Post invariant-loop decreases-loop
 
 abbrev Loop : Type 0
-Loop = lts.At-loop reads.Pre reads.Post invariant-loop decreases-loop
+Loop = lts.At-loop-k reads.Pre reads.Post invariant-loop decreases-loop
 
 abbrev member : Loop → ℕ
-member l = get_or l.before.args.order.now l.loop.k 0
+member l = get_or l.args.order.now l.loop-k.k 0
 
 -- the member at k has a row
-there : (i : In) → member i.before < length i.before.before.args.marks.now
-there i = let l = i.before in l.before.requires.0.rows l.loop.k i.loop-test.true
+there : (i : In) → member i.before < length i.args.marks.now
+there i = let l = i.before in l.requires.0.rows l.loop-k.k i.loop-k-test.true
 
 -- a marked member has room
-fits : (i : In) → (get_or i.before.before.args.marks.now (member i.before) 0 ≡ 0 → ⊥) → i.before.loop.count < length i.before.before.args.kept.now
+fits : (i : In) → (get_or i.args.marks.now (member i.before) 0 ≡ 0 → ⊥) → i.loop-k.count < length i.args.kept.now
 fits i h =
     let l = i.before in
-    let a = l.before.args in
-    kept-room (has a.marks.now) a.order.now a.kept.now l.before.requires.1 l.loop.k l.loop.count l.loop.auto l.loop.invariant i.loop-test.true (has-yes a.marks.now (member l) h)
+    let a = l.args in
+    kept-room (has a.marks.now) a.order.now a.kept.now l.requires.1 l.loop-k.k l.loop-k.count l.loop-k.auto l.loop-k.invariant i.loop-k-test.true (has-yes a.marks.now (member l) h)
 
-size : (l : Loop) → length l.loop.kept ≡ length l.before.args.kept.now
-size l = let a = l.before.args in kept-size (has a.marks.now) a.order.now a.kept.now l.before.pre.1 l.loop.k l.loop.count l.loop.kept l.loop.inv
+size : (l : Loop) → length l.loop-k.kept ≡ length l.args.kept.now
+size l = let a = l.args in kept-size (has a.marks.now) a.order.now a.kept.now l.requires.room l.loop-k.k l.loop-k.count l.loop-k.kept l.loop-k.invariant
 
-loop-holds : tie.Need-loop-init invariant-loop decreases-loop
+loop-holds : tie.Need-loop-k-init invariant-loop decreases-loop
 loop-holds c = kept-start (has c.args.marks.now) c.args.order.now c.args.kept.now
 
-mul-m : tie.Need-overflow-mul-m invariant-loop decreases-loop
+mul-m : tie.Need-offset_bounds-order-k invariant-loop decreases-loop
 mul-m c = search rules
 
-shared-slice-read-m : tie.Need-shared-slice-read-m invariant-loop decreases-loop
+shared-slice-read-m : tie.Need-bounds-order-k invariant-loop decreases-loop
 shared-slice-read-m c = search rules
 
-cast-at : tie.Need-overflow-cast-at invariant-loop decreases-loop
-cast-at c = omega (arith, c.shared-slice-known.given c.before.before.loop.k)
+cast-at : tie.Need-overflow_cast-at invariant-loop decreases-loop
+cast-at c = omega (arith, c.shared_slice_known-1.given c.loop-k.k)
 
-mul-if1 : tie.Need-overflow-mul-if1 invariant-loop decreases-loop
-mul-if1 c = omega (arith, c.shared-slice-known.given c.before.before.loop.k)
+mul-if1 : tie.Need-offset_bounds-marks-at invariant-loop decreases-loop
+mul-if1 c = omega (arith, c.shared_slice_known-1.given c.loop-k.k)
 
-shared-slice-read-if1 : tie.Need-shared-slice-read-if1 invariant-loop decreases-loop
+shared-slice-read-if1 : tie.Need-bounds-marks-at invariant-loop decreases-loop
 shared-slice-read-if1 c = there c.before.before
 
-add-k : tie.Need-overflow-add-k invariant-loop decreases-loop
+add-k : tie.Need-overflow_step-k invariant-loop decreases-loop
 add-k c = search rules
 
-loop-less : tie.Need-loop-smaller invariant-loop decreases-loop
+loop-less : tie.Need-loop-k-smaller-then-marks-at-eq0 invariant-loop decreases-loop
 loop-less c = search rules
 
-loop-again : tie.Need-loop-preserved invariant-loop decreases-loop
+loop-again : tie.Need-loop-k-preserved-then-marks-at-eq0 invariant-loop decreases-loop
 loop-again c =
     let i = c.before.before.before in
     let l = i.before in
-    let a = l.before.args in
-    kept_out (has a.marks.now) a.order.now a.kept.now l.before.requires.1 l.loop.k l.loop.count l.loop.auto l.loop.invariant i.loop-test.true (has-not a.marks.now (member l) c.if1.true)
+    let a = l.args in
+    kept_out (has a.marks.now) a.order.now a.kept.now l.requires.1 l.loop-k.k l.loop-k.count l.loop-k.auto l.loop-k.invariant i.loop-k-test.true (has-not a.marks.now (member l) c.if-marks-at-eq0.true)
 
-mul-kept : tie.Need-overflow-mul-kept invariant-loop decreases-loop
-mul-kept c = let i = c.before.before.before in omega (arith, fits i c.if1.false, size i.before)
+mul-kept : tie.Need-offset_bounds-kept-count invariant-loop decreases-loop
+mul-kept c = let i = c.before.before.before in omega (arith, fits i c.if-marks-at-eq0.false, size i.before)
 
-slice-write-kept : tie.Need-slice-write-kept invariant-loop decreases-loop
-slice-write-kept c = let i = c.before.before.before in omega (arith, fits i c.if1.false, size i.before)
+slice-write-kept : tie.Need-bounds-kept-count invariant-loop decreases-loop
+slice-write-kept c = let i = c.before.before.before in omega (arith, fits i c.if-marks-at-eq0.false, size i.before)
 
-add-count : tie.Need-overflow-add-count invariant-loop decreases-loop
-add-count c = let i = c.before.before.before in omega (arith, fits i c.if1.false, size i.before)
+add-count : tie.Need-overflow_add-count invariant-loop decreases-loop
+add-count c = let i = c.before.before.before in omega (arith, fits i c.if-marks-at-eq0.false, size i.before)
 
-add-k-2 : tie.Need-overflow-add-k-2 invariant-loop decreases-loop
+add-k-2 : tie.Need-overflow_step-k-in-loop-k invariant-loop decreases-loop
 add-k-2 c = search rules
 
-loop-less-2 : tie.Need-loop-smaller-2 invariant-loop decreases-loop
+loop-less-2 : tie.Need-loop-k-smaller invariant-loop decreases-loop
 loop-less-2 c = search rules
 
-loop-again-2 : tie.Need-loop-preserved-2 invariant-loop decreases-loop
+loop-again-2 : tie.Need-loop-k-preserved invariant-loop decreases-loop
 loop-again-2 c =
     let i = c.before.before.before in
     let l = i.before in
-    let a = l.before.args in
-    kept_in (has a.marks.now) a.order.now a.kept.now l.before.requires.1 l.loop.k l.loop.count l.loop.auto l.loop.invariant i.loop-test.true (has-yes a.marks.now (member l) c.if1.false)
+    let a = l.args in
+    kept_in (has a.marks.now) a.order.now a.kept.now l.requires.1 l.loop-k.k l.loop-k.count l.loop-k.auto l.loop-k.invariant i.loop-k-test.true (has-yes a.marks.now (member l) c.if-marks-at-eq0.false)
 
-same_length : tie.Need-same-length invariant-loop decreases-loop
+same_length : tie.Need-shape_of-kept invariant-loop decreases-loop
 same_length c = size c.before
 
 returns : tie.Need-returns invariant-loop decreases-loop
 returns c =
     let l = c.before in
-    let a = l.before.args in
-    kept-end (has a.marks.now) a.order.now a.kept.now l.before.requires.1 l.loop.k l.loop.count l.loop.auto l.loop.invariant c.loop-test.false
+    let a = l.args in
+    kept-end (has a.marks.now) a.order.now a.kept.now l.requires.1 l.loop-k.k l.loop-k.count l.loop-k.auto l.loop-k.invariant c.loop-k-test.false
 
-pub keep-marked-spec : {M : Type 1} → statement M
-keep-marked-spec =
+pub keep_marked_spec : {M : Type 1} → statement M
+keep_marked_spec =
     tie.close
     (tie.spec
     invariant-loop

@@ -21,36 +21,36 @@ size e = length e.args.expected-places.now
 as_long : (e : tie.Start) → length e.args.actual-places.now ≡ size e
 as_long e = ap length e.requires.1.0.1 ∙ length-replicate (size e) 0
 
-place-members-requires-2 : tie.Need-place-members-requires-2
+place-members-requires-2 : tie.Need-place_members-requires-2
 place-members-requires-2 c κs =
     let e = c.before.before.before.before.before.before.before.before.before.before in
     (subst (Order e.args.actual.now) (sym (as_long e)) e.requires.0.1, e.requires.1.0.1 ∙ ap (λ (n : ℕ). replicate n 0) (sym (as_long e)))
 
-list-unplaced-requires : tie.Need-list-unplaced-requires
+list-unplaced-requires : tie.Need-list_unplaced-requires
 list-unplaced-requires c κs =
     let e = c.before.before.before.before.before.before.before.before.before.before.before.before.before.before.before in
     let x = c.before.before.before.before.before.before.before.before in
-    let same : length x.place-members.new.1.0 ≡ size e = x.place-members.auto.1.0 in (
+    let same : length x.place_members.new.1.0 ≡ size e = x.place_members.auto.places in (
       record { rows = subst (λ (n : ℕ). Below n e.args.actual.now) (sym same) e.requires.0.1.members; few = e.requires.0.1.few },
-      (omega (arith, same, e.requires.1.1.0), omega (arith, length-keep (unplaced x.place-members.new.1.0) e.args.actual.now, e.requires.1.1.1)),
+      (omega (arith, same, e.requires.1.1.0), omega (arith, length-keep (unplaced x.place_members.new.1.0) e.args.actual.now, e.requires.1.1.1)),
     )
 
 returns : tie.Need-returns
 returns c =
     let e = c.before.before.before.before.before.before.before.before.before.before.before.before.before.before.before.before.before.before in
     let x = c.before.before.before.before.before.before.before.before.before.before.before in
-    let same : length x.place-members.new.1.0 ≡ size e = x.place-members.auto.1.0 in
-    let done = c.before.before.list-unplaced in
-    let is = unplaced-others e.args.actual.now (size e) e.requires.0.1.members e.args.expected.now x.place-members.new.1.0 same x.place-members.ensures in
-    let list : List ℕ = keep (unplaced x.place-members.new.1.0) e.args.actual.now in
+    let same : length x.place_members.new.1.0 ≡ size e = x.place_members.auto.places in
+    let done = c.list_unplaced in
+    let is = unplaced-others e.args.actual.now (size e) e.requires.0.1.members e.args.expected.now x.place_members.new.1.0 same x.place_members.ensures in
+    let list : List ℕ = keep (unplaced x.place_members.new.1.0) e.args.actual.now in
     record {
-      expected_ranks = x.place-members.ensures;
-      actual_ranks = c.before.before.before.before.before.before.before.place-members2.ensures;
+      expected_ranks = x.place_members.ensures;
+      actual_ranks = c.place_members-2.ensures;
       rest = ap (take done.result) done.ensures.written ∙ take_at list _ done.result (sym done.ensures.count) ∙ is;
       room = omega (arith, done.ensures.count, ap length done.ensures.written, length-append list (drop done.result e.args.others.now));
     }
 
-pub lay-out-spec : {M : Type 1} → statement M
-lay-out-spec =
+pub lay_out_spec : {M : Type 1} → statement M
+lay_out_spec =
     tie.close
     (tie.spec (λ c κs. search rules) place-members-requires-2 list-unplaced-requires (λ c. search rules) (λ c. search rules) (λ c. search rules) returns)

@@ -24,15 +24,15 @@ part : (e : tie.Start) → length (take (size e) room) ≡ size e
 part e = length-take-le (size e) room e.requires.1.0
 
 -- the marks, at the front of the array
-module _ (x : tie.After-mark-unplaced) where
+module _ (x : tie.After-mark_unplaced) where
   abbrev start : tie.Start
   start = x.before.before.before.before.before
 
   abbrev made : List ℕ
-  made = x.mark-unplaced.last.1.0
+  made = x.mark_unplaced.last.1.0
 
   marked : made ≡ marks_of (unplaced start.args.places.now) (size start)
-  marked = x.mark-unplaced.ensures ∙ ap (marks_of (unplaced start.args.places.now)) (part start)
+  marked = x.mark_unplaced.ensures ∙ ap (marks_of (unplaced start.args.places.now)) (part start)
 
   made-length : length made ≡ size start
   made-length = ap length marked ∙ length-marks_of (unplaced start.args.places.now) (size start)
@@ -41,34 +41,34 @@ module _ (x : tie.After-mark-unplaced) where
   kept : keep (has (take (size start) (made ++ drop (size start) room))) start.args.order.now ≡ keep (unplaced start.args.places.now) start.args.order.now
   kept =
       ap (λ (s : List ℕ). keep (has s) start.args.order.now) (take_at made (drop (size start) room) (size start) made-length ∙ marked)
-      ∙ keep-unplaced start.args.order.now (size start) start.pre.0.rows start.args.places.now
+      ∙ keep-unplaced start.args.order.now (size start) start.requires.members.rows start.args.places.now
 
-slice-aggregate-mark-unplaced : tie.Need-slice-aggregate-mark-unplaced
+slice-aggregate-mark-unplaced : tie.Need-slice_bounds-mark_unplaced-end
 slice-aggregate-mark-unplaced c = sym (part c.before.before.before.before)
 
-mark-unplaced-requires : tie.Need-mark-unplaced-requires
+mark-unplaced-requires : tie.Need-mark_unplaced-requires
 mark-unplaced-requires c κs = sym (part c.before.before.before.before)
 
-array-share-prefix-left : tie.Need-array-share-prefix-left
+array-share-prefix-left : tie.Need-slice_bounds-left-end-2
 array-share-prefix-left c = let x = c.before in front-room (made x) _ _ (made-length x)
 
-slice-aggregate-keep-marked : tie.Need-slice-aggregate-keep-marked
+slice-aggregate-keep-marked : tie.Need-slice_bounds-keep_marked-end
 slice-aggregate-keep-marked c = let x = c.before.before in sym (front_length (made x) _ _ (made-length x))
 
-keep-marked-requires : tie.Need-keep-marked-requires
+keep-marked-requires : tie.Need-keep_marked-requires
 keep-marked-requires c κs =
     let x = c.before.before.before in
     let e = start x in
-    (subst (Members e.args.order.now) (sym (front_length (made x) _ _ (made-length x))) e.pre.0, omega (arith, ap length (kept x), e.pre.1.1))
+    (subst (Members e.args.order.now) (sym (front_length (made x) _ _ (made-length x))) e.requires.members, omega (arith, ap length (kept x), e.requires.room))
 
 returns : tie.Need-returns
 returns c =
     let x = c.before.before.before.before.before.before in
     let e = start x in
-    let done = c.before.before.keep-marked in
+    let done = c.keep_marked in
     subst (λ (xs : List ℕ). Listed xs e.args.kept.now done.new.1.1.0 done.result) (kept x) done.ensures
 
-pub list-unplaced-spec : {M : Type 1} → statement M
-list-unplaced-spec =
+pub list_unplaced_spec : {M : Type 1} → statement M
+list_unplaced_spec =
     tie.close
     (tie.spec (λ c. search rules) slice-aggregate-mark-unplaced mark-unplaced-requires array-share-prefix-left slice-aggregate-keep-marked keep-marked-requires (λ c. search rules) returns)

@@ -11,25 +11,25 @@ use Rattle.page_text.proofs.inner.put_laid.Tie as tie
 room : tie.Start → Bool → Type 0
 room e b = cond b (41 * (length e.args.expected.now + length e.args.others.now)) 41 ≤ length e.args.out.now
 
-put-laid-page-requires : tie.Need-put-laid-page-requires
+put-laid-page-requires : tie.Need-put_laid_page-requires
 unfolding room
-put-laid-page-requires c κs = let e = c.before.before.before.before.before.before.before.before in (e.requires.0, (e.requires.1.0, subst (room e) c.before.if1.true e.requires.1.1))
+put-laid-page-requires c κs = let e = c.before.before.before.before.before.before.before.before in (e.requires.0, (e.requires.1.0, subst (room e) c.if-whole.true e.requires.1.1))
 
-returns : tie.Need-returns
+returns : tie.Need-returns-then-whole
 returns c =
-    let a = c.before.before.before.before.before.before.before.before.before.before.before.args in
-    put_as (ap (λ (b : Bool). cond b (page_with a.expected-places.now a.actual-places.now a.plan.now a.expected.now a.others.now) (numbered_with a.expected-places.now a.actual-places.now a.plan.now a.expected.now a.others.now a.number)) (sym c.before.before.before.before.if1.true))
-    c.before.before.put-laid-page.ensures
+    let a = c.args in
+    put_as (ap (λ (b : Bool). cond b (page_with a.expected-places.now a.actual-places.now a.plan.now a.expected.now a.others.now) (numbered_with a.expected-places.now a.actual-places.now a.plan.now a.expected.now a.others.now a.number)) (sym c.if-whole.true))
+    c.put_laid_page.ensures
 
-put-laid-line-requires : tie.Need-put-laid-line-requires
+put-laid-line-requires : tie.Need-put_laid_line-requires
 unfolding room
-put-laid-line-requires c κs = let e = c.before.before.before.before.before.before.before.before in (e.requires.0, (e.requires.1.0, subst (room e) c.before.if1.false e.requires.1.1))
+put-laid-line-requires c κs = let e = c.before.before.before.before.before.before.before.before in (e.requires.0, (e.requires.1.0, subst (room e) c.if-whole.false e.requires.1.1))
 
-returns-2 : tie.Need-returns-2
+returns-2 : tie.Need-returns
 returns-2 c =
-    let a = c.before.before.before.before.before.before.before.before.before.before.before.args in
-    put_as (ap (λ (b : Bool). cond b (page_with a.expected-places.now a.actual-places.now a.plan.now a.expected.now a.others.now) (numbered_with a.expected-places.now a.actual-places.now a.plan.now a.expected.now a.others.now a.number)) (sym c.before.before.before.before.if1.false))
-    c.before.before.put-laid-line.ensures
+    let a = c.args in
+    put_as (ap (λ (b : Bool). cond b (page_with a.expected-places.now a.actual-places.now a.plan.now a.expected.now a.others.now) (numbered_with a.expected-places.now a.actual-places.now a.plan.now a.expected.now a.others.now a.number)) (sym c.if-whole.false))
+    c.put_laid_line.ensures
 
-pub put-laid-spec : {M : Type 1} → statement M
-put-laid-spec = tie.close (tie.spec put-laid-page-requires (λ c. search rules) returns put-laid-line-requires (λ c. search rules) returns-2)
+pub put_laid_spec : {M : Type 1} → statement M
+put_laid_spec = tie.close (tie.spec put-laid-page-requires (λ c. search rules) returns put-laid-line-requires (λ c. search rules) returns-2)

@@ -9,31 +9,31 @@ use borrow.Author.Rules.{rules}
 use Rattle.page_text.proofs.inner.put_laid_line.Statement.{statement}
 use Rattle.page_text.proofs.inner.put_laid_line.Tie as tie
 
-put-row-requires : tie.Need-put-row-requires
-put-row-requires c κs = let e = c.before.before.before.before.before.before.before.before.before in (e.requires.0, (e.requires.1.0.0 e.args.number c.before.before.if1.true, omega (arith, e.requires.1.1)))
+put-row-requires : tie.Need-put_row-requires
+put-row-requires c κs = let e = c.before.before.before.before.before.before.before.before.before in (e.requires.0, (e.requires.1.0.0 e.args.number c.if-number-first.true, omega (arith, e.requires.1.1)))
 
-returns : tie.Need-returns
+returns : tie.Need-returns-then-number-first
 returns c =
-    let a = c.before.before.before.before.before.before.before.before.before.before.before.before.args in
-    put_as (sym (numbered-first (line_with a.expected-places.now a.actual-places.now a.plan.now) a.expected.now a.others.now a.number c.before.before.before.before.before.if1.true))
-    c.before.before.put-row.ensures
+    let a = c.args in
+    put_as (sym (numbered-first (line_with a.expected-places.now a.actual-places.now a.plan.now) a.expected.now a.others.now a.number c.if-number-first.true))
+    c.put_row.ensures
 
-put-row-requires-2 : tie.Need-put-row-requires-2
-put-row-requires-2 c κs = let e = c.before.before.before.before.before.before.before.before.before.before in (e.requires.0, (e.requires.1.0.1 _ c.before.before.if2.true, omega (arith, e.requires.1.1)))
+put-row-requires-2 : tie.Need-put_row-requires-then-rest-others
+put-row-requires-2 c κs = let e = c.before.before.before.before.before.before.before.before.before.before in (e.requires.0, (e.requires.1.0.1 _ c.if-rest-others.true, omega (arith, e.requires.1.1)))
 
-returns-2 : tie.Need-returns-2
+returns-2 : tie.Need-returns-then-rest-others
 returns-2 c =
-    let a = c.before.before.before.before.before.before.before.before.before.before.before.before.before.args in
-    put_as (sym (numbered-rest (line_with a.expected-places.now a.actual-places.now a.plan.now) a.expected.now a.others.now a.number (omega (arith, c.before.before.before.before.before.before.if1.false)) c.before.before.before.before.before.if2.true))
-    c.before.before.put-row2.ensures
+    let a = c.args in
+    put_as (sym (numbered-rest (line_with a.expected-places.now a.actual-places.now a.plan.now) a.expected.now a.others.now a.number (omega (arith, c.if-number-first.false)) c.if-rest-others.true))
+    c.put_row-then-rest-others.ensures
 
-returns-3 : tie.Need-returns-3
+returns-3 : tie.Need-returns
 returns-3 c =
-    let a = c.before.before.before.before.before.before.before.before.args in
-    put_as (sym (numbered-past (line_with a.expected-places.now a.actual-places.now a.plan.now) a.expected.now a.others.now a.number (omega (arith, c.before.if1.false)) (omega (arith, c.if2.false))))
+    let a = c.args in
+    put_as (sym (numbered-past (line_with a.expected-places.now a.actual-places.now a.plan.now) a.expected.now a.others.now a.number (omega (arith, c.if-number-first.false)) (omega (arith, c.if-rest-others.false))))
     (put-none a.out.now 0)
 
-pub put-laid-line-spec : {M : Type 1} → statement M
-put-laid-line-spec =
+pub put_laid_line_spec : {M : Type 1} → statement M
+put_laid_line_spec =
     tie.close
     (tie.spec (λ c. search rules) (λ c. search rules) put-row-requires (λ c. search rules) returns (λ c. search rules) (λ c. search rules) put-row-requires-2 (λ c. search rules) returns-2 returns-3)

@@ -4,11 +4,11 @@ use borrow.Author.Rules.{rules}
 use Rattle.page_text.proofs.inner.put_numbered.Statement.{statement}
 use Rattle.page_text.proofs.inner.put_numbered.Tie as tie
 
-put-text-requires : tie.Need-put-text-requires
-put-text-requires c κs = c.before.before.before.before.before.requires
+put-text-requires : tie.Need-put_text-requires
+put-text-requires c κs = c.requires
 
 returns : tie.Need-returns
-returns c = c.before.before.put-text.ensures
+returns c = c.put_text.ensures
 
-pub put-numbered-spec : {M : Type 1} → statement M
-put-numbered-spec = tie.close (tie.spec put-text-requires (λ c. search rules) returns)
+pub put_numbered_spec : {M : Type 1} → statement M
+put_numbered_spec = tie.close (tie.spec put-text-requires (λ c. search rules) returns)

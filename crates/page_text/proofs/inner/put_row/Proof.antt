@@ -11,7 +11,7 @@ use borrow.Author.Rules.{rules}
 use Rattle.page_text.proofs.inner.put_row.Statement.{statement}
 use Rattle.page_text.proofs.inner.put_row.Tie as tie
 
-put-page-line-requires : tie.Need-put-page-line-requires
+put-page-line-requires : tie.Need-put_page_line-requires
 put-page-line-requires c κs =
     let e = c.before.before.before.before.before.before.before.before in
     let s = e.requires.0 in
@@ -20,12 +20,12 @@ put-page-line-requires c κs =
 returns : tie.Need-returns
 unfolding line_with
 returns c =
-    let a = c.before.before.before.before.before.before.before.before.before.before.before.args in
+    let a = c.args in
     put_as
     (ap (λ (b : Bool). line_by a.m (get_or a.expected-places.now a.m 0) (get_or a.actual-places.now a.m 0) (not b)) (zero_test (get_or a.plan.now a.m 0)))
-    c.before.before.put-page-line.ensures
+    c.put_page_line.ensures
 
-pub put-row-spec : {M : Type 1} → statement M
-put-row-spec =
+pub put_row_spec : {M : Type 1} → statement M
+put_row_spec =
     tie.close
     (tie.spec (λ c. search rules) (λ c. search rules) (λ c. search rules) (λ c. search rules) (λ c. search rules) (λ c. search rules) put-page-line-requires (λ c. search rules) returns)

@@ -13,30 +13,30 @@ use borrow.Author.Rules.{rules}
 use Rattle.page_text.proofs.inner.put_rows.Statement.{statement}
 use Rattle.page_text.proofs.inner.put_rows.Tie as tie
 
-abbrev invariant-loop : tie.invariant-loop
+abbrev invariant-loop : tie.invariant-loop-k
 invariant-loop rows expected-places actual-places plan out₀ at p₀ k₀ out p k =
     (k ≤ length rows) × PutAt out₀ at (flat_map (line_with expected-places actual-places plan) (take k rows)) out p
 
-abbrev decreases-loop : tie.decreases-loop
+abbrev decreases-loop : tie.decreases-loop-k
 decreases-loop rows expected-places actual-places plan out₀ at p₀ k₀ out p k = length rows - k
 
-loop-holds : tie.Need-loop-init invariant-loop decreases-loop
+loop-holds : tie.Need-loop-k-init invariant-loop decreases-loop
 loop-holds c =
-    let a = c.before.before.before.before.before.args in
+    let a = c.args in
     (omega arith, put_as (sym (lines_none (line_with a.expected-places.now a.actual-places.now a.plan.now))) (put-none a.out.now a.at))
 
-mul-put-row : tie.Need-overflow-mul-put-row invariant-loop decreases-loop
+mul-put-row : tie.Need-offset_bounds-rows-k invariant-loop decreases-loop
 mul-put-row c = search rules
 
-shared-slice-read-put-row : tie.Need-shared-slice-read-put-row invariant-loop decreases-loop
+shared-slice-read-put-row : tie.Need-bounds-rows-k invariant-loop decreases-loop
 shared-slice-read-put-row c = search rules
 
-put-row-requires : tie.Need-put-row-requires invariant-loop decreases-loop
+put-row-requires : tie.Need-put_row-p-requires invariant-loop decreases-loop
 put-row-requires c κs =
     let e = c.before.before.before.before.before.before.before.before.before in
     let a = e.args in
-    let l = c.before.before.before.loop in
-    let t = c.before.before.loop-test.true in
+    let l = c.loop-k in
+    let t = c.loop-k-test.true in
     let m : length l.out ≡ length a.out.now = ap length l.invariant.1.put ∙ length-sets a.out.now a.at (flat_map (line_with a.expected-places.now a.actual-places.now a.plan.now) (take l.k a.rows.now)) in (
       e.requires.0,
       (
@@ -45,32 +45,32 @@ put-row-requires c κs =
       ),
     )
 
-add-k : tie.Need-overflow-add-k invariant-loop decreases-loop
+add-k : tie.Need-overflow_add-k invariant-loop decreases-loop
 add-k c = search rules
 
-loop-less : tie.Need-loop-smaller invariant-loop decreases-loop
+loop-less : tie.Need-loop-k-smaller invariant-loop decreases-loop
 loop-less c = search rules
 
-loop-again : tie.Need-loop-preserved invariant-loop decreases-loop
+loop-again : tie.Need-loop-k-preserved invariant-loop decreases-loop
 loop-again c =
-    let a = c.before.before.before.before.before.before.before.before.before.before.before.before.args in
-    let l = c.before.before.before.before.before.before.loop in
-    let t = c.before.before.before.before.before.loop-test.true in
-    (omega arith, put_as (lines_more (line_with a.expected-places.now a.actual-places.now a.plan.now) a.rows.now l.k t) (put_then l.invariant.1 c.before.before.put-row.ensures))
+    let a = c.args in
+    let l = c.loop-k in
+    let t = c.loop-k-test.true in
+    (omega arith, put_as (lines_more (line_with a.expected-places.now a.actual-places.now a.plan.now) a.rows.now l.k t) (put_then l.invariant.1 c.put_row-p.ensures))
 
-same_length : tie.Need-same-length invariant-loop decreases-loop
+same_length : tie.Need-shape_of-out invariant-loop decreases-loop
 same_length c =
-    let a = c.before.before.before.before.before.before.before.args in
-    let l = c.before.loop in
+    let a = c.args in
+    let l = c.loop-k in
     ap length l.invariant.1.put ∙ length-sets a.out.now a.at (flat_map (line_with a.expected-places.now a.actual-places.now a.plan.now) (take l.k a.rows.now))
 
 returns : tie.Need-returns invariant-loop decreases-loop
 returns c =
-    let a = c.before.before.before.before.before.before.before.args in
-    let l = c.before.loop in
-    put_as (lines-all (line_with a.expected-places.now a.actual-places.now a.plan.now) a.rows.now l.k c.loop-test.false) l.invariant.1
+    let a = c.args in
+    let l = c.loop-k in
+    put_as (lines-all (line_with a.expected-places.now a.actual-places.now a.plan.now) a.rows.now l.k c.loop-k-test.false) l.invariant.1
 
-pub put-rows-spec : {M : Type 1} → statement M
-put-rows-spec =
+pub put_rows_spec : {M : Type 1} → statement M
+put_rows_spec =
     tie.close
     (tie.spec invariant-loop decreases-loop loop-holds mul-put-row shared-slice-read-put-row put-row-requires add-k loop-less loop-again same_length returns)

@@ -17,72 +17,72 @@ part : (e : tie.Start) → length (take (size e) fresh) ≡ size e
 part e = fresh-length e.args.expected.now e.args.actual.now (size e) e.requires.0
 
 -- the places and the others, as the arrays hold them
-module _ (x : tie.After-lay-out) where
+module _ (x : tie.After-lay_out-count) where
   abbrev start : tie.Start
   start = x.before.before.before.before.before.before.before.before
 
   abbrev ranks_e : List ℕ
-  ranks_e = x.lay-out.last.1.1.0
+  ranks_e = x.lay_out-count.last.1.1.0
 
   abbrev ranks_a : List ℕ
-  ranks_a = x.lay-out.last.1.1.1.0
+  ranks_a = x.lay_out-count.last.1.1.1.0
 
   abbrev held : List ℕ
-  held = x.lay-out.last.1.1.1.1.0
+  held = x.lay_out-count.last.1.1.1.1.0
 
   abbrev rest : List ℕ
   rest = drop (size start) fresh
 
   size_e : length ranks_e ≡ size start
-  size_e = x.lay-out.kept.1.1.0 ∙ part start
+  size_e = x.lay_out-count.auto.expected_places ∙ part start
 
   size_a : length ranks_a ≡ size start
-  size_a = x.lay-out.kept.1.1.1.0 ∙ part start
+  size_a = x.lay_out-count.auto.actual_places ∙ part start
 
-slice-aggregate-lay-out : tie.Need-slice-aggregate-lay-out
+slice-aggregate-lay-out : tie.Need-slice_bounds-lay_out-end
 slice-aggregate-lay-out c = sym (part c.before.before.before.before.before)
 
-slice-aggregate-lay-out-2 : tie.Need-slice-aggregate-lay-out-2
+slice-aggregate-lay-out-2 : tie.Need-slice_bounds-lay_out-end-2
 slice-aggregate-lay-out-2 c = sym (part c.before.before.before.before.before.before)
 
-lay-out-requires : tie.Need-lay-out-requires
+lay-out-requires : tie.Need-lay_out-count-requires
 lay-out-requires c κs = let e = c.before.before.before.before.before.before.before in lay-ready e.args.expected.now e.args.actual.now (size e) e.requires.0
 
-array-share-prefix-others : tie.Need-array-share-prefix-others
-array-share-prefix-others c = c.before.before.before.lay-out.ensures.room
+array-share-prefix-others : tie.Need-slice_bounds-others-end
+array-share-prefix-others c = c.lay_out-count.ensures.room
 
-slice-aggregate-put-laid : tie.Need-slice-aggregate-put-laid
-slice-aggregate-put-laid c = let x = c.before.before.before.before in sym (length-take-le x.lay-out.result (held x) x.lay-out.ensures.room)
+slice-aggregate-put-laid : tie.Need-slice_bounds-put_laid-end
+slice-aggregate-put-laid c = let x = c.before.before.before.before in sym (length-take-le x.lay_out-count.result (held x) x.lay_out-count.ensures.room)
 
-array-share-prefix-expected-places : tie.Need-array-share-prefix-expected-places
+array-share-prefix-expected-places : tie.Need-slice_bounds-expected_places-end-2
 array-share-prefix-expected-places c = let x = c.before.before.before.before in front-room (ranks_e x) _ _ (size_e x)
 
-slice-aggregate-put-laid-2 : tie.Need-slice-aggregate-put-laid-2
+slice-aggregate-put-laid-2 : tie.Need-slice_bounds-put_laid-end-2
 slice-aggregate-put-laid-2 c = let x = c.before.before.before.before.before in sym (front_length (ranks_e x) _ _ (size_e x))
 
-array-share-prefix-actual-places : tie.Need-array-share-prefix-actual-places
+array-share-prefix-actual-places : tie.Need-slice_bounds-actual_places-end-2
 array-share-prefix-actual-places c = let x = c.before.before.before.before.before in front-room (ranks_a x) _ _ (size_a x)
 
-slice-aggregate-put-laid-3 : tie.Need-slice-aggregate-put-laid-3
+slice-aggregate-put-laid-3 : tie.Need-slice_bounds-put_laid-end-3
 slice-aggregate-put-laid-3 c = let x = c.before.before.before.before.before.before in sym (front_length (ranks_a x) _ _ (size_a x))
 
-put-laid-requires : tie.Need-put-laid-requires
+put-laid-requires : tie.Need-put_laid-requires
 put-laid-requires c κs =
     let x = c.before.before.before.before.before.before.before in
     let e = start x in
     let a = e.args in
-    let r = laid-ready a.expected.now a.actual.now a.plan.now (ranks_e x) (ranks_a x) (held x) x.lay-out.result e.pre.0 (size_e x) (size_a x) x.lay-out.ensures (rest x) (rest x) in
-    (r.0, (r.1, either_room a.whole _ _ _ (laid-room a.expected.now a.actual.now a.plan.now (ranks_e x) (ranks_a x) (held x) x.lay-out.result e.pre.0 (size_e x) (size_a x) x.lay-out.ensures (rest x) (rest x)) e.pre.1))
+    let r = laid-ready a.expected.now a.actual.now a.plan.now (ranks_e x) (ranks_a x) (held x) x.lay_out-count.result e.requires.orders (size_e x) (size_a x) x.lay_out-count.ensures (rest x) (rest x) in
+    (r.0, (r.1, either_room a.whole _ _ _ (laid-room a.expected.now a.actual.now a.plan.now (ranks_e x) (ranks_a x) (held x) x.lay_out-count.result e.requires.orders (size_e x) (size_a x) x.lay_out-count.ensures (rest x) (rest x)) e.requires.room))
 
 returns : tie.Need-returns
 returns c =
     let x = c.before.before.before.before.before.before.before.before.before.before in
     let e = start x in
     let a = e.args in
-    put_as (ap₂ (λ (p l : List ℕ). cond a.whole p l) (laid-page a.expected.now a.actual.now a.plan.now (ranks_e x) (ranks_a x) (held x) x.lay-out.result e.pre.0 (size_e x) (size_a x) x.lay-out.ensures (rest x) (rest x)) (laid-line a.expected.now a.actual.now a.plan.now (ranks_e x) (ranks_a x) (held x) x.lay-out.result e.pre.0 (size_e x) (size_a x) x.lay-out.ensures (rest x) (rest x) a.number))
-    c.before.before.put-laid.ensures
+    put_as (ap₂ (λ (p l : List ℕ). cond a.whole p l) (laid-page a.expected.now a.actual.now a.plan.now (ranks_e x) (ranks_a x) (held x) x.lay_out-count.result e.requires.orders (size_e x) (size_a x) x.lay_out-count.ensures (rest x) (rest x)) (laid-line a.expected.now a.actual.now a.plan.now (ranks_e x) (ranks_a x) (held x) x.lay_out-count.result e.requires.orders (size_e x) (size_a x) x.lay_out-count.ensures (rest x) (rest x) a.number))
+    c.put_laid.ensures
 
-pub put-text-spec : {M : Type 1} → statement M
-put-text-spec =
+pub put_text_spec : {M : Type 1} → statement M
+put_text_spec =
     tie.close
     (tie.spec (λ c. search rules) slice-aggregate-lay-out (λ c. search rules) slice-aggregate-lay-out-2 (λ c. search rules) lay-out-requires array-share-prefix-others slice-aggregate-put-laid array-share-prefix-expected-places slice-aggregate-put-laid-2 array-share-prefix-actual-places slice-aggregate-put-laid-3 put-laid-requires (λ c. search rules) returns)

@@ -21,7 +21,7 @@ abbrev none : tie.After-fill → List ℕ
 none k = k.fill.new.0
 
 none-size : (k : tie.After-fill) → length (none k) ≡ length (entry k).args.plan.now
-none-size k = k.fill.auto.0 ∙ (entry k).requires.1.0
+none-size k = k.fill.auto.slots ∙ (entry k).requires.1.0
 
 no-mark : (n m : ℕ) → has (replicate n 0) m ≡ true → ⊥
 no-mark zero m e = false≢true e
@@ -29,19 +29,19 @@ no-mark (suc n) zero e = false≢true e
 no-mark (suc n) (suc m) e = no-mark n m e
 
 -- and when the seeds are
-abbrev first : tie.After-mark-seeds → tie.After-fill
+abbrev first : tie.After-mark_seeds → tie.After-fill
 first k = k.before.before.before.before
 
-marks-size : (k : tie.After-mark-seeds) → length k.mark-seeds.new.1.1.0 ≡ length (entry (first k)).args.plan.now
-marks-size k = k.mark-seeds.auto.1.1.0 ∙ none-size (first k)
+marks-size : (k : tie.After-mark_seeds) → length k.mark_seeds.new.1.1.0 ≡ length (entry (first k)).args.plan.now
+marks-size k = k.mark_seeds.auto.plan ∙ none-size (first k)
 
-mark-seeds-requires : tie.Need-mark-seeds-requires
+mark-seeds-requires : tie.Need-mark_seeds-requires
 mark-seeds-requires c κs =
     let k = c.before.before.before in
     let e = entry k in
-    (e.pre.0 ∙ sym (none-size k), subst (λ (n : ℕ). Below n e.args.seeds.now) (sym (none-size k)) e.pre.1.1.0)
+    (e.requires.modules ∙ sym (none-size k), subst (λ (n : ℕ). Below n e.args.seeds.now) (sym (none-size k)) e.requires.seeds)
 
-lowest-lacking-requires : tie.Need-lowest-lacking-requires
+lowest-lacking-requires : tie.Need-lowest_lacking-requires
 lowest-lacking-requires c κs = let k = c.before.before.before in (sym (marks-size k), omega (arith, marks-size k, (entry (first k)).requires.1.1.1))
 
 returns : tie.Need-returns
@@ -50,10 +50,10 @@ returns c =
     let e = entry (first k) in
     let a = e.args in
     let n = length a.plan.now in
-    c.lowest-lacking.ensures
-    ∙ ap (lowest (λ (m : ℕ). has k.mark-seeds.new.1.1.0 m && not (has a.plan.now m))) (marks-size k)
-    ∙ lacking-seeds a.seeds.now a.eligible.now a.plan.now (none (first k)) k.mark-seeds.new.1.1.0 n
-    (λ m h. no-mark (length a.copy.now) m (subst (λ (s : List ℕ). has s m ≡ true) (first k).fill.ensures h)) (none-size (first k)) e.pre.1.1.0 k.mark-seeds.ensures
+    c.lowest_lacking.ensures
+    ∙ ap (lowest (λ (m : ℕ). has k.mark_seeds.new.1.1.0 m && not (has a.plan.now m))) (marks-size k)
+    ∙ lacking-seeds a.seeds.now a.eligible.now a.plan.now (none (first k)) k.mark_seeds.new.1.1.0 n
+    (λ m h. no-mark (length a.copy.now) m (subst (λ (s : List ℕ). has s m ≡ true) (first k).fill.ensures h)) (none-size (first k)) e.requires.seeds k.mark_seeds.ensures
 
-pub lacking-seed-spec : {M : Type 1} → statement M
-lacking-seed-spec = tie.close (tie.spec (λ c κs. search rules) mark-seeds-requires lowest-lacking-requires (λ c. search rules) returns)
+pub lacking_seed_spec : {M : Type 1} → statement M
+lacking_seed_spec = tie.close (tie.spec (λ c κs. search rules) mark-seeds-requires lowest-lacking-requires (λ c. search rules) returns)

@@ -24,34 +24,34 @@ module _ (e : tie.Start) where
   of = read w e.args.importers.now e.args.kinds.now e.args.targets.now e.args.dependencies.now e.args.members.now
 
   ok : Accepted of
-  ok = e.pre.1.1.accepted
+  ok = e.requires.1.1.accepted
 
-abbrev entry : tie.After-arranged → tie.Start
+abbrev entry : tie.After-arranged-1 → tie.Start
 entry k = k.before.before.before.before.before.before.before.before.before.before.before.before
 
 -- the members that were made
-abbrev made : tie.After-read-members → List ℕ
-made k = k.read-members.new.1.1.1.1.1.1.1.1.1.1.0
+abbrev made : tie.After-read_members → List ℕ
+made k = k.read_members.new.1.1.1.1.1.1.1.1.1.1.0
 
-array-borrow-prefix-arranged : tie.Need-array-borrow-prefix-arranged
+array-borrow-prefix-arranged : tie.Need-slice_bounds-arranged-end
 array-borrow-prefix-arranged c = let e = c.before.before.before.before.before.before.before.before.before.before.before in members.members-room (w e) e.args.importers.now e.args.kinds.now e.args.targets.now e.args.dependencies.now e.args.members.now e.args.names.now (ok e)
 
-slice-aggregate-read-members : tie.Need-slice-aggregate-read-members
+slice-aggregate-read-members : tie.Need-slice_bounds-read_members-end
 slice-aggregate-read-members c = let e = c.before.before.before.before.before.before.before.before.before.before.before.before in sym (members.members-part (w e) e.args.importers.now e.args.kinds.now e.args.targets.now e.args.dependencies.now e.args.members.now e.args.names.now (ok e))
 
-read-members-requires : tie.Need-read-members-requires
+read-members-requires : tie.Need-read_members-requires
 read-members-requires c κs = let e = c.before.before.before.before.before.before.before.before.before.before.before.before in (members.members-places (w e) e.args.importers.now e.args.kinds.now e.args.targets.now e.args.dependencies.now e.args.members.now e.args.names.now (ok e), e.requires.0)
 
-array-share-prefix-arranged : tie.Need-array-share-prefix-arranged
-array-share-prefix-arranged c = let e = c.before.before.before.before.before.before.before.before.before.before.before.before.before.before in members.made-room (w e) e.args.importers.now e.args.kinds.now e.args.targets.now e.args.dependencies.now e.args.members.now e.args.names.now (ok e) c.before.read-members.ensures
+array-share-prefix-arranged : tie.Need-slice_bounds-arranged-end-2
+array-share-prefix-arranged c = let e = c.before.before.before.before.before.before.before.before.before.before.before.before.before.before in members.made-room (w e) e.args.importers.now e.args.kinds.now e.args.targets.now e.args.dependencies.now e.args.members.now e.args.names.now (ok e) c.read_members.ensures
 
-slice-aggregate-list-planned : tie.Need-slice-aggregate-list-planned
-slice-aggregate-list-planned c = let e = c.before.before.before.before.before.before.before.before.before.before.before.before.before.before.before in members.made-part (w e) e.args.importers.now e.args.kinds.now e.args.targets.now e.args.dependencies.now e.args.members.now e.args.names.now (ok e) c.before.before.read-members.ensures
+slice-aggregate-list-planned : tie.Need-slice_bounds-list_planned-end
+slice-aggregate-list-planned c = let e = c.before.before.before.before.before.before.before.before.before.before.before.before.before.before.before in members.made-part (w e) e.args.importers.now e.args.kinds.now e.args.targets.now e.args.dependencies.now e.args.members.now e.args.names.now (ok e) c.read_members.ensures
 
-own : (k : tie.After-read-members) → let e = entry k.before in read (w e) e.args.importers.now e.args.kinds.now e.args.targets.now e.args.dependencies.now (take (length e.args.members.now) (made k ++ drop (length e.args.members.now) (replicate 16384 0))) ≡ named (of e) e.args.names.now
-own k = let e = entry k.before in members.made-own (w e) e.args.importers.now e.args.kinds.now e.args.targets.now e.args.dependencies.now e.args.members.now e.args.names.now (ok e) k.read-members.ensures
+own : (k : tie.After-read_members) → let e = entry k.before in read (w e) e.args.importers.now e.args.kinds.now e.args.targets.now e.args.dependencies.now (take (length e.args.members.now) (made k ++ drop (length e.args.members.now) (replicate 16384 0))) ≡ named (of e) e.args.names.now
+own k = let e = entry k.before in members.made-own (w e) e.args.importers.now e.args.kinds.now e.args.targets.now e.args.dependencies.now e.args.members.now e.args.names.now (ok e) k.read_members.ensures
 
-list-planned-requires : tie.Need-list-planned-requires
+list-planned-requires : tie.Need-list_planned-requires
 list-planned-requires c κs =
     let k = c.before.before.before.before in
     let e = c.before.before.before.before.before.before.before.before.before.before.before.before.before.before.before.before.before in
@@ -63,12 +63,12 @@ list-planned-requires c κs =
 returns : tie.Need-returns
 returns c =
     let e = c.before.before.before.before.before.before.before.before.before.before.before.before.before.before.before.before.before.before.before.before.before.before in
-    let done = c.before.before.before.before.list-planned in
+    let done = c.list_planned in
     let order : List ℕ = done.new.1.1.1.1.1.1.1.1.1.1.0 in
     let noted : List ℕ = done.new.1.1.1.1.1.1.1.1.1.1.1.0 in
     subst (λ (p : Project). Listed (planned_run p e.args.plan.now e.args.root) e.args.order.now order noted done.result) (own c.before.before.before.before.before.before.before.before.before) done.ensures
 
-pub list-arranged-spec : {M : Type 1} → statement M
-list-arranged-spec =
+pub list_arranged_spec : {M : Type 1} → statement M
+list_arranged_spec =
     tie.close
     (tie.spec array-borrow-prefix-arranged slice-aggregate-read-members read-members-requires array-share-prefix-arranged slice-aggregate-list-planned list-planned-requires (λ c. search rules) (λ c. search rules) returns)

@@ -15,14 +15,14 @@ of e = let a = e.args in read (table a.runtime a.dynamic a.bounds.now a.columns.
 abbrev wraps : tie.Start → List ℕ
 wraps e = read_as_two e.args.plan.now (of e).wrap
 
-list-prepared-requires : tie.Need-list-prepared-requires
-list-prepared-requires c κs = let e = c.before.before.before.before.before.before.before.before.before.before.before.before.before.before.before.before in ((wraps e, c.before.before.before.before.prepare-planned.ensures), e.requires.1)
+list-prepared-requires : tie.Need-list_prepared-requires
+list-prepared-requires c κs = let e = c.before.before.before.before.before.before.before.before.before.before.before.before.before.before.before.before in ((wraps e, c.prepare_planned.ensures), e.requires.1)
 
 returns : tie.Need-returns
 unfolding planned_run
-returns c = c.before.before.before.before.list-prepared.ensures (wraps c.before.before.before.before.before.before.before.before.before.before.before.before.before.before.before.before.before.before.before.before.before) c.before.before.before.before.before.before.before.before.before.prepare-planned.ensures
+returns c = c.list_prepared.ensures (wraps c.before.before.before.before.before.before.before.before.before.before.before.before.before.before.before.before.before.before.before.before.before) c.prepare_planned.ensures
 
-pub list-planned-spec : {M : Type 1} → statement M
-list-planned-spec =
+pub list_planned_spec : {M : Type 1} → statement M
+list_planned_spec =
     tie.close
     (tie.spec (λ c. search rules) (λ c κs. search rules) (λ c. search rules) list-prepared-requires (λ c. search rules) (λ c. search rules) returns)

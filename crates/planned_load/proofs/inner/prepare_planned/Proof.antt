@@ -22,41 +22,41 @@ room = replicate module_limit 0
 abbrev of : tie.Start → Project
 of e = let a = e.args in read (table a.runtime a.dynamic a.bounds.now a.columns.now) a.importers.now a.kinds.now a.targets.now a.dependencies.now a.members.now
 
-abbrev entry : tie.After-wraps → tie.Start
+abbrev entry : tie.After-wraps-1 → tie.Start
 entry k = k.before.before.before.before.before.before.before.before.before.before.before
 
-abbrev size : tie.After-wraps → ℕ
+abbrev size : tie.After-wraps-1 → ℕ
 size k = length (entry k).args.plan.now
 
-part : (k : tie.After-wraps) → length (take (size k) room) ≡ size k
+part : (k : tie.After-wraps-1) → length (take (size k) room) ≡ size k
 part k = length-take-le (size k) room (omega (arith, (entry k).requires.0, (entry k).requires.1.accepted.sizes.normal))
 
 -- what was cut is its wraps
-own : (k : tie.After-wraps) → k.before.column.result.now ≡ (of (entry k)).wrap
+own : (k : tie.After-wraps-1) → k.column.result.now ≡ (of (entry k)).wrap
 unfolding table read
-own k = k.before.column.ensures
+own k = k.column.ensures
 
 -- the wraps that are made, at the front of the array
 
-abbrev made : tie.After-read-as-two → List ℕ
-made x = x.read-as-two.new.1.1.0
+abbrev made : tie.After-read_as_two → List ℕ
+made x = x.read_as_two.new.1.1.0
 
-made-length : (x : tie.After-read-as-two) → length (made x) ≡ size x.before
-made-length x = x.read-as-two.auto.1.1.0 ∙ part x.before
+made-length : (x : tie.After-read_as_two) → length (made x) ≡ size x.before
+made-length x = x.read_as_two.auto.out ∙ part x.before
 
-slice-aggregate-read-as-two : tie.Need-slice-aggregate-read-as-two
+slice-aggregate-read-as-two : tie.Need-slice_bounds-read_as_two-end
 slice-aggregate-read-as-two c = sym (part c)
 
-read-as-two-requires : tie.Need-read-as-two-requires
+read-as-two-requires : tie.Need-read_as_two-requires
 read-as-two-requires c κs = (sym (part c), ap length (own c) ∙ (entry c).requires.1.accepted.sizes.wrap ∙ sym (entry c).requires.0 ∙ sym (part c))
 
-array-share-prefix-wraps : tie.Need-array-share-prefix-wraps
+array-share-prefix-wraps : tie.Need-slice_bounds-wraps-end-2
 array-share-prefix-wraps c = let x = c.before in front-room (made x) _ _ (made-length x)
 
-slice-aggregate-prepare-wrapped : tie.Need-slice-aggregate-prepare-wrapped
+slice-aggregate-prepare-wrapped : tie.Need-slice_bounds-prepare_wrapped-end
 slice-aggregate-prepare-wrapped c = let x = c.before.before in sym (front_length (made x) _ _ (made-length x))
 
-prepare-wrapped-requires : tie.Need-prepare-wrapped-requires
+prepare-wrapped-requires : tie.Need-prepare_wrapped-requires
 prepare-wrapped-requires c κs = let x = c.before.before.before in let e = c.before.before.before.before.before.before.before.before.before.before.before.before.before.before.before in (front_length (made x) _ _ (made-length x) ∙ e.requires.0, e.requires.1)
 
 returns : tie.Need-returns
@@ -65,11 +65,11 @@ returns c =
     let k = c.before.before.before.before.before.before.before in
     let e = c.before.before.before.before.before.before.before.before.before.before.before.before.before.before.before.before.before.before in
     let call = c.before.before in
-    subst (λ (wraps : List ℕ). PreparedAs (of e) wraps call.prepare-wrapped.new.1.1.1.1.1.1.1.1.1.1.0)
-    (take_at (made x) _ (size k) (made-length x) ∙ x.read-as-two.ensures ∙ ap (read_as_two e.args.plan.now) (own k))
-    call.prepare-wrapped.ensures
+    subst (λ (wraps : List ℕ). PreparedAs (of e) wraps call.prepare_wrapped.new.1.1.1.1.1.1.1.1.1.1.0)
+    (take_at (made x) _ (size k) (made-length x) ∙ x.read_as_two.ensures ∙ ap (read_as_two e.args.plan.now) (own k))
+    call.prepare_wrapped.ensures
 
-pub prepare-planned-spec : {M : Type 1} → statement M
-prepare-planned-spec =
+pub prepare_planned_spec : {M : Type 1} → statement M
+prepare_planned_spec =
     tie.close
     (tie.spec (λ c κs. search rules) (λ c. search rules) slice-aggregate-read-as-two read-as-two-requires array-share-prefix-wraps slice-aggregate-prepare-wrapped prepare-wrapped-requires (λ c. search rules) returns)

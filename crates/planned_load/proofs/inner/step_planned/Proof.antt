@@ -28,10 +28,10 @@ given e = let a = e.args in read (table a.runtime a.dynamic a.bounds.now a.colum
 abbrev of : tie.Start → Project
 of e = named (given e) e.args.names.now
 
-abbrev entry : tie.After-noted → tie.Start
+abbrev entry : tie.After-noted-1 → tie.Start
 entry k = k.before.before.before.before.before.before.before.before.before.before.before
 
-abbrev size : tie.After-noted → ℕ
+abbrev size : tie.After-noted-1 → ℕ
 size k = length (entry k).args.plan.now
 
 sized : (e : tie.Start) → length e.args.plan.now ≡ modules (of e)
@@ -40,66 +40,66 @@ sized e = e.requires.1.size ∙ sym (named-modules (given e) e.args.names.now)
 few : (e : tie.Start) → length e.args.plan.now ≤ module_limit
 few e = omega (arith, e.requires.1.size, e.requires.1.accepted.sizes.normal)
 
-part : (k : tie.After-noted) → length (take (size k) room) ≡ size k
+part : (k : tie.After-noted-1) → length (take (size k) room) ≡ size k
 part k = length-take-le (size k) room (few (entry k))
 
 -- what is listed, and the noted hosts at the front of the array
-module _ (x : tie.After-list-arranged) where
+module _ (x : tie.After-list_arranged-count) where
   abbrev order : List ℕ
-  order = x.list-arranged.new.1.1.1.1.1.1.1.1.1.1.1.0
+  order = x.list_arranged-count.new.1.1.1.1.1.1.1.1.1.1.1.0
 
   abbrev noted : List ℕ
-  noted = x.list-arranged.last.1.1.1.1.1.1.1.1.1.1.1.1.0
+  noted = x.list_arranged-count.last.1.1.1.1.1.1.1.1.1.1.1.1.0
 
   noted-length : length noted ≡ size x.before
-  noted-length = x.list-arranged.kept.1.1.1.1.1.1.1.1.1.1.1.1.0 ∙ part x.before
+  noted-length = x.list_arranged-count.auto.noted ∙ part x.before
 
   abbrev start : tie.Start
   start = entry x.before
 
-slice-aggregate-list-arranged-2 : tie.Need-slice-aggregate-list-arranged-2
+slice-aggregate-list-arranged-2 : tie.Need-slice_bounds-list_arranged-end-2
 slice-aggregate-list-arranged-2 c = sym (part c)
 
-list-arranged-requires : tie.Need-list-arranged-requires
+list-arranged-requires : tie.Need-list_arranged-count-requires
 list-arranged-requires c κs =
     let e = entry c in
-    let a = e.pre.1 in (
-      e.pre.0,
+    let a = e.requires.1 in (
+      e.requires.0,
       (a.size, record { accepted = a.accepted; entry = a.entry; size = part c ∙ a.size; room = omega (arith, length-replicate {A = ℕ} module_limit 0, a.accepted.sizes.normal) }),
     )
 
-returns : tie.Need-returns
+returns : tie.Need-returns-then-count-through
 returns c =
     let x = c.before.before.before in
     let e = start x in
-    held-done (of e) e.args.plan.now e.args.root x.list-arranged.ensures e.args.number (omega (arith, c.if1.true))
+    held-done (of e) e.args.plan.now e.args.root x.list_arranged-count.ensures e.args.number (omega (arith, c.if-count-through.true))
 
-array-read-m : tie.Need-array-read-m
+array-read-m : tie.Need-bounds-order-at
 array-read-m c =
     let x = c.before.before.before in
     let e = start x in
-    omega (arith, c.if1.false, held-few (of e) e.args.plan.now e.args.root x.list-arranged.ensures, sized e, few e)
+    omega (arith, c.if-count-through.false, held-few (of e) e.args.plan.now e.args.root x.list_arranged-count.ensures, sized e, few e)
 
-array-share-prefix-noted : tie.Need-array-share-prefix-noted
+array-share-prefix-noted : tie.Need-slice_bounds-noted-end-2
 array-share-prefix-noted c = let x = c.before.before.before in front-room (noted x) _ _ (noted-length x)
 
-slice-aggregate-own-host : tie.Need-slice-aggregate-own-host
+slice-aggregate-own-host : tie.Need-slice_bounds-own_host-end
 slice-aggregate-own-host c = let x = c.before.before.before.before in sym (front_length (noted x) _ _ (noted-length x))
 
-own-host-requires : tie.Need-own-host-requires
+own-host-requires : tie.Need-own_host-requires
 own-host-requires c κs =
     let x = c.before.before.before.before in
     let e = start x in
-    let inside = held-module (of e) e.args.plan.now e.args.root x.list-arranged.ensures e.args.number (omega (arith, c.before.if1.false)) in
+    let inside = held-module (of e) e.args.plan.now e.args.root x.list_arranged-count.ensures e.args.number (omega (arith, c.if-count-through.false)) in
     subst (λ (n : ℕ). get_or (order x) e.args.number 0 < n) (sym (front_length (noted x) _ _ (noted-length x) ∙ sized e)) inside
 
-returns-2 : tie.Need-returns-2
+returns-2 : tie.Need-returns
 returns-2 c =
     let x = c.before.before.before.before.before in
     let e = start x in
-    held-step (of e) e.args.plan.now e.args.root x.list-arranged.ensures e.args.number (omega (arith, c.before.before.if1.false)) (take_at (noted x) _ (size x.before) (noted-length x)) c.own-host.ensures
+    held-step (of e) e.args.plan.now e.args.root x.list_arranged-count.ensures e.args.number (omega (arith, c.if-count-through.false)) (take_at (noted x) _ (size x.before) (noted-length x)) c.own_host.ensures
 
-pub step-planned-spec : {M : Type 1} → statement M
-step-planned-spec =
+pub step_planned_spec : {M : Type 1} → statement M
+step_planned_spec =
     tie.close
     (tie.spec (λ c. search rules) (λ c. search rules) slice-aggregate-list-arranged-2 list-arranged-requires (λ c. search rules) returns (λ c. search rules) array-read-m array-share-prefix-noted slice-aggregate-own-host own-host-requires returns-2)

@@ -25,14 +25,14 @@ entry k = k.before.before.before.before.before.before.before.before.before.befor
 abbrev of : tie.Start → Project
 of e = let a = e.args in read (table a.runtime a.dynamic a.bounds.now a.columns.now) a.importers.now a.kinds.now a.targets.now a.dependencies.now a.members.now
 
-mark-candidates-requires : tie.Need-mark-candidates-requires
+mark-candidates-requires : tie.Need-mark_candidates-requires
 unfolding table read
 mark-candidates-requires c κs =
     let k = c.before in
     let e = entry k in
     let a = e.args in
     let p = of e in
-    let g = e.pre in
+    let g = e.requires in
     let n = sym g.size in (
       subst (ModuleGraph a.from.now a.to.now) n (choosing-graph p a.from.now a.to.now a.roots.now a.eligible.now a.candidates.now g),
       (
@@ -51,10 +51,10 @@ returns c =
     let k = call.before.before in
     let e = entry k in
     let a = e.args in
-    let candidates : List ℕ = call.mark-candidates.new.1.1.1.1.1.0 in
-    candidates-made (of e) a.from.now a.to.now a.roots.now a.eligible.now a.candidates.now candidates e.pre
-    (given1 (λ included. Chosen included a.roots.now a.from.now a.to.now a.eligible.now a.candidates.now candidates) k.column.ensures call.mark-candidates.ensures)
+    let candidates : List ℕ = call.mark_candidates.new.1.1.1.1.1.0 in
+    candidates-made (of e) a.from.now a.to.now a.roots.now a.eligible.now a.candidates.now candidates e.requires
+    (given1 (λ included. Chosen included a.roots.now a.from.now a.to.now a.eligible.now a.candidates.now candidates) k.column.ensures call.mark_candidates.ensures)
 
-pub choose-candidates-spec : {M : Type 1} → statement M
-choose-candidates-spec =
+pub choose_candidates_spec : {M : Type 1} → statement M
+choose_candidates_spec =
     tie.close (tie.spec (λ c κs. search rules) mark-candidates-requires (λ c. search rules) returns)

@@ -15,22 +15,22 @@ use Rattle.reached_modules.proofs.inner.list_table_roots.Tie as tie
 
 -- the entry, its project, and what was cut
 
-abbrev entry : tie.After-column3 → tie.Start
+abbrev entry : tie.After-column-3 → tie.Start
 entry k = k.before.before.before.before.before.before.before.before.before.before.before
 
 abbrev of : tie.Start → Project
 of e = let a = e.args in read (table a.runtime a.dynamic a.bounds.now a.columns.now) a.importers.now a.kinds.now a.targets.now a.dependencies.now a.members.now
 
-list-roots-requires : tie.Need-list-roots-requires
+list-roots-requires : tie.Need-list_roots-requires
 unfolding table read
 list-roots-requires c κs =
     let k = c.before in
     let e = entry k in
-    let ok = e.pre.accepted in (
-      asked2 (λ included entries. Below (length included) entries) k.before.before.column.ensures k.before.column2.ensures (λ i l. omega (arith, ok.values.entry i l, ok.sizes.included)),
+    let ok = e.requires.accepted in (
+      asked2 (λ included entries. Below (length included) entries) k.column.ensures k.column-2.ensures (λ i l. omega (arith, ok.values.entry i l, ok.sizes.included)),
       (
-        asked2 (λ entries entry_chunks. length entry_chunks ≡ length entries) k.before.column2.ensures k.column3.ensures ok.sizes.entry_chunk,
-        asked1 (λ entries. length entries ≤ length e.args.list.now) k.before.column2.ensures (omega (arith, entries-few (of e) ok, ok.sizes.normal, e.pre.fits)),
+        asked2 (λ entries entry_chunks. length entry_chunks ≡ length entries) k.column-2.ensures k.column-3.ensures ok.sizes.entry_chunk,
+        asked1 (λ entries. length entries ≤ length e.args.list.now) k.column-2.ensures (omega (arith, entries-few (of e) ok, ok.sizes.normal, e.requires.fits)),
       ),
     )
 
@@ -40,11 +40,11 @@ returns c =
     let call = c.before.before in
     let k = call.before.before in
     let e = entry k in
-    let done = call.list-roots in
+    let done = call.list_roots in
     given1 (λ list. Written list e.args.list.now done.new.1.1.1.0 done.result) (roots-over (of e))
-    (given3 (λ included entries entry_chunks. Written (roots_over included entries entry_chunks) e.args.list.now done.new.1.1.1.0 done.result) k.before.before.column.ensures k.before.column2.ensures k.column3.ensures done.ensures)
+    (given3 (λ included entries entry_chunks. Written (roots_over included entries entry_chunks) e.args.list.now done.new.1.1.1.0 done.result) k.column.ensures k.column-2.ensures k.column-3.ensures done.ensures)
 
-pub list-table-roots-spec : {M : Type 1} → statement M
-list-table-roots-spec =
+pub list_table_roots_spec : {M : Type 1} → statement M
+list_table_roots_spec =
     tie.close
     (tie.spec (λ c κs. search rules) (λ c κs. search rules) (λ c κs. search rules) list-roots-requires (λ c. search rules) returns)

@@ -21,14 +21,14 @@ abbrev rows : tie.Start → ℕ
 rows e = length e.args.importers.now
 
 -- the roots' marks
-abbrev marked : tie.After-mark-owners → tie.Start
+abbrev marked : tie.After-mark_owners → tie.Start
 marked k = k.before.before.before.before.before.before.before
 
-abbrev start : tie.After-mark-owners → List ℕ
-start k = k.mark-owners.new.1.1.1.0
+abbrev start : tie.After-mark_owners → List ℕ
+start k = k.mark_owners.new.1.1.1.0
 
-start-lent : (k : tie.After-mark-owners) → Lent 4096 (size (marked k)) (start k)
-start-lent k = record { fits = (marked k).requires.0.few; kept = k.mark-owners.auto.1.1.1.0 }
+start-lent : (k : tie.After-mark_owners) → Lent 4096 (size (marked k)) (start k)
+start-lent k = record { fits = (marked k).requires.0.few; kept = k.mark_owners.auto.marks }
 
 -- the threads
 abbrev threaded : tie.After-thread → tie.Start
@@ -41,10 +41,10 @@ abbrev nexts : tie.After-thread → List ℕ
 nexts k = k.thread.new.1.1.0
 
 heads-lent : (k : tie.After-thread) → Lent 4096 (size (threaded k)) (heads k)
-heads-lent k = record { fits = (threaded k).requires.0.few; kept = k.thread.auto.1.0 }
+heads-lent k = record { fits = (threaded k).requires.0.few; kept = k.thread.auto.heads }
 
 nexts-lent : (k : tie.After-thread) → Lent 16384 (rows (threaded k)) (nexts k)
-nexts-lent k = record { fits = (threaded k).requires.0.rows; kept = k.thread.auto.1.1.0 }
+nexts-lent k = record { fits = (threaded k).requires.0.rows; kept = k.thread.auto.nexts }
 
 threads : (k : tie.After-thread) → let e = threaded k in Threads e.args.importers.now (view 4096 (size e) (heads k)) (view 16384 (rows e) (nexts k))
 threads k =
@@ -52,28 +52,28 @@ threads k =
     subst (λ (h : List ℕ). Threads e.args.importers.now h (view 16384 (rows e) (nexts k))) (sym (view-is (heads-lent k)))
     (subst (Threads e.args.importers.now (heads k)) (sym (view-is (nexts-lent k))) k.thread.ensures)
 
-array-borrow-prefix-start : tie.Need-array-borrow-prefix-start
+array-borrow-prefix-start : tie.Need-slice_bounds-start-end
 array-borrow-prefix-start c = search rules
 
-slice-aggregate-mark-owners : tie.Need-slice-aggregate-mark-owners
+slice-aggregate-mark-owners : tie.Need-slice_bounds-mark_owners-end
 slice-aggregate-mark-owners c = let e = c.before.before.before.before.before.before in sym (part_length 4096 (size e) e.requires.0.few)
 
-mark-owners-requires : tie.Need-mark-owners-requires
+mark-owners-requires : tie.Need-mark_owners-requires
 mark-owners-requires c κs =
     let e = c.before.before.before.before.before.before in
     let roots = e.args.roots.now in
     (refl, (subst (λ (n : ℕ). Below n roots) (sym e.requires.1.0) e.requires.1.1.0, subst (λ (n : ℕ). Below n roots) (sym (part_length 4096 (size e) e.requires.0.few)) e.requires.1.1.0))
 
-array-borrow-prefix-heads : tie.Need-array-borrow-prefix-heads
+array-borrow-prefix-heads : tie.Need-slice_bounds-heads-end
 array-borrow-prefix-heads c = search rules
 
-slice-aggregate-thread : tie.Need-slice-aggregate-thread
+slice-aggregate-thread : tie.Need-slice_bounds-thread-end
 slice-aggregate-thread c = let e = c.before.before.before.before.before.before.before.before.before in sym (part_length 4096 (size e) e.requires.0.few)
 
-array-borrow-prefix-nexts : tie.Need-array-borrow-prefix-nexts
+array-borrow-prefix-nexts : tie.Need-slice_bounds-nexts-end
 array-borrow-prefix-nexts c = search rules
 
-slice-aggregate-thread-2 : tie.Need-slice-aggregate-thread-2
+slice-aggregate-thread-2 : tie.Need-slice_bounds-thread-end-2
 slice-aggregate-thread-2 c = let e = c.before.before.before.before.before.before.before.before.before.before in sym (part_length 16384 (rows e) e.requires.0.rows)
 
 thread-requires : tie.Need-thread-requires
@@ -81,22 +81,22 @@ thread-requires c κs =
     let e = c.before.before.before.before.before.before.before.before.before.before in
     graph-threadable e.requires.0 (part_length 4096 (size e) e.requires.0.few) (omega (arith, part_length 16384 (rows e) e.requires.0.rows))
 
-array-share-prefix-heads : tie.Need-array-share-prefix-heads
+array-share-prefix-heads : tie.Need-slice_bounds-heads-end-2
 array-share-prefix-heads c = view-room (heads-lent c.before.before)
 
-slice-aggregate-spread : tie.Need-slice-aggregate-spread
+slice-aggregate-spread : tie.Need-slice_bounds-spread-end
 slice-aggregate-spread c = sym (view-length (heads-lent c.before.before.before))
 
-array-share-prefix-nexts : tie.Need-array-share-prefix-nexts
+array-share-prefix-nexts : tie.Need-slice_bounds-nexts-end-2
 array-share-prefix-nexts c = view-room (nexts-lent c.before.before.before)
 
-slice-aggregate-spread-2 : tie.Need-slice-aggregate-spread-2
+slice-aggregate-spread-2 : tie.Need-slice_bounds-spread-end-2
 slice-aggregate-spread-2 c = sym (view-length (nexts-lent c.before.before.before.before))
 
-array-share-prefix-start : tie.Need-array-share-prefix-start
+array-share-prefix-start : tie.Need-slice_bounds-start-end-2
 array-share-prefix-start c = view-room (start-lent c.before.before.before.before.before.before.before.before)
 
-slice-aggregate-spread-3 : tie.Need-slice-aggregate-spread-3
+slice-aggregate-spread-3 : tie.Need-slice_bounds-spread-end-3
 slice-aggregate-spread-3 c = sym (view-length (start-lent c.before.before.before.before.before.before.before.before.before))
 
 spread-requires : tie.Need-spread-requires
@@ -105,7 +105,7 @@ spread-requires c κs =
     let k = c.before.before.before.before.before.before in
     spreadable-none e.requires.0 (threads k) (view-length (heads-lent k)) (view-length (start-lent c.before.before.before.before.before.before.before.before.before.before)) refl e.requires.1.1.1
 
-same_length : tie.Need-same-length
+same_length : tie.Need-shape_of-reached
 same_length c = search rules
 
 returns : tie.Need-returns
@@ -113,14 +113,14 @@ returns c =
     let e = c.before.before.before.before.before.before.before.before.before.before.before.before.before.before.before.before.before.before.before.before in
     let a = e.args in
     let k = c.before.before.before.before.before.before.before.before.before.before.before.before.before in
-    let s = c.before.before.spread in
+    let s = c.spread in
     let reached = s.new.1.1.1.1.1.0 in
     subst (λ (n : ℕ). Reaching a.included.now a.roots.now a.importers.now a.targets.now n reached) (part_length 4096 (size e) e.requires.0.few)
-    (reaching a.included.now a.roots.now a.importers.now a.targets.now (take (size e) (replicate 4096 0)) (start k) reached (part_none 4096 (size e)) k.mark-owners.ensures
+    (reaching a.included.now a.roots.now a.importers.now a.targets.now (take (size e) (replicate 4096 0)) (start k) reached (part_none 4096 (size e)) k.mark_owners.ensures
     (subst (λ (x : List ℕ). Spreads a.importers.now a.targets.now x reached) (view-is (start-lent k)) s.ensures))
 
-pub source-reachable-modules-spec : {M : Type 1} → statement M
-source-reachable-modules-spec =
+pub source_reachable_modules_spec : {M : Type 1} → statement M
+source_reachable_modules_spec =
     tie.close
     (tie.spec
     array-borrow-prefix-start

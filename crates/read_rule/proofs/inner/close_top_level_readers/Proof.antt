@@ -20,81 +20,81 @@ rows e = length e.args.reference-statement.now
 abbrev size : tie.Start → ℕ
 size e = length e.args.plan.now
 
-abbrev references : tie.After-mark-touching → List ℕ
-references k = k.mark-touching.new.1.1.1.1.1.1.1.1.0
+abbrev references : tie.After-mark_touching → List ℕ
+references k = k.mark_touching.new.1.1.1.1.1.1.1.1.0
 
-references-lent : (k : tie.After-mark-touching) → Lent 16384 (rows k.before.before.before.before.before.before.before.before.before.before.before.before.before.before.before.before.before.before) (references k)
-references-lent k = record { fits = k.before.before.before.before.before.before.before.before.before.before.before.before.before.before.before.before.before.before.requires.1.few_references; kept = k.mark-touching.auto.1.1.1.1.1.1.1.1.0 }
+references-lent : (k : tie.After-mark_touching) → Lent 16384 (rows k.before.before.before.before.before.before.before.before.before.before.before.before.before.before.before.before.before.before) (references k)
+references-lent k = record { fits = k.requires.1.few_references; kept = k.mark_touching.auto.references }
 
-abbrev readers : tie.After-mark-readers → List ℕ
-readers k = k.mark-readers.new.1.1.1.0
+abbrev readers : tie.After-mark_readers → List ℕ
+readers k = k.mark_readers.new.1.1.1.0
 
-readers-lent : (k : tie.After-mark-readers) → Lent 4096 (size k.before.before.before.before.before.before.before.before.before.before.before.before.before.before.before.before.before.before.before.before.before.before) (readers k)
-readers-lent k = record { fits = k.before.before.before.before.before.before.before.before.before.before.before.before.before.before.before.before.before.before.before.before.before.before.requires.1.few; kept = k.mark-readers.auto.1.1.1.0 }
+readers-lent : (k : tie.After-mark_readers) → Lent 4096 (size k.before.before.before.before.before.before.before.before.before.before.before.before.before.before.before.before.before.before.before.before.before.before) (readers k)
+readers-lent k = record { fits = k.requires.1.few; kept = k.mark_readers.auto.readers }
 
-any-open-requires : tie.Need-any-open-requires
+any-open-requires : tie.Need-any_open-requires
 any-open-requires c κs = let e = c.before.before.before.before.before.before.before.before.before.before.before.before.before in (e.requires.1.read, e.requires.1.candidate)
 
-same_length : tie.Need-same-length
+same_length : tie.Need-shape_of-plan-then-not-any_open
 same_length c = search rules
 
-returns : tie.Need-returns
-returns c = let a = c.before.before.before.before.before.before.before.before.before.before.before.before.before.before.before.args in added_none _ a.plan.now (λ m l r. c.before.Any-open.ensures (not-true c.before.Any-open.result c.if1.true) m l r.reading r.candidate)
+returns : tie.Need-returns-then-not-any_open
+returns c = let a = c.args in added_none _ a.plan.now (λ m l r. c.Any-open.ensures (not-true c.Any-open.result c.if-not-any_open.true) m l r.reading r.candidate)
 
-array-borrow-prefix-references : tie.Need-array-borrow-prefix-references
-array-borrow-prefix-references c = c.before.before.before.before.before.before.before.before.before.before.before.before.before.before.before.before.requires.1.few_references
+array-borrow-prefix-references : tie.Need-slice_bounds-references-end
+array-borrow-prefix-references c = c.requires.1.few_references
 
-slice-aggregate-mark-touching : tie.Need-slice-aggregate-mark-touching
+slice-aggregate-mark-touching : tie.Need-slice_bounds-mark_touching-end
 slice-aggregate-mark-touching c = let e = c.before.before.before.before.before.before.before.before.before.before.before.before.before.before.before.before.before in sym (part_length 16384 (rows e) e.requires.1.few_references)
 
-mark-touching-requires : tie.Need-mark-touching-requires
+mark-touching-requires : tie.Need-mark_touching-requires
 mark-touching-requires c κs = let e = c.before.before.before.before.before.before.before.before.before.before.before.before.before.before.before.before.before in let n = part_length 16384 (rows e) e.requires.1.few_references in (e.requires.0, (n ∙ sym e.requires.1.referred, subst (λ (i : ℕ). Depending e.args.depended-reference.now e.args.depended.now i (length e.args.owner.now)) (sym n) e.requires.1.depending))
 
-array-share-prefix-references : tie.Need-array-share-prefix-references
+array-share-prefix-references : tie.Need-slice_bounds-references-end-2
 array-share-prefix-references c = view-room (references-lent c.before)
 
-slice-aggregate-mark-readers : tie.Need-slice-aggregate-mark-readers
+slice-aggregate-mark-readers : tie.Need-slice_bounds-mark_readers-end
 slice-aggregate-mark-readers c = sym (view-length (references-lent c.before.before))
 
-array-borrow-prefix-readers : tie.Need-array-borrow-prefix-readers
-array-borrow-prefix-readers c = c.before.before.before.before.before.before.before.before.before.before.before.before.before.before.before.before.before.before.before.before.requires.1.few
+array-borrow-prefix-readers : tie.Need-slice_bounds-readers-end
+array-borrow-prefix-readers c = c.requires.1.few
 
-slice-aggregate-mark-readers-2 : tie.Need-slice-aggregate-mark-readers-2
+slice-aggregate-mark-readers-2 : tie.Need-slice_bounds-mark_readers-end-2
 slice-aggregate-mark-readers-2 c = let e = c.before.before.before.before.before.before.before.before.before.before.before.before.before.before.before.before.before.before.before.before.before in sym (part_length 4096 (size e) e.requires.1.few)
 
-mark-readers-requires : tie.Need-mark-readers-requires
+mark-readers-requires : tie.Need-mark_readers-requires
 mark-readers-requires c κs = let e = c.before.before.before.before.before.before.before.before.before.before.before.before.before.before.before.before.before.before.before.before.before in (view-length (references-lent c.before.before.before), (e.requires.1.statements, (subst (λ (n : ℕ). Below n e.args.statement-module.now) (sym (part_length 4096 (size e) e.requires.1.few)) e.requires.1.modules, part_none 4096 (size e))))
 
-array-share-prefix-readers : tie.Need-array-share-prefix-readers
+array-share-prefix-readers : tie.Need-slice_bounds-readers-end-2
 array-share-prefix-readers c = view-room (readers-lent c.before)
 
-slice-aggregate-add : tie.Need-slice-aggregate-add
+slice-aggregate-add : tie.Need-slice_bounds-add-end
 slice-aggregate-add c = sym (view-length (readers-lent c.before.before))
 
 add-requires : tie.Need-add-requires
-add-requires c κs = (view-length (readers-lent c.before.before.before), (c.before.before.before.before.before.before.before.before.before.before.before.before.before.before.before.before.before.before.before.before.before.before.before.before.before.requires.1.read, c.before.before.before.before.before.before.before.before.before.before.before.before.before.before.before.before.before.before.before.before.before.before.before.before.before.requires.1.candidate))
+add-requires c κs = (view-length (readers-lent c.before.before.before), (c.requires.1.read, c.requires.1.candidate))
 
-same-length-2 : tie.Need-same-length-2
+same-length-2 : tie.Need-shape_of-plan
 same-length-2 c = search rules
 
-returns-2 : tie.Need-returns-2
+returns-2 : tie.Need-returns
 returns-2 c =
     let e = c.before.before.before.before.before.before.before.before.before.before.before.before.before.before.before.before.before.before.before.before.before.before.before.before.before.before.before.before in
     let a = e.args in
     let k = c.before.before.before.before.before.before.before.before.before.before in
     let r = c.before.before.before.before.before.before in
-    let o = c.before.before.add in
+    let o = c.add in
     let size' : length (references k) ≡ rows e = made-length (references-lent k) in
     let marks : Marks (Reader a.statement-module.now a.reference-statement.now (references k)) (readers r) =
-    subst (λ (s : List ℕ). Marks (Reader a.statement-module.now a.reference-statement.now s) (readers r)) (view-is (references-lent k)) r.mark-readers.ensures
+    subst (λ (s : List ℕ). Marks (Reader a.statement-module.now a.reference-statement.now s) (readers r)) (view-is (references-lent k)) r.mark_readers.ensures
     in
     added-cong (InAll (readers r) a.reads.now a.candidates.now) _
-    (λ m l. read-marked a.reads.now a.statement-module.now a.owner.now a.canonical.now a.chain-symbol.now a.chain_link.now a.reference-statement.now a.reference-symbol.now a.depended-reference.now a.depended.now a.candidates.now a.plan.now (references k) (readers r) size' k.mark-touching.ensures marks m (omega (arith, made-length (readers-lent r))))
-    (marked-read a.reads.now a.statement-module.now a.owner.now a.canonical.now a.chain-symbol.now a.chain_link.now a.reference-statement.now a.reference-symbol.now a.depended-reference.now a.depended.now a.candidates.now a.plan.now (references k) (readers r) size' k.mark-touching.ensures marks)
+    (λ m l. read-marked a.reads.now a.statement-module.now a.owner.now a.canonical.now a.chain-symbol.now a.chain_link.now a.reference-statement.now a.reference-symbol.now a.depended-reference.now a.depended.now a.candidates.now a.plan.now (references k) (readers r) size' k.mark_touching.ensures marks m (omega (arith, made-length (readers-lent r))))
+    (marked-read a.reads.now a.statement-module.now a.owner.now a.canonical.now a.chain-symbol.now a.chain_link.now a.reference-statement.now a.reference-symbol.now a.depended-reference.now a.depended.now a.candidates.now a.plan.now (references k) (readers r) size' k.mark_touching.ensures marks)
     (subst (λ (s : List ℕ). Added (InAll s a.reads.now a.candidates.now) a.plan.now o.new.1.1.1.0 o.result) (view-is (readers-lent r)) o.ensures)
 
-pub close-top-level-readers-spec : {M : Type 1} → statement M
-close-top-level-readers-spec =
+pub close_top_level_readers_spec : {M : Type 1} → statement M
+close_top_level_readers_spec =
     tie.close
     (tie.spec
     any-open-requires

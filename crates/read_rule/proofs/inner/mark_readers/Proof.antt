@@ -5,18 +5,18 @@ use borrow.Author.Rules.{rules}
 use Rattle.read_rule.proofs.inner.mark_readers.Statement.{statement}
 use Rattle.read_rule.proofs.inner.mark_readers.Tie as tie
 
-mark-rows-requires : tie.Need-mark-rows-requires
-mark-rows-requires c κs = let p = c.before.before.before.before.before.requires in (p.0, (p.1.0, p.1.1.0))
+mark-rows-requires : tie.Need-mark_rows-requires
+mark-rows-requires c κs = let p = c.requires in (p.0, (p.1.0, p.1.1.0))
 
-same_length : tie.Need-same-length
+same_length : tie.Need-shape_of-readers
 same_length c = search rules
 
 returns : tie.Need-returns
 returns c =
     let e = c.before.before.before.before.before.before.before.before in
     let a = e.args in
-    let o = c.before.before.mark-rows in
+    let o = c.mark_rows in
     readers-marked a.statement-module.now a.reference-statement.now a.references.now a.readers.now o.new.1.1.1.0 e.requires.1.1.1 o.ensures
 
-pub mark-readers-spec : {M : Type 1} → statement M
-mark-readers-spec = tie.close (tie.spec mark-rows-requires same_length returns)
+pub mark_readers_spec : {M : Type 1} → statement M
+mark_readers_spec = tie.close (tie.spec mark-rows-requires same_length returns)

@@ -8,26 +8,26 @@ use borrow.Author.Rules.{rules}
 use Rattle.read_rule.proofs.inner.mark_references.Statement.{statement}
 use Rattle.read_rule.proofs.inner.mark_references.Tie as tie
 
-look-up-requires : tie.Need-look-up-requires
-look-up-requires c κs = c.before.before.before.before.before.before.requires.0
+look-up-requires : tie.Need-look_up-requires
+look-up-requires c κs = c.requires.0
 
-mark-owners-requires : tie.Need-mark-owners-requires
+mark-owners-requires : tie.Need-mark_owners-requires
 mark-owners-requires c κs =
     let e = c.before.before.before.before.before.before.before.before.before.before in
     let d = e.requires.1 in
-    (d.depends, (d.named, subst (λ (n : ℕ). Below n e.args.depended-reference.now) (sym c.before.before.before.look_up.auto.1.1.0) d.referring))
+    (d.depends, (d.named, subst (λ (n : ℕ). Below n e.args.depended-reference.now) (sym c.look_up.auto.out) d.referring))
 
-same_length : tie.Need-same-length
+same_length : tie.Need-shape_of-references
 same_length c = search rules
 
 returns : tie.Need-returns
 returns c =
     let e = c.before.before.before.before.before.before.before.before.before.before.before.before.before in
     let a = e.args in
-    let o = c.before.before.mark-owners in
-    let first = c.before.before.before.before.before.before.look_up in
+    let o = c.mark_owners in
+    let first = c.look_up in
     references-marked a.reference-symbol.now a.depended-reference.now a.depended.now a.symbols.now first.new.1.1.0 o.new.1.1.1.0 e.requires.1.depends first.ensures o.ensures
 
-pub mark-references-spec : {M : Type 1} → statement M
-mark-references-spec =
+pub mark_references_spec : {M : Type 1} → statement M
+mark_references_spec =
     tie.close (tie.spec look-up-requires mark-owners-requires same_length returns)

@@ -14,40 +14,40 @@ use Rattle.read_rule.proofs.inner.mark_symbols.Tie as tie
 abbrev size : tie.Start → ℕ
 size e = length e.args.owner.now
 
-abbrev entry : tie.After-mark-chains → tie.Start
+abbrev entry : tie.After-mark_chains → tie.Start
 entry k = k.before.before.before.before.before.before.before.before.before
 
-abbrev chains : tie.After-mark-chains → List ℕ
-chains k = k.mark-chains.new.1.1.1.1.1.0
+abbrev chains : tie.After-mark_chains → List ℕ
+chains k = k.mark_chains.new.1.1.1.1.1.0
 
-lent : (k : tie.After-mark-chains) → Lent 16384 (size (entry k)) (chains k)
-lent k = record { fits = (entry k).requires.0.few; kept = k.mark-chains.auto.1.1.1.1.1.0 }
+lent : (k : tie.After-mark_chains) → Lent 16384 (size (entry k)) (chains k)
+lent k = record { fits = (entry k).requires.0.few; kept = k.mark_chains.auto.chains }
 
-rows : (k : tie.After-mark-chains) → length k.mark-chains.new.1.1.1.1.0 ≡ size (entry k)
-rows k = k.mark-chains.auto.1.1.1.1.0 ∙ (entry k).requires.1
+rows : (k : tie.After-mark_chains) → length k.mark_chains.new.1.1.1.1.0 ≡ size (entry k)
+rows k = k.mark_chains.auto.owners ∙ (entry k).requires.1
 
-array-borrow-prefix-chains : tie.Need-array-borrow-prefix-chains
-array-borrow-prefix-chains c = c.before.before.before.before.before.before.before.requires.0.few
+array-borrow-prefix-chains : tie.Need-slice_bounds-chains-end
+array-borrow-prefix-chains c = c.requires.0.few
 
-slice-aggregate-mark-chains : tie.Need-slice-aggregate-mark-chains
+slice-aggregate-mark-chains : tie.Need-slice_bounds-mark_chains-end
 slice-aggregate-mark-chains c = let e = c.before.before.before.before.before.before.before.before in sym (part_length 16384 (size e) e.requires.0.few)
 
-mark-chains-requires : tie.Need-mark-chains-requires
+mark-chains-requires : tie.Need-mark_chains-requires
 mark-chains-requires c κs = let e = c.before.before.before.before.before.before.before.before in (e.requires.1, (part_length 16384 (size e) e.requires.0.few, e.requires.0.chains))
 
-array-share-prefix-chains : tie.Need-array-share-prefix-chains
+array-share-prefix-chains : tie.Need-slice_bounds-chains-end-2
 array-share-prefix-chains c = view-room (lent c.before.before.before)
 
-slice-aggregate-mark-canonicals : tie.Need-slice-aggregate-mark-canonicals
+slice-aggregate-mark-canonicals : tie.Need-slice_bounds-mark_canonicals-end
 slice-aggregate-mark-canonicals c = sym (view-length (lent c.before.before.before.before))
 
-mark-canonicals-requires : tie.Need-mark-canonicals-requires
+mark-canonicals-requires : tie.Need-mark_canonicals-requires
 mark-canonicals-requires c κs =
     let k = c.before.before.before.before.before in
     let e = entry k in
-    (view-length (lent k) ∙ sym (rows k), (e.pre.0.canonicals ∙ sym (rows k), subst (λ (n : ℕ). Below n e.args.canonical.now) (sym (view-length (lent k))) e.pre.0.inside))
+    (view-length (lent k) ∙ sym (rows k), (e.requires.columns.canonicals ∙ sym (rows k), subst (λ (n : ℕ). Below n e.args.canonical.now) (sym (view-length (lent k))) e.requires.columns.inside))
 
-same_length : tie.Need-same-length
+same_length : tie.Need-shape_of-symbols
 same_length c = search rules
 
 returns : tie.Need-returns
@@ -55,12 +55,12 @@ returns c =
     let k = c.before.before.before.before.before.before.before.before in
     let e = entry k in
     let a = e.args in
-    let m = c.before.before.mark-canonicals in
-    symbols-marked a.owner.now a.canonical.now a.chain-symbol.now a.chain_link.now a.plan.now (chains k) m.new.1.1.0 (made-length (lent k)) (m.auto.1.1.0 ∙ rows k) e.pre.0.canonicals e.pre.0.inside k.mark-chains.ensures
+    let m = c.mark_canonicals in
+    symbols-marked a.owner.now a.canonical.now a.chain-symbol.now a.chain_link.now a.plan.now (chains k) m.new.1.1.0 (made-length (lent k)) (m.auto.1.1.0 ∙ rows k) e.requires.columns.canonicals e.requires.columns.inside k.mark_chains.ensures
     (subst (λ (s : List ℕ). Marks (λ (y : ℕ). (has s y ≡ true) ⊎ (has s (get_or a.canonical.now y 0) ≡ true)) m.new.1.1.0) (view-is (lent k)) m.ensures)
 
-pub mark-symbols-spec : {M : Type 1} → statement M
-mark-symbols-spec =
+pub mark_symbols_spec : {M : Type 1} → statement M
+mark_symbols_spec =
     tie.close
     (tie.spec
     array-borrow-prefix-chains

@@ -13,45 +13,45 @@ use Rattle.read_rule.proofs.inner.mark_touching.Tie as tie
 abbrev size : tie.Start → ℕ
 size e = length e.args.owner.now
 
-abbrev symbols : tie.After-mark-symbols → List ℕ
-symbols k = k.mark-symbols.new.1.1.1.1.1.0
+abbrev symbols : tie.After-mark_symbols → List ℕ
+symbols k = k.mark_symbols.new.1.1.1.1.1.0
 
-lent : (k : tie.After-mark-symbols) → Lent 16384 (size k.before.before.before.before.before.before.before.before.before.before.before) (symbols k)
-lent k = record { fits = k.before.before.before.before.before.before.before.before.before.before.before.requires.0.few; kept = k.mark-symbols.auto.1.1.1.1.1.0 }
+lent : (k : tie.After-mark_symbols) → Lent 16384 (size k.before.before.before.before.before.before.before.before.before.before.before) (symbols k)
+lent k = record { fits = k.requires.0.few; kept = k.mark_symbols.auto.symbols }
 
-array-borrow-prefix-symbols : tie.Need-array-borrow-prefix-symbols
-array-borrow-prefix-symbols c = c.before.before.before.before.before.before.before.before.before.requires.0.few
+array-borrow-prefix-symbols : tie.Need-slice_bounds-symbols-end
+array-borrow-prefix-symbols c = c.requires.0.few
 
-slice-aggregate-mark-symbols : tie.Need-slice-aggregate-mark-symbols
+slice-aggregate-mark-symbols : tie.Need-slice_bounds-mark_symbols-end
 slice-aggregate-mark-symbols c = let e = c.before.before.before.before.before.before.before.before.before.before in sym (part_length 16384 (size e) e.requires.0.few)
 
-mark-symbols-requires : tie.Need-mark-symbols-requires
+mark-symbols-requires : tie.Need-mark_symbols-requires
 mark-symbols-requires c κs = let e = c.before.before.before.before.before.before.before.before.before.before in (e.requires.0, part_length 16384 (size e) e.requires.0.few)
 
-array-share-prefix-symbols : tie.Need-array-share-prefix-symbols
+array-share-prefix-symbols : tie.Need-slice_bounds-symbols-end-2
 array-share-prefix-symbols c = view-room (lent c.before)
 
-slice-aggregate-mark-references : tie.Need-slice-aggregate-mark-references
+slice-aggregate-mark-references : tie.Need-slice_bounds-mark_references-end
 slice-aggregate-mark-references c = sym (view-length (lent c.before.before))
 
-mark-references-requires : tie.Need-mark-references-requires
+mark-references-requires : tie.Need-mark_references-requires
 mark-references-requires c κs =
     let e = c.before.before.before.before.before.before.before.before.before.before.before.before.before.before in
     (e.requires.1.0, subst (Depending e.args.depended-reference.now e.args.depended.now (length e.args.references.now)) (sym (view-length (lent c.before.before.before))) e.requires.1.1)
 
-same_length : tie.Need-same-length
+same_length : tie.Need-shape_of-references
 same_length c = search rules
 
 returns : tie.Need-returns
 returns c =
-    let a = c.before.before.before.before.before.before.before.before.before.before.before.before.before.before.before.before.before.args in
+    let a = c.args in
     let k = c.before.before.before.before.before.before in
-    let r = c.before.before.mark-references in
-    touching-marked a.owner.now a.canonical.now a.chain-symbol.now a.chain_link.now a.reference-symbol.now a.depended-reference.now a.depended.now a.plan.now (symbols k) r.new.1.1.1.1.0 (made-length (lent k)) k.mark-symbols.ensures
+    let r = c.mark_references in
+    touching-marked a.owner.now a.canonical.now a.chain-symbol.now a.chain_link.now a.reference-symbol.now a.depended-reference.now a.depended.now a.plan.now (symbols k) r.new.1.1.1.1.0 (made-length (lent k)) k.mark_symbols.ensures
     (subst (λ (s : List ℕ). Marks (ReferenceTouch a.reference-symbol.now a.depended-reference.now a.depended.now s) r.new.1.1.1.1.0) (view-is (lent k)) r.ensures)
 
-pub mark-touching-spec : {M : Type 1} → statement M
-mark-touching-spec =
+pub mark_touching_spec : {M : Type 1} → statement M
+mark_touching_spec =
     tie.close
     (tie.spec
     array-borrow-prefix-symbols

@@ -13,40 +13,40 @@ use Rattle.record_entries.proofs.expected.expected_columns.Statement.{statement}
 use Rattle.record_entries.proofs.expected.expected_columns.Tie as tie
 
 -- the rows lie within each of the arrays
-fits : (c : tie.Else1) → Within c.before.before.before.before.before.args.made
-fits c = within c.before.before.before.before.before.args.made _ c.before.before.before.before.before.well-formed.1.1.1.1.1.0 c.if1.false
+fits : (c : tie.Else-rows-gt-ROW_LIMIT) → Within c.args.made
+fits c = within c.args.made _ c.well_formed.1.1.1.1.1.0 c.if-rows-gt-ROW_LIMIT.false
 
-returns : tie.Need-returns
+returns : tie.Need-returns-then-rows-gt-ROW_LIMIT
 returns c = λ records is.
-    let a = c.before.before.before.before.before.args in
-    project-refused (lent_with a.runtime a.dynamic a.bounds.now a.columns.now a.names.now (importer_column records) (kind_column records) (target_column records)) a.root a.expected.now 1 (too_many a.made records is c.if1.true a.runtime a.dynamic a.bounds.now a.columns.now a.names.now) (λ z. omega arith)
+    let a = c.args in
+    project-refused (lent_with a.runtime a.dynamic a.bounds.now a.columns.now a.names.now (importer_column records) (kind_column records) (target_column records)) a.root a.expected.now 1 (too_many a.made records is c.if-rows-gt-ROW_LIMIT.true a.runtime a.dynamic a.bounds.now a.columns.now a.names.now) (λ z. omega arith)
 
-array-share-prefix-importers : tie.Need-array-share-prefix-importers
+array-share-prefix-importers : tie.Need-slice_bounds-importers-end
 array-share-prefix-importers c = let w = fits c.before.before.before in omega (arith, w.0, w.1, w.2)
 
-slice-aggregate-expected-order-with-records : tie.Need-slice-aggregate-expected-order-with-records
+slice-aggregate-expected-order-with-records : tie.Need-slice_bounds-expected_order_with_records-end
 slice-aggregate-expected-order-with-records c = sym (length-take-le _ _ (let w = fits c.before.before.before.before in omega (arith, w.0, w.1, w.2)))
 
-array-share-prefix-kinds : tie.Need-array-share-prefix-kinds
+array-share-prefix-kinds : tie.Need-slice_bounds-kinds-end
 array-share-prefix-kinds c = let w = fits c.before.before.before.before in omega (arith, w.0, w.1, w.2)
 
-slice-aggregate-expected-order-with-records-2 : tie.Need-slice-aggregate-expected-order-with-records-2
+slice-aggregate-expected-order-with-records-2 : tie.Need-slice_bounds-expected_order_with_records-end-2
 slice-aggregate-expected-order-with-records-2 c = sym (length-take-le _ _ (let w = fits c.before.before.before.before.before in omega (arith, w.0, w.1, w.2)))
 
-array-share-prefix-targets : tie.Need-array-share-prefix-targets
+array-share-prefix-targets : tie.Need-slice_bounds-targets-end
 array-share-prefix-targets c = let w = fits c.before.before.before.before.before in omega (arith, w.0, w.1, w.2)
 
-slice-aggregate-expected-order-with-records-3 : tie.Need-slice-aggregate-expected-order-with-records-3
+slice-aggregate-expected-order-with-records-3 : tie.Need-slice_bounds-expected_order_with_records-end-3
 slice-aggregate-expected-order-with-records-3 c = sym (length-take-le _ _ (let w = fits c.before.before.before.before.before.before in omega (arith, w.0, w.1, w.2)))
 
-returns-2 : tie.Need-returns-2
+returns-2 : tie.Need-returns
 returns-2 c = λ records is.
-    let a = c.before.before.before.before.before.before.before.before.before.before.before.before.before.before.before.args in
-    let done = c.before.before.expected-order-with-records in
-    as-columns (λ importers kinds targets. ExpectedOrder (lent_with a.runtime a.dynamic a.bounds.now a.columns.now a.names.now importers kinds targets) a.root a.expected.now done.result done.new.1.1.1.1.1.1.1.1.1.0) a.made records is c.before.before.before.before.before.before.before.before.before.before.if1.false done.ensures
+    let a = c.args in
+    let done = c.expected_order_with_records in
+    as-columns (λ importers kinds targets. ExpectedOrder (lent_with a.runtime a.dynamic a.bounds.now a.columns.now a.names.now importers kinds targets) a.root a.expected.now done.result done.new.1.1.1.1.1.1.1.1.1.0) a.made records is c.if-rows-gt-ROW_LIMIT.false done.ensures
 
-pub expected-columns-spec : {M : Type 1} → statement M
-expected-columns-spec =
+pub expected_columns_spec : {M : Type 1} → statement M
+expected_columns_spec =
     tie.close
     (tie.spec
     returns

@@ -10,61 +10,61 @@ use Rattle.replacement.proofs.inner.find_latest.Reads as reads
 use Rattle.replacement.proofs.inner.find_latest.Lts as lts
 use Rattle.replacement.proofs.inner.latest_of.Reads as latest-of-reads
 
-abbrev invariant-loop : tie.invariant-loop
+abbrev invariant-loop : tie.invariant-loop-m
 invariant-loop newer found₀ m₀ found m = (m ≤ length newer) × Found newer found m
 
-abbrev decreases-loop : tie.decreases-loop
+abbrev decreases-loop : tie.decreases-loop-m
 decreases-loop newer found₀ m₀ found m = m
 
 -- src/inner.rt:58:5
-loop-holds : tie.Need-loop-init invariant-loop decreases-loop
-loop-holds c = (omega arith, record { fits = c.before.before.requires.0; few = c.before.before.requires.1.1; size = c.before.before.requires.1.0; later = λ i a b. absurd (omega arith) })
+loop-holds : tie.Need-loop-m-init invariant-loop decreases-loop
+loop-holds c = (omega arith, record { fits = c.requires.0; few = c.requires.1.1; size = c.requires.1.0; later = λ i a b. absurd (omega arith) })
 
 -- src/inner.rt:59:9
-sub-m : tie.Need-overflow-sub-m invariant-loop decreases-loop
+sub-m : tie.Need-overflow_sub-m invariant-loop decreases-loop
 sub-m c = omega arith
 
 -- src/inner.rt:60:20
-latest-of-requires : tie.Need-latest-of-requires invariant-loop decreases-loop
+latest-of-requires : tie.Need-latest_of-requires invariant-loop decreases-loop
 latest-of-requires c κs =
     let k = c.before.before in
     let e = c.before.before.before.before.before in
-    let q : k.loop.m ≡ k.loop.m - 1 + 1 = omega arith in
-    (subst (Found e.args.newer.now k.loop.found) q k.loop.invariant.1, omega arith)
+    let q : k.loop-m.m ≡ k.loop-m.m - 1 + 1 = omega arith in
+    (subst (Found e.args.newer.now k.loop-m.found) q k.loop-m.invariant.1, omega arith)
 
 -- src/inner.rt:60:9
-mul-found : tie.Need-overflow-mul-found invariant-loop decreases-loop
+mul-found : tie.Need-offset_bounds-found-m invariant-loop decreases-loop
 mul-found c = omega arith
 
 -- src/inner.rt:60:9
-slice-write-found : tie.Need-slice-write-found invariant-loop decreases-loop
+slice-write-found : tie.Need-bounds-found-m invariant-loop decreases-loop
 slice-write-found c = omega arith
 
 -- src/inner.rt:58:5
-loop-less : tie.Need-loop-smaller invariant-loop decreases-loop
+loop-less : tie.Need-loop-m-smaller invariant-loop decreases-loop
 loop-less c = omega arith
 
 -- src/inner.rt:58:5
-loop-again : tie.Need-loop-preserved invariant-loop decreases-loop
+loop-again : tie.Need-loop-m-preserved invariant-loop decreases-loop
 loop-again c =
     let k = c.before.before.before in
     let e = c.before.before.before.before.before.before in
-    let q : k.loop.m ≡ k.loop.m - 1 + 1 = omega arith in
-    (omega arith, found-more e.args.newer.now k.loop.found (k.loop.m - 1) (omega arith) c.latest-of.result (subst (Found e.args.newer.now k.loop.found) q k.loop.invariant.1) c.latest-of.ensures)
+    let q : k.loop-m.m ≡ k.loop-m.m - 1 + 1 = omega arith in
+    (omega arith, found-more e.args.newer.now k.loop-m.found (k.loop-m.m - 1) (omega arith) c.latest_of.result (subst (Found e.args.newer.now k.loop-m.found) q k.loop-m.invariant.1) c.latest_of.ensures)
 
 -- src/inner.rt:51:1
-same_length : tie.Need-same-length invariant-loop decreases-loop
-same_length c = c.before.loop.invariant.1.size ∙ sym c.before.before.before.before.requires.1.0
+same_length : tie.Need-shape_of-found invariant-loop decreases-loop
+same_length c = c.loop-m.invariant.1.size ∙ sym c.requires.1.0
 
 -- src/inner.rt:51:1
 returns : tie.Need-returns invariant-loop decreases-loop
 returns c =
     let e = c.before.before.before.before in
-    let q : c.before.loop.m ≡ 0 = omega arith in
-    found_all e.args.newer.now c.before.loop.found (subst (Found e.args.newer.now c.before.loop.found) q c.before.loop.invariant.1)
+    let q : c.loop-m.m ≡ 0 = omega arith in
+    found_all e.args.newer.now c.loop-m.found (subst (Found e.args.newer.now c.loop-m.found) q c.loop-m.invariant.1)
 
-pub find-latest-spec : {M : Type 1} → statement M
-find-latest-spec =
+pub find_latest_spec : {M : Type 1} → statement M
+find_latest_spec =
     tie.close
     (tie.spec
     invariant-loop

@@ -7,20 +7,20 @@ use Rattle.replacement.proofs.inner.found_at.Reads as reads
 use Rattle.replacement.proofs.inner.found_at.Lts as lts
 
 -- src/inner.rt:70:16
-mul-result : tie.Need-overflow-mul-result
+mul-result : tie.Need-offset_bounds-found-at
 mul-result c = search rules
 
 -- src/inner.rt:70:16
-shared-slice-read-result : tie.Need-shared-slice-read-result
+shared-slice-read-result : tie.Need-bounds-found-at
 shared-slice-read-result c = search rules
 
 -- src/inner.rt:70:9
-returns : tie.Need-returns
-returns c = let a = c.before.before.args in rw (lt-ltb a.m (length a.found.now) c.before.if1.true)
+returns : tie.Need-returns-then-at-found
+returns c = let a = c.args in rw (lt-ltb a.m (length a.found.now) c.if-at-found.true)
 
 -- src/inner.rt:65:1
-returns-2 : tie.Need-returns-2
-returns-2 c = let a = c.before.args in rw (le-ltb a.m (length a.found.now) c.if1.false)
+returns-2 : tie.Need-returns
+returns-2 c = let a = c.args in rw (le-ltb a.m (length a.found.now) c.if-at-found.false)
 
-pub found-at-spec : {M : Type 1} → statement M
-found-at-spec = tie.close (tie.spec mul-result shared-slice-read-result returns returns-2)
+pub found_at_spec : {M : Type 1} → statement M
+found_at_spec = tie.close (tie.spec mul-result shared-slice-read-result returns returns-2)

@@ -10,7 +10,7 @@ use Rattle.request_edges.specs.inner.Edges.{Rows, Adds}
 use Rattle.request_edges.proofs.inner.add_looked.Statement.{statement}
 use Rattle.request_edges.proofs.inner.add_looked.Tie as tie
 
-abbrev entry : tie.After-look-up → tie.Start
+abbrev entry : tie.After-look_up → tie.Start
 entry k = k.before.before.before.before.before.before.before.before
 
 abbrev size : tie.Start → ℕ
@@ -19,49 +19,49 @@ size e = length e.args.second.now
 few : (e : tie.Start) → size e ≤ 16384
 few e = omega (arith, e.requires.0, e.requires.1.0)
 
-abbrev made : tie.After-look-up → List ℕ
+abbrev made : tie.After-look_up → List ℕ
 made k = k.look_up.new.1.1.0
 
-lent : (k : tie.After-look-up) → Lent 16384 (size (entry k)) (made k)
-lent k = record { fits = few (entry k); kept = k.look_up.auto.1.1.0 }
+lent : (k : tie.After-look_up) → Lent 16384 (size (entry k)) (made k)
+lent k = record { fits = few (entry k); kept = k.look_up.auto.out }
 
-array-borrow-prefix-looked : tie.Need-array-borrow-prefix-looked
+array-borrow-prefix-looked : tie.Need-slice_bounds-looked-end
 array-borrow-prefix-looked c = few c.before.before.before.before.before.before
 
-slice-aggregate-look-up : tie.Need-slice-aggregate-look-up
+slice-aggregate-look-up : tie.Need-slice_bounds-look_up-end
 slice-aggregate-look-up c = let e = c.before.before.before.before.before.before.before in sym (part_length 16384 (size e) (few e))
 
-look-up-requires : tie.Need-look-up-requires
+look-up-requires : tie.Need-look_up-requires
 look-up-requires c κs = let e = c.before.before.before.before.before.before.before in part_length 16384 (size e) (few e)
 
-array-share-prefix-looked : tie.Need-array-share-prefix-looked
+array-share-prefix-looked : tie.Need-slice_bounds-looked-end-2
 array-share-prefix-looked c = view-room (lent c.before)
 
-slice-aggregate-add-from-looked : tie.Need-slice-aggregate-add-from-looked
+slice-aggregate-add-from-looked : tie.Need-slice_bounds-add_from_looked-end
 slice-aggregate-add-from-looked c = sym (view-length (lent c.before.before))
 
-add-from-looked-requires : tie.Need-add-from-looked-requires
+add-from-looked-requires : tie.Need-add_from_looked-requires
 add-from-looked-requires c κs =
     let k = c.before.before.before.before in
     let e = entry k in
-    (view-length (lent k) ∙ e.pre.0, (e.pre.1.0, (e.pre.1.1.0, (e.pre.1.1.1.0, (e.pre.1.1.1.1.0, e.pre.1.1.1.1.1)))))
+    (view-length (lent k) ∙ e.requires.rows, (e.requires.few, (e.requires.room, (e.requires.same, (e.requires.source, e.requires.target)))))
 
-same_length : tie.Need-same-length
-same_length c = c.before.before.before.before.add-from-looked.ensures.froms
+same_length : tie.Need-shape_of-from
+same_length c = c.add_from_looked.ensures.froms
 
-same-length-2 : tie.Need-same-length-2
-same-length-2 c = c.before.before.before.before.add-from-looked.ensures.tos
+same-length-2 : tie.Need-shape_of-to
+same-length-2 c = c.add_from_looked.ensures.tos
 
 returns : tie.Need-returns
 returns c =
     let k = c.before.before.before.before.before.before.before.before.before in
     let e = entry k in
     let a = e.args in
-    let v = c.before.before.before.before.add-from-looked in
+    let v = c.add_from_looked in
     subst (λ (s : List ℕ). Adds (Rows (looked missing a.sources.now a.first.now) a.a s a.b) (length a.first.now) a.from.now a.to.now a.count v.new.1.1.1.0 v.new.1.1.1.1.0 v.result) (view-is (lent k) ∙ k.look_up.ensures) v.ensures
 
-pub add-looked-spec : {M : Type 1} → statement M
-add-looked-spec =
+pub add_looked_spec : {M : Type 1} → statement M
+add_looked_spec =
     tie.close
     (tie.spec
     array-borrow-prefix-looked

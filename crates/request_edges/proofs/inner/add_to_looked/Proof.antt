@@ -8,7 +8,7 @@ use Rattle.request_edges.specs.inner.Edges.{Rows, Adds}
 use Rattle.request_edges.proofs.inner.add_to_looked.Statement.{statement}
 use Rattle.request_edges.proofs.inner.add_to_looked.Tie as tie
 
-abbrev entry : tie.After-look-up → tie.Start
+abbrev entry : tie.After-look_up → tie.Start
 entry k = k.before.before.before.before.before.before.before
 
 abbrev size : tie.Start → ℕ
@@ -17,49 +17,49 @@ size e = length e.args.column.now
 few : (e : tie.Start) → size e ≤ 16384
 few e = omega (arith, e.requires.0, e.requires.1.0)
 
-abbrev made : tie.After-look-up → List ℕ
+abbrev made : tie.After-look_up → List ℕ
 made k = k.look_up.new.1.1.0
 
-lent : (k : tie.After-look-up) → Lent 16384 (size (entry k)) (made k)
-lent k = record { fits = few (entry k); kept = k.look_up.auto.1.1.0 }
+lent : (k : tie.After-look_up) → Lent 16384 (size (entry k)) (made k)
+lent k = record { fits = few (entry k); kept = k.look_up.auto.out }
 
-array-borrow-prefix-targets : tie.Need-array-borrow-prefix-targets
+array-borrow-prefix-targets : tie.Need-slice_bounds-targets-end
 array-borrow-prefix-targets c = few c.before.before.before.before.before
 
-slice-aggregate-look-up : tie.Need-slice-aggregate-look-up
+slice-aggregate-look-up : tie.Need-slice_bounds-look_up-end
 slice-aggregate-look-up c = let e = c.before.before.before.before.before.before in sym (part_length 16384 (size e) (few e))
 
-look-up-requires : tie.Need-look-up-requires
+look-up-requires : tie.Need-look_up-requires
 look-up-requires c κs = let e = c.before.before.before.before.before.before in part_length 16384 (size e) (few e)
 
-array-share-prefix-targets : tie.Need-array-share-prefix-targets
+array-share-prefix-targets : tie.Need-slice_bounds-targets-end-2
 array-share-prefix-targets c = view-room (lent c.before)
 
-slice-aggregate-add-edges : tie.Need-slice-aggregate-add-edges
+slice-aggregate-add-edges : tie.Need-slice_bounds-add_edges-end
 slice-aggregate-add-edges c = sym (view-length (lent c.before.before))
 
-add-edges-requires : tie.Need-add-edges-requires
+add-edges-requires : tie.Need-add_edges-requires
 add-edges-requires c κs =
     let k = c.before.before.before.before in
     let e = entry k in
-    (view-length (lent k) ∙ e.pre.0, (e.pre.1.1.0, (e.pre.1.1.1.0, (e.pre.1.1.1.1.0, e.pre.1.1.1.1.1))))
+    (view-length (lent k) ∙ e.requires.rows, (e.requires.room, (e.requires.same, (e.requires.source, e.requires.target))))
 
-same_length : tie.Need-same-length
-same_length c = c.before.before.before.before.add-edges.ensures.froms
+same_length : tie.Need-shape_of-from
+same_length c = c.add_edges.ensures.froms
 
-same-length-2 : tie.Need-same-length-2
-same-length-2 c = c.before.before.before.before.add-edges.ensures.tos
+same-length-2 : tie.Need-shape_of-to
+same-length-2 c = c.add_edges.ensures.tos
 
 returns : tie.Need-returns
 returns c =
     let k = c.before.before.before.before.before.before.before.before.before in
     let e = entry k in
     let a = e.args in
-    let v = c.before.before.before.before.add-edges in
+    let v = c.add_edges in
     subst (λ (s : List ℕ). Adds (Rows a.sources.now a.a s a.b) (length a.sources.now) a.from.now a.to.now a.count v.new.1.1.0 v.new.1.1.1.0 v.result) (view-is (lent k) ∙ k.look_up.ensures) v.ensures
 
-pub add-to-looked-spec : {M : Type 1} → statement M
-add-to-looked-spec =
+pub add_to_looked_spec : {M : Type 1} → statement M
+add_to_looked_spec =
     tie.close
     (tie.spec
     array-borrow-prefix-targets

@@ -22,14 +22,14 @@ both zero b m k e = absurd (k refl)
 both (suc a) zero m k e = absurd (e refl)
 both (suc a) (suc b) m k e = refl
 
-returns : tie.Need-returns
-returns c = let a = c.before.args in no-first a.first a.second a.m c.if1.true
+returns : tie.Need-returns-then-first-eq0
+returns c = let a = c.args in no-first a.first a.second a.m c.if-first-eq0.true
 
-returns-2 : tie.Need-returns-2
-returns-2 c = let a = c.before.before.args in no_second a.first a.second a.m c.if2.true
+returns-2 : tie.Need-returns-then-second-eq0
+returns-2 c = let a = c.args in no_second a.first a.second a.m c.if-second-eq0.true
 
-returns-3 : tie.Need-returns-3
-returns-3 c = let a = c.before.before.args in both a.first a.second a.m c.before.if1.false c.if2.false
+returns-3 : tie.Need-returns
+returns-3 c = let a = c.args in both a.first a.second a.m c.if-first-eq0.false c.if-second-eq0.false
 
 pub choose_spec : {M : Type 1} → statement M
 choose_spec = tie.close (tie.spec returns returns-2 returns-3)

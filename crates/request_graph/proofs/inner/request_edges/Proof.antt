@@ -31,27 +31,27 @@ few : (e : tie.Start) → size e ≤ 4096
 few e = omega (arith, sized e, e.requires.0.accepted.sizes.normal)
 
 numbers-lent : (k : tie.After-number) → Lent 4096 (size k.before.before.before.before.before.before.before.before.before.before.before.before.before.before.before.before.before) k.number.new.0
-numbers-lent k = record { fits = few k.before.before.before.before.before.before.before.before.before.before.before.before.before.before.before.before.before; kept = k.number.auto.0 }
+numbers-lent k = record { fits = few k.before.before.before.before.before.before.before.before.before.before.before.before.before.before.before.before.before; kept = k.number.auto.out }
 
-asked-lent : (k : tie.After-number-chosen) → Lent 4096 (size k.before.before.before.before.before.before.before.before.before.before.before.before.before.before.before.before.before.before.before.before) k.number-chosen.new.1.1.0
-asked-lent k = record { fits = few k.before.before.before.before.before.before.before.before.before.before.before.before.before.before.before.before.before.before.before.before; kept = k.number-chosen.auto.1.1.0 }
+asked-lent : (k : tie.After-number_chosen) → Lent 4096 (size k.before.before.before.before.before.before.before.before.before.before.before.before.before.before.before.before.before.before.before.before) k.number_chosen.new.1.1.0
+asked-lent k = record { fits = few k.before.before.before.before.before.before.before.before.before.before.before.before.before.before.before.before.before.before.before.before; kept = k.number_chosen.auto.out }
 
-array-borrow-prefix-numbers : tie.Need-array-borrow-prefix-numbers
+array-borrow-prefix-numbers : tie.Need-slice_bounds-numbers-end
 array-borrow-prefix-numbers c = few c.before.before.before.before.before.before.before.before.before.before.before.before.before.before.before
 
-slice-aggregate-number : tie.Need-slice-aggregate-number
+slice-aggregate-number : tie.Need-slice_bounds-number-end
 slice-aggregate-number c = let e = c.before.before.before.before.before.before.before.before.before.before.before.before.before.before.before.before in sym (part_length 4096 (size e) (few e))
 
 number-requires : tie.Need-number-requires
 number-requires c κs = let e = c.before.before.before.before.before.before.before.before.before.before.before.before.before.before.before.before in omega (arith, part_length 4096 (size e) (few e), few e)
 
-array-borrow-prefix-asked : tie.Need-array-borrow-prefix-asked
+array-borrow-prefix-asked : tie.Need-slice_bounds-asked-end
 array-borrow-prefix-asked c = few c.before.before.before.before.before.before.before.before.before.before.before.before.before.before.before.before.before.before
 
-slice-aggregate-number-chosen : tie.Need-slice-aggregate-number-chosen
+slice-aggregate-number-chosen : tie.Need-slice_bounds-number_chosen-end
 slice-aggregate-number-chosen c = let e = c.before.before.before.before.before.before.before.before.before.before.before.before.before.before.before.before.before.before.before in sym (part_length 4096 (size e) (few e))
 
-number-chosen-requires : tie.Need-number-chosen-requires
+number-chosen-requires : tie.Need-number_chosen-requires
 number-chosen-requires c κs =
     let e = c.before.before.before.before.before.before.before.before.before.before.before.before.before.before.before.before.before.before.before in
     let n = part_length 4096 (size e) (few e) in (
@@ -65,26 +65,26 @@ column-requires c κs = search rules
 column-requires-2 : tie.Need-column-requires-2
 column-requires-2 c κs = search rules
 
-array-share-prefix-numbers : tie.Need-array-share-prefix-numbers
+array-share-prefix-numbers : tie.Need-slice_bounds-numbers-end-2
 array-share-prefix-numbers c = view-room (numbers-lent c.before.before.before.before.before.before)
 
-slice-aggregate-add-component-edges : tie.Need-slice-aggregate-add-component-edges
+slice-aggregate-add-component-edges : tie.Need-slice_bounds-add_component_edges-end
 slice-aggregate-add-component-edges c = sym (view-length (numbers-lent c.before.before.before.before.before.before.before))
 
-array-share-prefix-asked : tie.Need-array-share-prefix-asked
+array-share-prefix-asked : tie.Need-slice_bounds-asked-end-2
 array-share-prefix-asked c = view-room (asked-lent c.before.before.before.before)
 
-slice-aggregate-add-component-edges-2 : tie.Need-slice-aggregate-add-component-edges-2
+slice-aggregate-add-component-edges-2 : tie.Need-slice_bounds-add_component_edges-end-2
 slice-aggregate-add-component-edges-2 c = sym (view-length (asked-lent c.before.before.before.before.before))
 
-add-component-edges-requires : tie.Need-add-component-edges-requires
+add-component-edges-requires : tie.Need-add_component_edges-components-requires
 unfolding table read
 add-component-edges-requires c κs =
     let e = c.before.before.before.before.before.before.before.before.before.before.before.before.before.before.before.before.before.before.before.before.before.before.before.before.before.before.before in
     let s = e.requires.0.accepted.sizes in
     let n = view-length (numbers-lent c.before.before.before.before.before.before.before.before.before.before) in
-    let q = c.before.before.before.before.column2.ensures in (
-      (ap length c.before.before.before.before.before.column.ensures ∙ s.chunk ∙ sym (sized e) ∙ sym n, omega (arith, n, few e)),
+    let q = c.column-2.ensures in (
+      (ap length c.column.ensures ∙ s.chunk ∙ sym (sized e) ∙ sym n, omega (arith, n, few e)),
       (
         (asked1 (λ (chunk : List ℕ). length e.args.members.now ≡ length chunk) q s.member, asked1 (λ (chunk : List ℕ). length chunk ≤ 16384) q s.member_chunk),
         record { room = omega (arith, e.requires.0.room); same = e.requires.0.same },
@@ -94,20 +94,20 @@ add-component-edges-requires c κs =
 column-requires-3 : tie.Need-column-requires-3
 column-requires-3 c κs = search rules
 
-array-share-prefix-numbers-2 : tie.Need-array-share-prefix-numbers-2
+array-share-prefix-numbers-2 : tie.Need-slice_bounds-numbers-end-3
 array-share-prefix-numbers-2 c = view-room (numbers-lent c.before.before.before.before.before.before.before.before.before.before.before.before.before.before.before.before)
 
-slice-aggregate-add-import-edges : tie.Need-slice-aggregate-add-import-edges
+slice-aggregate-add-import-edges : tie.Need-slice_bounds-add_import_edges-end
 slice-aggregate-add-import-edges c = sym (view-length (numbers-lent c.before.before.before.before.before.before.before.before.before.before.before.before.before.before.before.before.before))
 
-add-import-edges-requires : tie.Need-add-import-edges-requires
+add-import-edges-requires : tie.Need-add_import_edges-leads-requires
 unfolding table read
 add-import-edges-requires c κs =
     let e = c.before.before.before.before.before.before.before.before.before.before.before.before.before.before.before.before.before.before.before.before.before.before.before.before.before.before.before.before.before.before.before.before.before.before.before.before in
     let s = e.requires.0.accepted.sizes in
     let g = e.requires.1.0 in
-    let q = c.before.before.before.column3.ensures in
-    let v = c.before.before.before.before.before.before.before.before.add-component-edges.ensures in (
+    let q = c.column-3.ensures in
+    let v = c.add_component_edges-components.ensures in (
       omega (arith, view-length (numbers-lent c.before.before.before.before.before.before.before.before.before.before.before.before.before.before.before.before.before.before.before), few e),
       (
         (g.lengths, omega (arith, g.edges.few, s.record_module)),
@@ -118,13 +118,13 @@ add-import-edges-requires c κs =
       ),
     )
 
-add-symbol-edges-requires : tie.Need-add-symbol-edges-requires
+add-symbol-edges-requires : tie.Need-add_symbol_edges-requires
 unfolding table read
 add-symbol-edges-requires c κs =
     let e = c.before.before.before.before.before.before.before.before.before.before.before.before.before.before.before.before.before.before.before.before.before.before.before.before.before.before.before.before.before.before.before.before.before.before.before.before.before.before.before.before.before.before.before in
     let s = e.requires.0.accepted.sizes in
-    let v = c.before.before.before.before.before.before.before.before.before.before.before.before.before.before.before.add-component-edges.ensures in
-    let w = c.before.before.before.before.before.before.add-import-edges.ensures in (
+    let v = c.add_component_edges-components.ensures in
+    let w = c.add_import_edges-leads.ensures in (
       record {
         sizes = record { normal = s.normal; reads = s.reads; owner = s.owner; chain_symbol = s.chain_symbol; chain_link = s.chain_link; reference_statement = s.reference_statement; reference_symbol = s.reference_symbol; depended_reference = s.depended_reference; depended = s.depended };
         room = omega (arith, e.requires.0.room, v.few, v.froms, w.few, w.froms);
@@ -133,11 +133,11 @@ add-symbol-edges-requires c κs =
       sized e,
     )
 
-same_length : tie.Need-same-length
-same_length c = c.before.before.before.before.add-symbol-edges.ensures.froms ∙ c.before.before.before.before.before.before.before.before.before.before.before.add-import-edges.ensures.froms ∙ c.before.before.before.before.before.before.before.before.before.before.before.before.before.before.before.before.before.before.before.before.add-component-edges.ensures.froms
+same_length : tie.Need-shape_of-from
+same_length c = c.add_symbol_edges.ensures.froms ∙ c.add_import_edges-leads.ensures.froms ∙ c.add_component_edges-components.ensures.froms
 
-same-length-2 : tie.Need-same-length-2
-same-length-2 c = c.before.before.before.before.add-symbol-edges.ensures.tos ∙ c.before.before.before.before.before.before.before.before.before.before.before.add-import-edges.ensures.tos ∙ c.before.before.before.before.before.before.before.before.before.before.before.before.before.before.before.before.before.before.before.before.add-component-edges.ensures.tos
+same-length-2 : tie.Need-shape_of-to
+same-length-2 c = c.add_symbol_edges.ensures.tos ∙ c.add_import_edges-leads.ensures.tos ∙ c.add_component_edges-components.ensures.tos
 
 returns : tie.Need-returns
 unfolding table read
@@ -147,16 +147,16 @@ returns c =
     let k = c.before.before.before.before.before.before.before.before.before.before.before.before.before.before.before.before.before.before.before.before.before.before.before.before.before.before.before.before.before.before.before in
     let h = c.before.before.before.before.before.before.before.before.before.before.before.before.before.before.before.before.before.before.before.before.before.before.before.before.before.before.before.before in
     let own : view 4096 (size e) k.number.new.0 ≡ numbered (modules (of e)) = view-is (numbers-lent k) ∙ k.number.ensures ∙ ap numbered (part_length 4096 (size e) (few e) ∙ sized e) in
-    let asked : view 4096 (size e) h.number-chosen.new.1.1.0 ≡ chosen a.sensitive.now a.eligible.now = view-is (asked-lent h) ∙ h.number-chosen.ensures in
-    let v = c.before.before.before.before.before.before.before.before.before.before.before.before.before.before.before.before.before.before.before.before.add-component-edges in
-    let w = c.before.before.before.before.before.before.before.before.before.before.before.add-import-edges in
-    let z = c.before.before.before.before.add-symbol-edges in
-    requests-on (of e) e.requires.0.accepted e.requires.1.1 e.requires.1.0 c.before.before.before.before.before.before.before.before.before.before.before.before.before.before.before.before.before.before.before.before.before.before.before.before.before.before.column.ensures c.before.before.before.before.before.before.before.before.before.before.before.before.before.before.before.before.before.before.before.before.before.before.before.before.before.column2.ensures c.before.before.before.before.before.before.before.before.before.before.before.before.before.before.before.column3.ensures own asked
+    let asked : view 4096 (size e) h.number_chosen.new.1.1.0 ≡ chosen a.sensitive.now a.eligible.now = view-is (asked-lent h) ∙ h.number_chosen.ensures in
+    let v = c.add_component_edges-components in
+    let w = c.add_import_edges-leads in
+    let z = c.add_symbol_edges in
+    requests-on (of e) e.requires.0.accepted e.requires.1.1 e.requires.1.0 c.column.ensures c.column-2.ensures c.column-3.ensures own asked
     {from = a.from.now} {to = a.to.now} {from₁ = v.new.1.1.1.1.1.1.0} {to₁ = v.new.1.1.1.1.1.1.1.0} {from₂ = w.new.1.1.1.1.1.0} {to₂ = w.new.1.1.1.1.1.1.0} {from₃ = z.new.1.1.1.0} {to₃ = z.new.1.1.1.1.0} {count₁ = v.result} {count₂ = w.result} {count₃ = z.result}
     v.ensures w.ensures z.ensures
 
-pub request-edges-spec : {M : Type 1} → statement M
-request-edges-spec =
+pub request_edges_spec : {M : Type 1} → statement M
+request_edges_spec =
     tie.close
     (tie.spec
     array-borrow-prefix-numbers

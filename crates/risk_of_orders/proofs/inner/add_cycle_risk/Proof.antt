@@ -25,24 +25,24 @@ listed-elem order which m =
     let z = and_parts (has which m) _ e in
     mem-any (λ (x : ℕ). has which x && eqb m x) order (elem_mem m order z.1) (and-join (has which m) _ z.0 (eq-eqb m m refl)))
 
-mark-listed-requires : tie.Need-mark-listed-requires
+mark-listed-requires : tie.Need-mark_listed-requires
 mark-listed-requires c κs = search rules
 
-same_length : tie.Need-same-length
+same_length : tie.Need-shape_of-out
 same_length c = search rules
 
-returns : tie.Need-returns
+returns : tie.Need-returns-then-reaches_cycle
 unfolding cycle_risk
 returns c = let t = c.before.before.before.before in
-    let a = t.before.before.before.before.args in
-    c.before.before.mark-listed.ensures
+    let a = t.args in
+    c.mark_listed.ensures
     ∙ join-cong a.out.now (listed a.expected.now a.eligible.now) (cycle_risk (has a.eligible.now) a.expected.now a.reaches-cycle)
-    (λ m l. listed-elem a.expected.now a.eligible.now m ∙ ap (λ (b : Bool). b && (has a.eligible.now m && elem m a.expected.now)) (sym t.if1.true))
+    (λ m l. listed-elem a.expected.now a.eligible.now m ∙ ap (λ (b : Bool). b && (has a.eligible.now m && elem m a.expected.now)) (sym t.if-reaches_cycle.true))
 
-returns-2 : tie.Need-returns-2
+returns-2 : tie.Need-returns-else-reaches_cycle
 unfolding cycle_risk
-returns-2 c = let a = c.before.before.before.before.args in
-    join-none a.out.now (cycle_risk (has a.eligible.now) a.expected.now a.reaches-cycle) (λ m l. ap (λ (b : Bool). b && (has a.eligible.now m && elem m a.expected.now)) c.if1.false)
+returns-2 c = let a = c.args in
+    join-none a.out.now (cycle_risk (has a.eligible.now) a.expected.now a.reaches-cycle) (λ m l. ap (λ (b : Bool). b && (has a.eligible.now m && elem m a.expected.now)) c.if-reaches_cycle.false)
 
-pub add-cycle-risk-spec : {M : Type 1} → statement M
-add-cycle-risk-spec = tie.close (tie.spec mark-listed-requires same_length returns returns-2)
+pub add_cycle_risk_spec : {M : Type 1} → statement M
+add_cycle_risk_spec = tie.close (tie.spec mark-listed-requires same_length returns returns-2)

@@ -20,156 +20,156 @@ take-replicate zero k x = refl
 take-replicate (suc n) zero x = refl
 take-replicate (suc n) (suc k) x = ap (λ (l : List ℕ). x ∷ l) (take-replicate n k x)
 
-abbrev entry : tie.After-places → tie.Start
+abbrev entry : tie.After-places-1 → tie.Start
 entry c = c.before.before.before.before.before.before.before
 
-abbrev size : tie.After-places → ℕ
+abbrev size : tie.After-places-1 → ℕ
 size c = length (entry c).args.out.now
 
-part : (c : tie.After-places) → length (take (size c) room) ≡ size c
+part : (c : tie.After-places-1) → length (take (size c) room) ≡ size c
 part c = length-take-le (size c) room (entry c).requires.1.1
 
 -- the places, and the part of the array that they are read from
-abbrev placing : tie.After-wanted → tie.After-place-sensitive
+abbrev placing : tie.After-wanted-1 → tie.After-place_sensitive
 placing c = c.before.before
 
-abbrev places : tie.After-place-sensitive → List ℕ
-places k = k.place-sensitive.new.1.1.0
+abbrev places : tie.After-place_sensitive → List ℕ
+places k = k.place_sensitive.new.1.1.0
 
-places-length : (k : tie.After-place-sensitive) → length (places k) ≡ size k.before
-places-length k = k.place-sensitive.auto.1.1.0 ∙ part k.before
+places-length : (k : tie.After-place_sensitive) → length (places k) ≡ size k.before
+places-length k = k.place_sensitive.auto.places ∙ part k.before
 
 -- the marks of the expected sensitive modules, and the part that they are read from
-abbrev marked : tie.After-flag-unmet → tie.After-mark-listed
+abbrev marked : tie.After-flag_unmet → tie.After-mark_listed
 marked f = f.before.before.before.before
 
-abbrev wanted : tie.After-mark-listed → List ℕ
-wanted k = k.mark-listed.new.1.1.0
+abbrev wanted : tie.After-mark_listed → List ℕ
+wanted k = k.mark_listed.new.1.1.0
 
-wanted-length : (k : tie.After-mark-listed) → length (wanted k) ≡ size (placing k.before).before
-wanted-length k = k.mark-listed.auto.1.1.0 ∙ part (placing k.before).before
+wanted-length : (k : tie.After-mark_listed) → length (wanted k) ≡ size (placing k.before).before
+wanted-length k = k.mark_listed.auto.marks ∙ part (placing k.before).before
 
 -- the set after each pass
-abbrev first : tie.After-flag-unmet → tie.After-places
+abbrev first : tie.After-flag_unmet → tie.After-places-1
 first f = (placing (marked f).before).before
 
-abbrev out1 : tie.After-flag-unmet → List ℕ
-out1 f = f.flag-unmet.new.1.1.1.1.1.0
+abbrev out1 : tie.After-flag_unmet → List ℕ
+out1 f = f.flag_unmet.new.1.1.1.1.1.0
 
-out1-length : (f : tie.After-flag-unmet) → length (out1 f) ≡ size (first f)
-out1-length f = f.flag-unmet.auto.1.1.1.1.1.0
+out1-length : (f : tie.After-flag_unmet) → length (out1 f) ≡ size (first f)
+out1-length f = f.flag_unmet.auto.out
 
-out1-is : (f : tie.After-flag-unmet) → let a = (entry (first f)).args in
-    out1 f ≡ join a.out.now (puts_of a.eligible.now a.hosts.now (unmet a.sensitive.now (places (placing (marked f).before))) a.expected.now)
+out1-is : (f : tie.After-flag_unmet) → let a = (entry (first f)).args in
+    out1 f ≡ join a.out-1.now (puts_of a.eligible.now a.hosts.now (unmet a.sensitive.now (places (placing (marked f).before))) a.expected.now)
 out1-is f =
     let a = (entry (first f)).args in
     let k = placing (marked f).before in
-    f.flag-unmet.ensures
-    ∙ ap (λ (p : List ℕ). join a.out.now (puts_of a.eligible.now a.hosts.now (unmet a.sensitive.now p) a.expected.now)) (take_at (places k) (drop (size (first f)) room) (size (first f)) (places-length k))
+    f.flag_unmet.ensures
+    ∙ ap (λ (p : List ℕ). join a.out-1.now (puts_of a.eligible.now a.hosts.now (unmet a.sensitive.now p) a.expected.now)) (take_at (places k) (drop (size (first f)) room) (size (first f)) (places-length k))
 
-abbrev before-second : tie.After-flag-unmet2 → tie.After-flag-unmet
+abbrev before-second : tie.After-flag_unmet-2 → tie.After-flag_unmet
 before-second g = g.before.before.before.before.before
 
-abbrev out2 : tie.After-flag-unmet2 → List ℕ
-out2 g = g.flag-unmet2.last.1.1.1.1.1.0
+abbrev out2 : tie.After-flag_unmet-2 → List ℕ
+out2 g = g.flag_unmet-2.last.1.1.1.1.1.0
 
-out2-length : (g : tie.After-flag-unmet2) → length (out2 g) ≡ size (first (before-second g))
-out2-length g = g.flag-unmet2.auto.1.1.1.1.1.0 ∙ out1-length (before-second g)
+out2-length : (g : tie.After-flag_unmet-2) → length (out2 g) ≡ size (first (before-second g))
+out2-length g = g.flag_unmet-2.auto.out ∙ out1-length (before-second g)
 
-out2-is : (g : tie.After-flag-unmet2) → let f = before-second g in let a = (entry (first f)).args in
+out2-is : (g : tie.After-flag_unmet-2) → let f = before-second g in let a = (entry (first f)).args in
     out2 g ≡ join (out1 f) (puts_of a.eligible.now a.hosts.now (unmet a.sensitive.now (wanted (marked f))) a.actual.now)
 out2-is g =
     let f = before-second g in
     let a = (entry (first f)).args in
-    g.flag-unmet2.ensures
+    g.flag_unmet-2.ensures
     ∙ ap (λ (p : List ℕ). join (out1 f) (puts_of a.eligible.now a.hosts.now (unmet a.sensitive.now p) a.actual.now)) (take_at (wanted (marked f)) (drop (size (first f)) room) (size (first f)) (wanted-length (marked f)))
 
-abbrev before-third : tie.After-flag-overtaken → tie.After-flag-unmet2
+abbrev before-third : tie.After-flag_overtaken → tie.After-flag_unmet-2
 before-third h = h.before.before.before.before.before
 
-abbrev out3 : tie.After-flag-overtaken → List ℕ
-out3 h = h.flag-overtaken.new.1.1.1.1.1.0
+abbrev out3 : tie.After-flag_overtaken → List ℕ
+out3 h = h.flag_overtaken.new.1.1.1.1.1.0
 
-out3-is : (h : tie.After-flag-overtaken) → let f = before-second (before-third h) in let a = (entry (first f)).args in
+out3-is : (h : tie.After-flag_overtaken) → let f = before-second (before-third h) in let a = (entry (first f)).args in
     out3 h ≡ join (out2 (before-third h)) (puts_of a.eligible.now a.hosts.now (overtaken a.sensitive.now (places (placing (marked f).before)) a.expected.now) a.expected.now)
 out3-is h =
     let f = before-second (before-third h) in
     let a = (entry (first f)).args in
     let k = placing (marked f).before in
-    h.flag-overtaken.ensures
+    h.flag_overtaken.ensures
     ∙ ap (λ (p : List ℕ). join (out2 (before-third h)) (puts_of a.eligible.now a.hosts.now (overtaken a.sensitive.now p a.expected.now) a.expected.now)) (take_at (places k) (drop (size (first f)) room) (size (first f)) (places-length k))
 
-array-borrow-prefix-places : tie.Need-array-borrow-prefix-places
+array-borrow-prefix-places : tie.Need-slice_bounds-places-end
 array-borrow-prefix-places c = search rules
 
-slice-aggregate-place-sensitive : tie.Need-slice-aggregate-place-sensitive
+slice-aggregate-place-sensitive : tie.Need-slice_bounds-place_sensitive-end
 slice-aggregate-place-sensitive c = sym (part c)
 
-place-sensitive-requires : tie.Need-place-sensitive-requires
+place-sensitive-requires : tie.Need-place_sensitive-requires
 place-sensitive-requires c κs = let e = entry c in (
-  subst (Order e.args.actual.now) (sym (part c)) e.pre.0.1,
-  (e.pre.1.0.sensitive_rows ∙ sym (part c), take-replicate (size c) module_limit 0),
+  subst (Order e.args.actual.now) (sym (part c)) e.requires.orders.1,
+  (e.requires.columns.sensitive_rows ∙ sym (part c), take-replicate (size c) module_limit 0),
 )
 
-array-borrow-prefix-wanted : tie.Need-array-borrow-prefix-wanted
+array-borrow-prefix-wanted : tie.Need-slice_bounds-wanted-end
 array-borrow-prefix-wanted c = search rules
 
-slice-aggregate-mark-listed : tie.Need-slice-aggregate-mark-listed
+slice-aggregate-mark-listed : tie.Need-slice_bounds-mark_listed-end
 slice-aggregate-mark-listed c = sym (part (placing c).before)
 
-mark-listed-requires : tie.Need-mark-listed-requires
+mark-listed-requires : tie.Need-mark_listed-requires
 mark-listed-requires c κs = let p = (placing c).before in let e = entry p in (
-  subst (Order e.args.expected.now) (sym (part p)) e.pre.0.0,
-  e.pre.1.0.sensitive_rows ∙ sym (part p),
+  subst (Order e.args.expected.now) (sym (part p)) e.requires.orders.0,
+  e.requires.columns.sensitive_rows ∙ sym (part p),
 )
 
-array-share-prefix-places : tie.Need-array-share-prefix-places
+array-share-prefix-places : tie.Need-slice_bounds-places-end-2
 array-share-prefix-places c = let k = placing c.before.before in front-room (places k) _ _ (places-length k)
 
-slice-aggregate-flag-unmet : tie.Need-slice-aggregate-flag-unmet
+slice-aggregate-flag-unmet : tie.Need-slice_bounds-flag_unmet-end
 slice-aggregate-flag-unmet c = let k = placing c.before.before.before in sym (front_length (places k) _ _ (places-length k))
 
-flag-unmet-requires : tie.Need-flag-unmet-requires
+flag-unmet-requires : tie.Need-flag_unmet-requires
 flag-unmet-requires c κs = let k = placing c.before.before.before.before in
     let e = entry k.before in
-    (e.pre.0.0, (e.pre.1.0, front_length (places k) _ _ (places-length k)))
+    (e.requires.orders.0, (e.requires.columns, front_length (places k) _ _ (places-length k)))
 
-array-share-prefix-wanted : tie.Need-array-share-prefix-wanted
+array-share-prefix-wanted : tie.Need-slice_bounds-wanted-end-2
 array-share-prefix-wanted c = let k = marked c.before.before in front-room (wanted k) _ _ (wanted-length k)
 
-slice-aggregate-flag-unmet-2 : tie.Need-slice-aggregate-flag-unmet-2
+slice-aggregate-flag-unmet-2 : tie.Need-slice_bounds-flag_unmet-end-2
 slice-aggregate-flag-unmet-2 c = let k = marked c.before.before.before in sym (front_length (wanted k) _ _ (wanted-length k))
 
-flag-unmet-requires-2 : tie.Need-flag-unmet-requires-2
+flag-unmet-requires-2 : tie.Need-flag_unmet-requires-2
 flag-unmet-requires-2 c κs = let f = c.before.before.before.before in
     let k = marked f in
     let e = entry (first f) in (
-      subst (Order e.args.actual.now) (sym (out1-length f)) e.pre.0.1,
+      subst (Order e.args.actual.now) (sym (out1-length f)) e.requires.orders.1,
       (
-        subst (Columns e.args.hosts.now e.args.sensitive.now e.args.eligible.now) (sym (out1-length f)) e.pre.1.0,
+        subst (Columns e.args.hosts.now e.args.sensitive.now e.args.eligible.now) (sym (out1-length f)) e.requires.columns,
         front_length (wanted k) _ _ (wanted-length k) ∙ sym (out1-length f),
       ),
     )
 
-array-share-prefix-places-2 : tie.Need-array-share-prefix-places-2
+array-share-prefix-places-2 : tie.Need-slice_bounds-places-end-3
 array-share-prefix-places-2 c = let k = placing (marked (before-second c.before.before)).before in front-room (places k) _ _ (places-length k)
 
-slice-aggregate-flag-overtaken : tie.Need-slice-aggregate-flag-overtaken
+slice-aggregate-flag-overtaken : tie.Need-slice_bounds-flag_overtaken-end
 slice-aggregate-flag-overtaken c = let k = placing (marked (before-second c.before.before.before)).before in sym (front_length (places k) _ _ (places-length k))
 
-flag-overtaken-requires : tie.Need-flag-overtaken-requires
+flag-overtaken-requires : tie.Need-flag_overtaken-requires
 flag-overtaken-requires c κs = let g = c.before.before.before.before in
     let f = before-second g in
     let k = placing (marked f).before in
     let e = entry (first f) in (
-      subst (Order e.args.expected.now) (sym (out2-length g)) e.pre.0.0,
+      subst (Order e.args.expected.now) (sym (out2-length g)) e.requires.orders.0,
       (
-        subst (Columns e.args.hosts.now e.args.sensitive.now e.args.eligible.now) (sym (out2-length g)) e.pre.1.0,
+        subst (Columns e.args.hosts.now e.args.sensitive.now e.args.eligible.now) (sym (out2-length g)) e.requires.columns,
         front_length (places k) _ _ (places-length k) ∙ sym (out2-length g),
       ),
     )
 
-same_length : tie.Need-same-length
+same_length : tie.Need-shape_of-out
 same_length c = search rules
 
 returns : tie.Need-returns
@@ -180,12 +180,12 @@ returns c = let h = c.before.before in
     let e = entry (first f) in
     let a = e.args in
     let n = size (first f) in
-    passed-risk a.sensitive.now a.eligible.now a.expected.now a.actual.now a.hosts.now n (places k) (wanted (marked f)) e.pre.0.0.members e.pre.0.1.members (places-length k) k.place-sensitive.ensures
-    ((marked f).mark-listed.ensures ∙ ap (λ (z : List ℕ). join z (listed a.expected.now a.sensitive.now)) (take-replicate n module_limit 0 ∙ ap (λ (j : ℕ). replicate j 0) (part (first f))))
+    passed-risk a.sensitive.now a.eligible.now a.expected.now a.actual.now a.hosts.now n (places k) (wanted (marked f)) e.requires.orders.0.members e.requires.orders.1.members (places-length k) k.place_sensitive.ensures
+    ((marked f).mark_listed.ensures ∙ ap (λ (z : List ℕ). join z (listed a.expected.now a.sensitive.now)) (take-replicate n module_limit 0 ∙ ap (λ (j : ℕ). replicate j 0) (part (first f))))
     a.out.now (out1 f) (out2 g) (out3 h) (out1-is f) (out2-is g) (out3-is h)
 
-pub add-order-risk-spec : {M : Type 1} → statement M
-add-order-risk-spec =
+pub add_order_risk_spec : {M : Type 1} → statement M
+add_order_risk_spec =
     tie.close
     (tie.spec
     array-borrow-prefix-places

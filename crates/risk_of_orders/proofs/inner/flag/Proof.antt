@@ -47,69 +47,69 @@ unchanged e z h =
     join-none a.out.now (puts a.eligible.now a.hosts.now a.m)
     (λ i l. puts_none a.eligible.now a.hosts.now a.m (ap (has a.eligible.now) (host-blamed e z) ∙ h) i)
 
-mul-if1 : tie.Need-overflow-mul-if1
+mul-if1 : tie.Need-offset_bounds-eligible-at
 mul-if1 c = search rules
 
-shared-slice-read-if1 : tie.Need-shared-slice-read-if1
+shared-slice-read-if1 : tie.Need-bounds-eligible-at
 shared-slice-read-if1 c = search rules
 
-mul-out : tie.Need-overflow-mul-out
+mul-out : tie.Need-offset_bounds-out-at
 mul-out c = search rules
 
-slice-write-out : tie.Need-slice-write-out
+slice-write-out : tie.Need-bounds-out-at
 slice-write-out c = search rules
 
-same_length : tie.Need-same-length
+same_length : tie.Need-shape_of-out-then-eligible-at-ne0
 same_length c = search rules
 
-returns : tie.Need-returns
+returns : tie.Need-returns-then-eligible-at-ne0
 returns c =
     let e = c.before.before in
     let a = e.args in
-    let h = has-yes a.eligible.now a.m c.if1.true in
+    let h = has-yes a.eligible.now a.m c.if-eligible-at-ne0.true in
     changed e a.m (blamed-self a.eligible.now a.hosts.now a.m h) e.requires.1 h
 
-mul-host : tie.Need-overflow-mul-host
+mul-host : tie.Need-offset_bounds-hosts-at
 mul-host c = search rules
 
-shared-slice-read-host : tie.Need-shared-slice-read-host
+shared-slice-read-host : tie.Need-bounds-hosts-at
 shared-slice-read-host c = search rules
 
-cast-host : tie.Need-overflow-cast-host
-cast-host c = let a = c.before.before.before.args in omega (arith, c.shared-slice-known2.given a.m)
+cast-host : tie.Need-overflow_cast-host
+cast-host c = let a = c.args in omega (arith, c.shared_slice_known-2-1.given a.m)
 
-returns-2 : tie.Need-returns-2
+returns-2 : tie.Need-returns-then-eligible-host
 returns-2 c =
     let e = c.before.before.before.before in
-    unchanged e c.before.before.if1.false (has-past e.args.eligible.now (noted e) c.if2.true)
+    unchanged e c.if-eligible-at-ne0.false (has-past e.args.eligible.now (noted e) c.if-eligible-host.true)
 
-mul-if3 : tie.Need-overflow-mul-if3
+mul-if3 : tie.Need-offset_bounds-eligible-host
 mul-if3 c = search rules
 
-shared-slice-read-if3 : tie.Need-shared-slice-read-if3
+shared-slice-read-if3 : tie.Need-bounds-eligible-host
 shared-slice-read-if3 c = search rules
 
-returns-3 : tie.Need-returns-3
+returns-3 : tie.Need-returns-then-eligible-host-eq0
 returns-3 c =
     let e = c.before.before.before.before.before.before in
-    unchanged e c.before.before.before.before.if1.false (has-not e.args.eligible.now (noted e) c.if3.true)
+    unchanged e c.if-eligible-at-ne0.false (has-not e.args.eligible.now (noted e) c.if-eligible-host-eq0.true)
 
-mul-out-2 : tie.Need-overflow-mul-out-2
+mul-out-2 : tie.Need-offset_bounds-out-host
 mul-out-2 c = search rules
 
-slice-write-out-2 : tie.Need-slice-write-out-2
+slice-write-out-2 : tie.Need-bounds-out-host
 slice-write-out-2 c = search rules
 
-same-length-2 : tie.Need-same-length-2
+same-length-2 : tie.Need-shape_of-out
 same-length-2 c = search rules
 
-returns-4 : tie.Need-returns-4
+returns-4 : tie.Need-returns
 returns-4 c =
     let e = c.before.before.before.before.before.before in
-    changed e (noted e) (host-blamed e c.before.before.before.before.if1.false) (omega (arith, c.before.before.if2.false, e.requires.0.1)) (has-yes e.args.eligible.now (noted e) c.if3.false)
+    changed e (noted e) (host-blamed e c.if-eligible-at-ne0.false) (omega (arith, c.if-eligible-host.false, e.requires.0.1)) (has-yes e.args.eligible.now (noted e) c.if-eligible-host-eq0.false)
 
-pub flag-spec : {M : Type 1} → statement M
-flag-spec =
+pub flag_spec : {M : Type 1} → statement M
+flag_spec =
     tie.close
     (tie.spec
     mul-if1

@@ -26,46 +26,46 @@ ImportAdded p plan new changed = Added (λ (m : ℕ). import_asks (eligible p) (
 abbrev of : tie.Start → Project
 of e = let a = e.args in read (table a.runtime a.dynamic a.bounds.now a.columns.now) a.importers.now a.kinds.now a.targets.now a.dependencies.now a.members.now
 
-abbrev entry : tie.After-copy-to → tie.Start
+abbrev entry : tie.After-copy_to → tie.Start
 entry k = k.before.before.before.before.before.before.before.before.before.before.before.before.before.before.before.before.before
 
-is-plan : (k : tie.After-copy-to) → k.copy-to.new.1.0 ≡ (entry k).args.plan.now
-is-plan k = let a = (entry k).args in copied a.plan.now a.copy.now k.copy-to.new.1.0 (entry k).requires.1.1.1.1 k.copy-to.ensures
+is-plan : (k : tie.After-copy_to) → k.copy_to.new.1.0 ≡ (entry k).args.plan.now
+is-plan k = let a = (entry k).args in copied a.plan.now a.copy-1.now k.copy_to.new.1.0 (entry k).requires.1.1.1.1 k.copy_to.ensures
 
 -- what the rule added to it
 
-abbrev first : tie.After-pass-importers → tie.After-copy-to
+abbrev first : tie.After-pass_importers → tie.After-copy_to
 first k = k.before.before.before.before.before
 
-abbrev copy : tie.After-pass-importers → List ℕ
-copy k = k.pass-importers.new.1.1.1.1.1.1.1.1.1.1.1.1.1.1.1.0
+abbrev copy : tie.After-pass_importers → List ℕ
+copy k = k.pass_importers.new.1.1.1.1.1.1.1.1.1.1.1.1.1.1.1.0
 
-added : (k : tie.After-pass-importers) → let e = entry (first k) in ImportAdded (of e) e.args.plan.now (copy k) k.pass-importers.result
-added k = let e = entry (first k) in subst (λ (s : List ℕ). ImportAdded (of e) s (copy k) k.pass-importers.result) (is-plan (first k)) k.pass-importers.ensures.added
+added : (k : tie.After-pass_importers) → let e = entry (first k) in ImportAdded (of e) e.args.plan.now (copy k) k.pass_importers.result
+added k = let e = entry (first k) in subst (λ (s : List ℕ). ImportAdded (of e) s (copy k) k.pass_importers.result) (is-plan (first k)) k.pass_importers.ensures.added
 
-copy-to-requires : tie.Need-copy-to-requires
-copy-to-requires c κs = let n = c.before.before.before.before.before.before.before.before.before.before.before.before.before.before.before.before.requires.1.1.1.1 in omega arith
+copy-to-requires : tie.Need-copy_to-requires
+copy-to-requires c κs = let n = c.requires.1.1.1.1 in omega arith
 
-pass-importers-requires : tie.Need-pass-importers-requires
+pass-importers-requires : tie.Need-pass_importers-requires
 pass-importers-requires c κs =
     let k = c.before.before.before.before in
     let e = entry k in
-    (e.pre.0, (e.pre.1.0, (subst (Marked (of e)) (sym (is-plan k)) e.pre.1.1.0, subst (Leading (of e) e.args.leads.now) (sym (is-plan k)) e.pre.1.1.1.0)))
+    (e.requires.0, (e.requires.1.0, (subst (Marked (of e)) (sym (is-plan k)) e.requires.1.1.0, subst (Leading (of e) e.args.leads.now) (sym (is-plan k)) e.requires.1.1.1.0)))
 
-lowest-lacking-requires : tie.Need-lowest-lacking-requires
+lowest-lacking-requires : tie.Need-lowest_lacking-requires
 lowest-lacking-requires c κs =
     let k = c.before.before.before.before.before in
     let e = entry (first k) in
     let n = (added k).len in
-    (sym n, omega (arith, e.pre.1.1.0.size, e.pre.0.accepted.sizes.normal))
+    (sym n, omega (arith, e.requires.1.1.0.size, e.requires.0.accepted.sizes.normal))
 
 returns : tie.Need-returns
 returns c =
     let k = c.before.before.before.before.before.before in
     let e = entry (first k) in
-    c.lowest-lacking.ensures ∙ lacking-rule (of e) import_rule e.args.plan.now e.pre.1.1.0.size (added k)
+    c.lowest_lacking.ensures ∙ lacking-rule (of e) import_rule e.args.plan.now e.requires.1.1.0.size (added k)
 
-pub lacking-importer-spec : {M : Type 1} → statement M
-lacking-importer-spec =
+pub lacking_importer_spec : {M : Type 1} → statement M
+lacking_importer_spec =
     tie.close
     (tie.spec copy-to-requires pass-importers-requires lowest-lacking-requires (λ c. search rules) (λ c. search rules) returns)

@@ -36,59 +36,59 @@ few : (e : tie.Start) → size e ≤ 4096
 few e = omega (arith, e.requires.1.0.size, (ok e).sizes.normal)
 
 -- the edges
-module _ (k : tie.After-list-edges) where
+module _ (k : tie.After-list_edges-edges) where
   abbrev entry : tie.Start
   entry = k.before.before.before.before.before.before.before.before.before.before.before.before.before.before
 
   abbrev count : ℕ
-  count = k.list-edges.result
+  count = k.list_edges-edges.result
 
   abbrev importers : List ℕ
-  importers = take count k.list-edges.last.1.1.1.1.1.1.1.1.1.0
+  importers = take count k.list_edges-edges.last.1.1.1.1.1.1.1.1.1.0
 
   abbrev targets : List ℕ
-  targets = take count k.list-edges.last.1.1.1.1.1.1.1.1.1.1.0
+  targets = take count k.list_edges-edges.last.1.1.1.1.1.1.1.1.1.1.0
 
   few-edges : count ≤ 16384
-  few-edges = omega (arith, k.list-edges.ensures.few, (ok entry).sizes.record_module)
+  few-edges = omega (arith, k.list_edges-edges.ensures.few, (ok entry).sizes.record_module)
 
-  importers-room : count ≤ length k.list-edges.last.1.1.1.1.1.1.1.1.1.0
-  importers-room = omega (arith, few-edges, k.list-edges.kept.1.1.1.1.1.1.1.1.1.0)
+  importers-room : count ≤ length k.list_edges-edges.last.1.1.1.1.1.1.1.1.1.0
+  importers-room = omega (arith, few-edges, k.list_edges-edges.auto.from)
 
-  targets-room : count ≤ length k.list-edges.last.1.1.1.1.1.1.1.1.1.1.0
-  targets-room = omega (arith, few-edges, k.list-edges.kept.1.1.1.1.1.1.1.1.1.1.0)
+  targets-room : count ≤ length k.list_edges-edges.last.1.1.1.1.1.1.1.1.1.1.0
+  targets-room = omega (arith, few-edges, k.list_edges-edges.auto.to)
 
   importers-length : length importers ≡ count
-  importers-length = length-take-le count k.list-edges.last.1.1.1.1.1.1.1.1.1.0 importers-room
+  importers-length = length-take-le count k.list_edges-edges.last.1.1.1.1.1.1.1.1.1.0 importers-room
 
   targets-length : length targets ≡ count
-  targets-length = length-take-le count k.list-edges.last.1.1.1.1.1.1.1.1.1.1.0 targets-room
+  targets-length = length-take-le count k.list_edges-edges.last.1.1.1.1.1.1.1.1.1.1.0 targets-room
 
   edges : EdgesOf (of entry) importers targets (length importers)
-  edges = subst (EdgesOf (of entry) importers targets) (sym importers-length) (edges-part (of entry).record_module (record_targets (of entry)) k.list-edges.ensures)
+  edges = subst (EdgesOf (of entry) importers targets) (sym importers-length) (edges-part (of entry).record_module (record_targets (of entry)) k.list_edges-edges.ensures)
 
   graph : ModuleGraph importers targets (modules (of entry))
   graph = edges-graph (of entry) (ok entry) importers targets (targets-length ∙ sym importers-length) edges
 
 -- the candidates
-abbrev written : tie.After-choose-candidates → tie.After-list-edges
+abbrev written : tie.After-choose_candidates → tie.After-list_edges-edges
 written k = k.before.before.before.before.before.before
 
-lent : (k : tie.After-choose-candidates) → Lent 4096 (size (entry (written k))) k.choose-candidates.new.1.1.1.1.1.1.1.1.1.1.1.1.1.0
-lent k = record { fits = few (entry (written k)); kept = k.choose-candidates.auto.1.1.1.1.1.1.1.1.1.1.1.1.1.0 }
+lent : (k : tie.After-choose_candidates) → Lent 4096 (size (entry (written k))) k.choose_candidates.new.1.1.1.1.1.1.1.1.1.1.1.1.1.0
+lent k = record { fits = few (entry (written k)); kept = k.choose_candidates.auto.candidates }
 
 -- the threads
-abbrev chosen : tie.After-thread → tie.After-choose-candidates
+abbrev chosen : tie.After-thread → tie.After-choose_candidates
 chosen k = k.before.before.before.before.before
 
 abbrev start : tie.After-thread → tie.Start
 start k = entry (written (chosen k))
 
 heads-lent : (k : tie.After-thread) → Lent 4096 (size (start k)) k.thread.new.1.0
-heads-lent k = record { fits = few (start k); kept = k.thread.auto.1.0 }
+heads-lent k = record { fits = few (start k); kept = k.thread.auto.heads }
 
 nexts-lent : (k : tie.After-thread) → Lent 16384 (count (written (chosen k))) k.thread.new.1.1.0
-nexts-lent k = record { fits = few-edges (written (chosen k)); kept = k.thread.auto.1.1.0 }
+nexts-lent k = record { fits = few-edges (written (chosen k)); kept = k.thread.auto.nexts }
 
 abbrev heads : tie.After-thread → List ℕ
 heads k = view 4096 (size (start k)) k.thread.new.1.0
@@ -106,28 +106,28 @@ edged k =
     let w = written (chosen k) in
     record { edges = edges w; graph = graph-back (graph w); threads = threads k; head_size = view-length (heads-lent k) ∙ (start k).requires.1.0.size }
 
-list-edges-requires : tie.Need-list-edges-requires
+list-edges-requires : tie.Need-list_edges-edges-requires
 list-edges-requires c κs = let e = c.before.before.before.before.before.before.before.before.before.before.before.before.before in (record { accepted = ok e; fits = omega arith }, record { accepted = ok e; fits = omega arith })
 
-array-share-prefix-from : tie.Need-array-share-prefix-from
+array-share-prefix-from : tie.Need-slice_bounds-from-end
 array-share-prefix-from c = importers-room c.before.before
 
-slice-aggregate-choose-candidates : tie.Need-slice-aggregate-choose-candidates
+slice-aggregate-choose-candidates : tie.Need-slice_bounds-choose_candidates-end
 slice-aggregate-choose-candidates c = sym (importers-length c.before.before.before)
 
-array-share-prefix-to : tie.Need-array-share-prefix-to
+array-share-prefix-to : tie.Need-slice_bounds-to-end
 array-share-prefix-to c = targets-room c.before.before.before
 
-slice-aggregate-choose-candidates-2 : tie.Need-slice-aggregate-choose-candidates-2
+slice-aggregate-choose-candidates-2 : tie.Need-slice_bounds-choose_candidates-end-2
 slice-aggregate-choose-candidates-2 c = sym (targets-length c.before.before.before.before)
 
-array-borrow-prefix-candidates : tie.Need-array-borrow-prefix-candidates
+array-borrow-prefix-candidates : tie.Need-slice_bounds-candidates-end
 array-borrow-prefix-candidates c = few c.before.before.before.before.before.before.before.before.before.before.before.before.before.before.before.before.before.before
 
-slice-aggregate-choose-candidates-3 : tie.Need-slice-aggregate-choose-candidates-3
+slice-aggregate-choose-candidates-3 : tie.Need-slice_bounds-choose_candidates-end-3
 slice-aggregate-choose-candidates-3 c = let e = c.before.before.before.before.before.before.before.before.before.before.before.before.before.before.before.before.before.before.before in sym (part_length 4096 (size e) (few e))
 
-choose-candidates-requires : tie.Need-choose-candidates-requires
+choose-candidates-requires : tie.Need-choose_candidates-requires
 choose-candidates-requires c κs =
     let k = c.before.before.before.before.before in
     let e = entry k in
@@ -135,86 +135,86 @@ choose-candidates-requires c κs =
       accepted = ok e;
       edges = edges k;
       lengths = targets-length k ∙ sym (importers-length k);
-      root = e.pre.0.root;
-      eligible_set = e.pre.0.eligible_set;
-      size = part_length 4096 (size e) (few e) ∙ e.pre.1.0.size;
+      root = e.requires.0.root;
+      eligible_set = e.requires.0.eligible_set;
+      size = part_length 4096 (size e) (few e) ∙ e.requires.1.0.size;
       bits = part-bits 4096 (size e);
       none = part_none 4096 (size e);
     }
 
-array-share-prefix-to-2 : tie.Need-array-share-prefix-to-2
+array-share-prefix-to-2 : tie.Need-slice_bounds-to-end-2
 array-share-prefix-to-2 c = targets-room c.before.before.before.before.before.before.before
 
-slice-aggregate-thread : tie.Need-slice-aggregate-thread
+slice-aggregate-thread : tie.Need-slice_bounds-thread-end
 slice-aggregate-thread c = sym (targets-length c.before.before.before.before.before.before.before.before)
 
-array-borrow-prefix-heads : tie.Need-array-borrow-prefix-heads
+array-borrow-prefix-heads : tie.Need-slice_bounds-heads-end
 array-borrow-prefix-heads c = few c.before.before.before.before.before.before.before.before.before.before.before.before.before.before.before.before.before.before.before.before.before.before
 
-slice-aggregate-thread-2 : tie.Need-slice-aggregate-thread-2
+slice-aggregate-thread-2 : tie.Need-slice_bounds-thread-end-2
 slice-aggregate-thread-2 c = let e = c.before.before.before.before.before.before.before.before.before.before.before.before.before.before.before.before.before.before.before.before.before.before.before in sym (part_length 4096 (size e) (few e))
 
-array-borrow-prefix-nexts : tie.Need-array-borrow-prefix-nexts
+array-borrow-prefix-nexts : tie.Need-slice_bounds-nexts-end
 array-borrow-prefix-nexts c = few-edges c.before.before.before.before.before.before.before.before.before
 
-slice-aggregate-thread-3 : tie.Need-slice-aggregate-thread-3
+slice-aggregate-thread-3 : tie.Need-slice_bounds-thread-end-3
 slice-aggregate-thread-3 c = let k = c.before.before.before.before.before.before.before.before.before.before in sym (part_length 16384 (count k) (few-edges k))
 
 thread-requires : tie.Need-thread-requires
 thread-requires c κs =
     let k = c.before.before.before.before.before.before.before.before.before.before in
     let e = entry k in
-    graph-threadable (graph-back (graph k)) (part_length 4096 (size e) (few e) ∙ e.pre.1.0.size) (omega (arith, targets-length k, part_length 16384 (count k) (few-edges k)))
+    graph-threadable (graph-back (graph k)) (part_length 4096 (size e) (few e) ∙ e.requires.1.0.size) (omega (arith, targets-length k, part_length 16384 (count k) (few-edges k)))
 
-array-share-prefix-from-2 : tie.Need-array-share-prefix-from-2
+array-share-prefix-from-2 : tie.Need-slice_bounds-from-end-2
 array-share-prefix-from-2 c = importers-room c.before.before.before.before.before.before.before.before.before.before.before.before.before
 
-slice-aggregate-lacking-led : tie.Need-slice-aggregate-lacking-led
+slice-aggregate-lacking-led : tie.Need-slice_bounds-lacking_led-end
 slice-aggregate-lacking-led c = sym (importers-length c.before.before.before.before.before.before.before.before.before.before.before.before.before.before)
 
-array-share-prefix-to-3 : tie.Need-array-share-prefix-to-3
+array-share-prefix-to-3 : tie.Need-slice_bounds-to-end-3
 array-share-prefix-to-3 c = targets-room c.before.before.before.before.before.before.before.before.before.before.before.before.before.before
 
-slice-aggregate-lacking-led-2 : tie.Need-slice-aggregate-lacking-led-2
+slice-aggregate-lacking-led-2 : tie.Need-slice_bounds-lacking_led-end-2
 slice-aggregate-lacking-led-2 c = sym (targets-length c.before.before.before.before.before.before.before.before.before.before.before.before.before.before.before)
 
-array-share-prefix-heads : tie.Need-array-share-prefix-heads
+array-share-prefix-heads : tie.Need-slice_bounds-heads-end-2
 array-share-prefix-heads c = view-room (heads-lent c.before.before.before.before)
 
-slice-aggregate-lacking-led-3 : tie.Need-slice-aggregate-lacking-led-3
+slice-aggregate-lacking-led-3 : tie.Need-slice_bounds-lacking_led-end-3
 slice-aggregate-lacking-led-3 c = sym (view-length (heads-lent c.before.before.before.before.before))
 
-array-share-prefix-nexts : tie.Need-array-share-prefix-nexts
+array-share-prefix-nexts : tie.Need-slice_bounds-nexts-end-2
 array-share-prefix-nexts c = view-room (nexts-lent c.before.before.before.before.before)
 
-slice-aggregate-lacking-led-4 : tie.Need-slice-aggregate-lacking-led-4
+slice-aggregate-lacking-led-4 : tie.Need-slice_bounds-lacking_led-end-4
 slice-aggregate-lacking-led-4 c = sym (view-length (nexts-lent c.before.before.before.before.before.before))
 
-array-share-prefix-candidates : tie.Need-array-share-prefix-candidates
+array-share-prefix-candidates : tie.Need-slice_bounds-candidates-end-2
 array-share-prefix-candidates c = view-room (lent c.before.before.before.before.before.before.before.before.before.before.before)
 
-slice-aggregate-lacking-led-5 : tie.Need-slice-aggregate-lacking-led-5
+slice-aggregate-lacking-led-5 : tie.Need-slice_bounds-lacking_led-end-5
 slice-aggregate-lacking-led-5 c = sym (view-length (lent c.before.before.before.before.before.before.before.before.before.before.before.before))
 
-array-borrow-prefix-leads : tie.Need-array-borrow-prefix-leads
+array-borrow-prefix-leads : tie.Need-slice_bounds-leads-end
 array-borrow-prefix-leads c = few c.before.before.before.before.before.before.before.before.before.before.before.before.before.before.before.before.before.before.before.before.before.before.before.before.before.before.before.before.before.before.before.before
 
-slice-aggregate-lacking-led-6 : tie.Need-slice-aggregate-lacking-led-6
+slice-aggregate-lacking-led-6 : tie.Need-slice_bounds-lacking_led-end-6
 slice-aggregate-lacking-led-6 c = let e = c.before.before.before.before.before.before.before.before.before.before.before.before.before.before.before.before.before.before.before.before.before.before.before.before.before.before.before.before.before.before.before.before.before in sym (part_length 4096 (size e) (few e))
 
-lacking-led-requires : tie.Need-lacking-led-requires
+lacking-led-requires : tie.Need-lacking_led-requires
 lacking-led-requires c κs =
     let k = c.before.before.before.before.before.before.before.before.before in
     let e = start k in
-    let plan = e.pre.1.0 in (
-      record { accepted = ok e; candidate_set = view-is (lent (chosen k)) ∙ (chosen k).choose-candidates.ensures },
-      (edged k, (plan, ((kept_from (of e) (ok e) e.args.plan.now plan (length (roots (of e))) (size e) refl plan.size).leading, e.pre.1.1))),
+    let plan = e.requires.1.0 in (
+      record { accepted = ok e; candidate_set = view-is (lent (chosen k)) ∙ (chosen k).choose_candidates.ensures },
+      (edged k, (plan, ((kept_from (of e) (ok e) e.args.plan.now plan (length (roots (of e))) (size e) refl plan.size).leading, e.requires.1.1))),
     )
 
 returns : tie.Need-returns
-returns c = c.before.before.before.lacking-led.ensures
+returns c = c.lacking_led.ensures
 
-pub lacking-reached-spec : {M : Type 1} → statement M
-lacking-reached-spec =
+pub lacking_reached_spec : {M : Type 1} → statement M
+lacking_reached_spec =
     tie.close
     (tie.spec (λ c. search rules) (λ c. search rules) list-edges-requires array-share-prefix-from slice-aggregate-choose-candidates array-share-prefix-to slice-aggregate-choose-candidates-2 array-borrow-prefix-candidates slice-aggregate-choose-candidates-3 choose-candidates-requires array-share-prefix-to-2 slice-aggregate-thread array-borrow-prefix-heads slice-aggregate-thread-2 array-borrow-prefix-nexts slice-aggregate-thread-3 thread-requires array-share-prefix-from-2 slice-aggregate-lacking-led array-share-prefix-to-3 slice-aggregate-lacking-led-2 array-share-prefix-heads slice-aggregate-lacking-led-3 array-share-prefix-nexts slice-aggregate-lacking-led-4 array-share-prefix-candidates slice-aggregate-lacking-led-5 array-borrow-prefix-leads slice-aggregate-lacking-led-6 lacking-led-requires (λ c. search rules) returns)

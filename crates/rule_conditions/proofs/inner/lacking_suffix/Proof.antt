@@ -17,46 +17,46 @@ use Rattle.rule_conditions.proofs.inner.lacking_suffix.Tie as tie
 abbrev of : tie.Start → Project
 of e = let a = e.args in read (table a.runtime a.dynamic a.bounds.now a.columns.now) a.importers.now a.kinds.now a.targets.now a.dependencies.now a.members.now
 
-abbrev entry : tie.After-copy-to → tie.Start
+abbrev entry : tie.After-copy_to → tie.Start
 entry k = k.before.before.before.before.before.before.before.before.before.before.before.before.before.before
 
-is-plan : (k : tie.After-copy-to) → k.copy-to.new.1.0 ≡ (entry k).args.plan.now
-is-plan k = let a = (entry k).args in copied a.plan.now a.copy.now k.copy-to.new.1.0 (entry k).requires.1.1 k.copy-to.ensures
+is-plan : (k : tie.After-copy_to) → k.copy_to.new.1.0 ≡ (entry k).args.plan.now
+is-plan k = let a = (entry k).args in copied a.plan.now a.copy-1.now k.copy_to.new.1.0 (entry k).requires.1.1 k.copy_to.ensures
 
 -- what the rule added to it
 
-abbrev first : tie.After-add-suffixes → tie.After-copy-to
+abbrev first : tie.After-add_suffixes → tie.After-copy_to
 first k = k.before.before.before.before
 
-abbrev copy : tie.After-add-suffixes → List ℕ
-copy k = k.add-suffixes.new.1.1.1.1.1.1.1.1.1.1.1.1.1.0
+abbrev copy : tie.After-add_suffixes → List ℕ
+copy k = k.add_suffixes.new.1.1.1.1.1.1.1.1.1.1.1.1.1.0
 
-added : (k : tie.After-add-suffixes) → let e = entry (first k) in SuffixesAdded (of e) e.args.plan.now (copy k) k.add-suffixes.result
-added k = k.add-suffixes.ensures
+added : (k : tie.After-add_suffixes) → let e = entry (first k) in SuffixesAdded (of e) e.args.plan.now (copy k) k.add_suffixes.result
+added k = k.add_suffixes.ensures
 
-copy-to-requires : tie.Need-copy-to-requires
-copy-to-requires c κs = let n = c.before.before.before.before.before.before.before.before.before.before.before.before.before.requires.1.1 in omega arith
+copy-to-requires : tie.Need-copy_to-requires
+copy-to-requires c κs = let n = c.requires.1.1 in omega arith
 
-add-suffixes-requires : tie.Need-add-suffixes-requires
+add-suffixes-requires : tie.Need-add_suffixes-requires
 add-suffixes-requires c κs =
     let k = c.before.before.before in
     let e = entry k in
-    (e.pre.0, (e.pre.1.0, is-plan k))
+    (e.requires.0, (e.requires.1.0, is-plan k))
 
-lowest-lacking-requires : tie.Need-lowest-lacking-requires
+lowest-lacking-requires : tie.Need-lowest_lacking-requires
 lowest-lacking-requires c κs =
     let k = c.before.before.before in
     let e = entry (first k) in
     let n = (added k).len in
-    (sym n, omega (arith, e.pre.1.0.size, e.pre.0.accepted.sizes.normal))
+    (sym n, omega (arith, e.requires.1.0.size, e.requires.0.accepted.sizes.normal))
 
 returns : tie.Need-returns
 returns c =
     let k = c.before.before.before.before in
     let e = entry (first k) in
-    c.lowest-lacking.ensures ∙ lacking-rule (of e) suffix_rule e.args.plan.now e.pre.1.0.size (added k)
+    c.lowest_lacking.ensures ∙ lacking-rule (of e) suffix_rule e.args.plan.now e.requires.1.0.size (added k)
 
-pub lacking-suffix-spec : {M : Type 1} → statement M
-lacking-suffix-spec =
+pub lacking_suffix_spec : {M : Type 1} → statement M
+lacking_suffix_spec =
     tie.close
     (tie.spec copy-to-requires add-suffixes-requires lowest-lacking-requires (λ c. search rules) returns)

@@ -19,13 +19,13 @@ entry k = k.before.before.before.before.before.before.before.before.before.befor
 abbrev of : tie.Start → Project
 of e = let a = e.args in read (table a.runtime a.dynamic a.bounds.now a.columns.now) a.importers.now a.kinds.now a.targets.now a.dependencies.now a.members.now
 
-mark-seeds-requires : tie.Need-mark-seeds-requires
+mark-seeds-requires : tie.Need-mark_seeds-requires
 unfolding table read
 mark-seeds-requires c κs =
     let k = c.before in
     let e = entry k in
-    let size = e.pre.1.size in
-    (e.pre.0.size ∙ sym size, asked1 (Below (length e.args.plan.now)) k.column.ensures (subst (λ (n : ℕ). Below n (of e).seed) (sym size) e.pre.0.accepted.values.seed))
+    let size = e.requires.1.size in
+    (e.requires.0.size ∙ sym size, asked1 (Below (length e.args.plan.now)) k.column.ensures (subst (λ (n : ℕ). Below n (of e).seed) (sym size) e.requires.0.accepted.values.seed))
 
 returns : tie.Need-returns
 unfolding table read
@@ -33,7 +33,7 @@ returns c =
     let call = c.before.before in
     let k = call.before.before in
     let a = (entry k).args in
-    given1 (λ seeds. Owners seeds (looked 0 a.eligible.now seeds) (length seeds) a.plan.now call.mark-seeds.new.1.1.0) k.column.ensures call.mark-seeds.ensures
+    given1 (λ seeds. Owners seeds (looked 0 a.eligible.now seeds) (length seeds) a.plan-1.now call.mark_seeds.new.1.1.0) k.column.ensures call.mark_seeds.ensures
 
-pub mark-table-seeds-spec : {M : Type 1} → statement M
-mark-table-seeds-spec = tie.close (tie.spec (λ c κs. search rules) mark-seeds-requires (λ c. search rules) returns)
+pub mark_table_seeds_spec : {M : Type 1} → statement M
+mark_table_seeds_spec = tie.close (tie.spec (λ c κs. search rules) mark-seeds-requires (λ c. search rules) returns)

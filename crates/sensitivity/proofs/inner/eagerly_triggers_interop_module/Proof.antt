@@ -14,7 +14,7 @@ use Rattle.sensitivity.proofs.inner.eagerly_triggers_interop_module.Reads as rea
 use Rattle.sensitivity.proofs.inner.eagerly_triggers_interop_module.Lts as lts
 use Rattle.sensitivity.proofs.inner.search_uses.Reads as search-uses-reads
 
-abbrev entry : tie.After-shared-slice-known13 → tie.Start
+abbrev entry : tie.After-shared_slice_known-13-1 → tie.Start
 entry c = c.before.before.before.before.before.before.before.before.before.before.before.before.before
 
 abbrev start : tie.Start → ℕ → ℕ
@@ -26,31 +26,31 @@ first e = e.requires.1.1.1.0.firsts e.args.m (omega (arith, e.requires.1.1.0.1, 
 next : (e : tie.Start) → FirstRow e.args.statement-module.now (e.args.m + 1) (start e (e.args.m + 1))
 next e = e.requires.1.1.1.0.firsts (e.args.m + 1) (omega (arith, e.requires.1.1.0.1, e.requires.1.1.1.1))
 
-mul-first : tie.Need-overflow-mul-first
+mul-first : tie.Need-offset_bounds-starts-m
 mul-first c = search rules
 
-shared-slice-read-first : tie.Need-shared-slice-read-first
+shared-slice-read-first : tie.Need-bounds-starts-m
 shared-slice-read-first c = search rules
 
-cast-first : tie.Need-overflow-cast-first
-cast-first c = omega (arith, c.shared-slice-known12.given c.before.before.before.before.before.before.before.before.before.before.before.before.args.m)
+cast-first : tie.Need-overflow_cast-first
+cast-first c = omega (arith, c.shared_slice_known-12-1.given c.args.m)
 
-add-end : tie.Need-overflow-add-end
+add-end : tie.Need-overflow_add-end
 add-end c = search rules
 
-mul-end : tie.Need-overflow-mul-end
+mul-end : tie.Need-offset_bounds-starts-m-2
 mul-end c = search rules
 
-shared-slice-read-end : tie.Need-shared-slice-read-end
+shared-slice-read-end : tie.Need-bounds-starts-m-2
 shared-slice-read-end c = search rules
 
-cast-end : tie.Need-overflow-cast-end
-cast-end c = omega (arith, c.shared-slice-known13.given ((entry c).args.m + 1))
+cast-end : tie.Need-overflow_cast-end
+cast-end c = omega (arith, c.shared_slice_known-13-1.given ((entry c).args.m + 1))
 
-search-uses-requires : tie.Need-search-uses-requires
+search-uses-requires : tie.Need-search_uses-requires
 search-uses-requires c κs =
     let e = entry c in
-    let p = e.pre in (
+    let p = e.requires in (
       p.0,
       (
         p.1.0,
@@ -66,11 +66,11 @@ unfolding uses_wrapped
 returns c =
     let e = entry c.before in
     let a = e.args in
-    c.search-uses.ensures
+    c.search_uses.ensures
     ∙ sym (ap (any (statement_wakes a.normal.now a.wrap.now a.record-kind.now a.record-target.now a.statement-included.now a.use-statement.now a.use-record.now)) (rows-of-run a.statement-module.now a.m _ _ (first e) (next e)))
 
-pub eagerly-triggers-interop-module-spec : {M : Type 1} → statement M
-eagerly-triggers-interop-module-spec =
+pub eagerly_triggers_interop_module_spec : {M : Type 1} → statement M
+eagerly_triggers_interop_module_spec =
     tie.close
     (tie.spec
     mul-first

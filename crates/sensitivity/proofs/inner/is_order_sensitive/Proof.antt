@@ -11,47 +11,47 @@ use Rattle.sensitivity.proofs.inner.is_order_sensitive.Reads as reads
 use Rattle.sensitivity.proofs.inner.is_order_sensitive.Lts as lts
 use Rattle.sensitivity.proofs.inner.eagerly_triggers_interop_module.Reads as eagerly-triggers-interop-module-reads
 
-returns : tie.Need-returns
-returns c = rw (eq-eqb _ _ c.if1.true)
+returns : tie.Need-returns-then-m-runtime
+returns c = rw (eq-eqb _ _ c.if-m-runtime.true)
 
-mul-if2 : tie.Need-overflow-mul-if2
+mul-if2 : tie.Need-offset_bounds-normal-m
 mul-if2 c = search rules
 
-shared-slice-read-if2 : tie.Need-shared-slice-read-if2
+shared-slice-read-if2 : tie.Need-bounds-normal-m
 shared-slice-read-if2 c = search rules
 
-returns-2 : tie.Need-returns-2
-returns-2 c = rw (ne_eqb _ _ c.before.before.if1.false, ne_eqb _ _ c.if2.true)
+returns-2 : tie.Need-returns-then-normal-m-ne1
+returns-2 c = rw (ne_eqb _ _ c.if-m-runtime.false, ne_eqb _ _ c.if-normal-m-ne1.true)
 
-mul-if3 : tie.Need-overflow-mul-if3
+mul-if3 : tie.Need-offset_bounds-included-m
 mul-if3 c = search rules
 
-shared-slice-read-if3 : tie.Need-shared-slice-read-if3
+shared-slice-read-if3 : tie.Need-bounds-included-m
 shared-slice-read-if3 c = search rules
 
-returns-3 : tie.Need-returns-3
-returns-3 c = rw (ne_eqb _ _ c.before.before.before.before.if1.false, eq-eqb _ _ c.before.before.if2.false, ne_eqb _ _ c.if3.true)
+returns-3 : tie.Need-returns-then-included-m-ne1
+returns-3 c = rw (ne_eqb _ _ c.if-m-runtime.false, eq-eqb _ _ c.if-normal-m-ne1.false, ne_eqb _ _ c.if-included-m-ne1.true)
 
-mul-acts : tie.Need-overflow-mul-acts
+mul-acts : tie.Need-offset_bounds-sensitive-m
 mul-acts c = search rules
 
-shared-slice-read-acts : tie.Need-shared-slice-read-acts
+shared-slice-read-acts : tie.Need-bounds-sensitive-m
 shared-slice-read-acts c = search rules
 
-eagerly-triggers-interop-module-requires : tie.Need-eagerly-triggers-interop-module-requires
+eagerly-triggers-interop-module-requires : tie.Need-eagerly_triggers_interop_module-wakes-requires
 eagerly-triggers-interop-module-requires c κs = search rules
 
 ground_of-by-requires : tie.Need-ground_of-by-requires
 ground_of-by-requires c κs = search rules
 
-returns-4 : tie.Need-returns-4
+returns-4 : tie.Need-returns
 returns-4 c =
-    let a = c.before.before.before.before.before.before.before.before.before.before.before.before.before.before.before.before.before.before.before.before.before.args in
-    rw (ne_eqb _ _ c.before.before.before.before.before.before.before.if1.false, eq-eqb _ _ c.before.before.before.before.before.if2.false, eq-eqb _ _ c.before.before.before.if3.false)
-    (c.ground_of-by.ensures ∙ ap (ground_by (flagged a.sensitive.now a.m)) c.before.eagerly-triggers-interop-module.ensures)
+    let a = c.args in
+    rw (ne_eqb _ _ c.if-m-runtime.false, eq-eqb _ _ c.if-normal-m-ne1.false, eq-eqb _ _ c.if-included-m-ne1.false)
+    (c.ground_of-by.ensures ∙ ap (ground_by (flagged a.sensitive.now a.m)) c.eagerly_triggers_interop_module-wakes.ensures)
 
-pub is-order-sensitive-spec : {M : Type 1} → statement M
-is-order-sensitive-spec =
+pub is_order_sensitive_spec : {M : Type 1} → statement M
+is_order_sensitive_spec =
     tie.close
     (tie.spec
     returns

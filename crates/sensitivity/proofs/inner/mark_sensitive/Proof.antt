@@ -19,16 +19,16 @@ use Rattle.sensitivity.proofs.inner.mark_with_threads.Reads as mark-with-threads
 use Rattle.tables.proofs.inner.first_rows.Reads as first-rows-reads
 use Rattle.tables.proofs.inner.thread.Reads as thread-reads
 
-abbrev entry : tie.After-nexts → tie.Start
+abbrev entry : tie.After-nexts-1 → tie.Start
 entry c = c.before.before.before.before.before.before.before.before.before.before.before.before.before
 
-abbrev statements : tie.After-nexts → ℕ
+abbrev statements : tie.After-nexts-1 → ℕ
 statements c = length (entry c).args.statement-included.now
 
 abbrev room : List ℕ
 room = replicate row_limit 0
 
-heads-part : (c : tie.After-heads) → let s = c.before.before.before.before.before.before.before.before.before.before.before.before in
+heads-part : (c : tie.After-heads-1) → let s = c.before.before.before.before.before.before.before.before.before.before.before.before in
     length (take (length s.args.statement-included.now) room) ≡ length s.args.statement-included.now
 heads-part c =
     let s = c.before.before.before.before.before.before.before.before.before.before.before.before in
@@ -39,7 +39,7 @@ abbrev heads : tie.After-thread → List ℕ
 heads k = k.thread.new.1.0
 
 heads-length : (k : tie.After-thread) → length (heads k) ≡ statements k.before
-heads-length k = k.thread.auto.1.0 ∙ heads-part k.before.before
+heads-length k = k.thread.auto.heads ∙ heads-part k.before.before
 
 -- heads that stand at the front of an array
 uses-front : {records : ℕ} (included owner column heads nexts ys : List ℕ) → length heads ≡ length included → length owner ≡ length column
@@ -49,34 +49,34 @@ uses-front {records} included owner column heads nexts ys h rows named threads =
     (record { statements = omega arith; rows = rows; named = named; threads = threads })
 
 -- the statements' starts, and the part of the array that they are read from
-abbrev threaded : tie.After-starts → tie.After-thread
+abbrev threaded : tie.After-starts-1 → tie.After-thread
 threaded c = c.before.before.before
 
-abbrev places : tie.After-starts → ℕ
+abbrev places : tie.After-starts-1 → ℕ
 places c = length (entry (threaded c).before).args.marks.now + 1
 
 abbrev starts-room : List ℕ
 starts-room = replicate 4097 0
 
-starts-part : (c : tie.After-starts) → length (take (places c) starts-room) ≡ places c
+starts-part : (c : tie.After-starts-1) → length (take (places c) starts-room) ≡ places c
 starts-part c = length-take-le (places c) starts-room (omega (arith, (entry (threaded c).before).requires.1.1.1.1))
 
-abbrev starts : tie.After-first-rows → List ℕ
+abbrev starts : tie.After-first_rows → List ℕ
 starts k = k.first_rows.new.1.0
 
-starts-length : (k : tie.After-first-rows) → length (starts k) ≡ places k.before
-starts-length k = k.first_rows.auto.1.0 ∙ starts-part k.before
+starts-length : (k : tie.After-first_rows) → length (starts k) ≡ places k.before
+starts-length k = k.first_rows.auto.starts ∙ starts-part k.before
 
-add-places : tie.Need-overflow-add-places
+add-places : tie.Need-overflow_add-places
 add-places c = search rules
 
-array-borrow-prefix-heads : tie.Need-array-borrow-prefix-heads
+array-borrow-prefix-heads : tie.Need-slice_bounds-heads-end
 array-borrow-prefix-heads c = search rules
 
-slice-aggregate-thread : tie.Need-slice-aggregate-thread
+slice-aggregate-thread : tie.Need-slice_bounds-thread-end
 slice-aggregate-thread c = sym (heads-part c)
 
-slice-aggregate-thread-2 : tie.Need-slice-aggregate-thread-2
+slice-aggregate-thread-2 : tie.Need-slice_bounds-thread-end-2
 slice-aggregate-thread-2 c = search rules
 
 thread-requires : tie.Need-thread-requires
@@ -87,35 +87,35 @@ thread-requires c κs = let p = (entry c).requires.1.1 in
       froms = λ i h. omega (arith, heads-part c.before, p.1.0.0.includeds, p.0.owned i h);
     }
 
-array-borrow-prefix-starts : tie.Need-array-borrow-prefix-starts
+array-borrow-prefix-starts : tie.Need-slice_bounds-starts-end
 array-borrow-prefix-starts c = search rules
 
-slice-aggregate-first-rows : tie.Need-slice-aggregate-first-rows
+slice-aggregate-first-rows : tie.Need-slice_bounds-first_rows-end
 slice-aggregate-first-rows c = sym (starts-part c)
 
-first-rows-requires : tie.Need-first-rows-requires
+first-rows-requires : tie.Need-first_rows-requires
 first-rows-requires c κs = search rules
 
-array-share-prefix-starts : tie.Need-array-share-prefix-starts
+array-share-prefix-starts : tie.Need-slice_bounds-starts-end-2
 array-share-prefix-starts c = let k = c.before in front-room (starts k) _ _ (starts-length k)
 
-slice-aggregate-mark-with-threads : tie.Need-slice-aggregate-mark-with-threads
+slice-aggregate-mark-with-threads : tie.Need-slice_bounds-mark_with_threads-end
 slice-aggregate-mark-with-threads c = let k = c.before.before in sym (front_length (starts k) _ _ (starts-length k))
 
-array-share-prefix-heads : tie.Need-array-share-prefix-heads
+array-share-prefix-heads : tie.Need-slice_bounds-heads-end-2
 array-share-prefix-heads c = let k = threaded c.before.before.before in front-room (heads k) _ _ (heads-length k)
 
-slice-aggregate-mark-with-threads-2 : tie.Need-slice-aggregate-mark-with-threads-2
+slice-aggregate-mark-with-threads-2 : tie.Need-slice_bounds-mark_with_threads-end-2
 slice-aggregate-mark-with-threads-2 c = let k = threaded c.before.before.before.before in sym (front_length (heads k) _ _ (heads-length k))
 
-slice-aggregate-mark-with-threads-3 : tie.Need-slice-aggregate-mark-with-threads-3
+slice-aggregate-mark-with-threads-3 : tie.Need-slice_bounds-mark_with_threads-end-3
 slice-aggregate-mark-with-threads-3 c = search rules
 
-mark-with-threads-requires : tie.Need-mark-with-threads-requires
+mark-with-threads-requires : tie.Need-mark_with_threads-requires
 mark-with-threads-requires c κs = let r = c.before.before.before.before.before in
     let k = threaded r.before in
     let e = entry k.before in
-    let p = e.pre in (
+    let p = e.requires in (
       p.0,
       (
         p.1.0,
@@ -132,14 +132,14 @@ mark-with-threads-requires c κs = let r = c.before.before.before.before.before 
       ),
     )
 
-same_length : tie.Need-same-length
+same_length : tie.Need-shape_of-marks
 same_length c = search rules
 
 returns : tie.Need-returns
 returns c = search rules
 
-pub mark-sensitive-spec : {M : Type 1} → statement M
-mark-sensitive-spec =
+pub mark_sensitive_spec : {M : Type 1} → statement M
+mark_sensitive_spec =
     tie.close
     (tie.spec
     add-places

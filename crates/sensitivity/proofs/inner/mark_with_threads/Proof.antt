@@ -12,16 +12,16 @@ use Rattle.sensitivity.proofs.inner.mark_with_threads.Reads as reads
 use Rattle.sensitivity.proofs.inner.mark_with_threads.Lts as lts
 use Rattle.sensitivity.proofs.inner.is_order_sensitive.Reads as is-order-sensitive-reads
 
-abbrev invariant-loop : tie.invariant-loop
+abbrev invariant-loop : tie.invariant-loop-m
 invariant-loop normal included sensitive wrap record-kind record-target statement-module starts statement-included use-statement use-record heads nexts marks₀ runtime m₀ marks m =
     Written (ground_at runtime normal included sensitive (uses_wrapped normal wrap record-kind record-target statement-module statement-included use-statement use-record)) marks₀ m marks
 
-abbrev decreases-loop : tie.decreases-loop
+abbrev decreases-loop : tie.decreases-loop-m
 decreases-loop normal included sensitive wrap record-kind record-target statement-module starts statement-included use-statement use-record heads nexts marks₀ runtime m₀ marks m =
     length marks - m
 
 abbrev Loop : Type 0
-Loop = lts.At-loop (is-order-sensitive-reads.Asked, is-order-sensitive-reads.Learnt) reads.Pre reads.Post invariant-loop decreases-loop
+Loop = lts.At-loop-m (is-order-sensitive-reads.Asked, is-order-sensitive-reads.Learnt) reads.Pre reads.Post invariant-loop decreases-loop
 
 abbrev entry : Loop → lts.Start (is-order-sensitive-reads.Asked, is-order-sensitive-reads.Learnt) reads.Pre reads.Post invariant-loop decreases-loop
 entry l = l.before.before.before.before.before.before.before.before.before.before.before.before.before.before.before
@@ -30,44 +30,44 @@ abbrev ground_of-at : Loop → ℕ → ℕ
 ground_of-at l = let a = (entry l).args in
     ground_at a.runtime a.normal.now a.included.now a.sensitive.now (uses_wrapped a.normal.now a.wrap.now a.record-kind.now a.record-target.now a.statement-module.now a.statement-included.now a.use-statement.now a.use-record.now)
 
-len : (l : Loop) → length l.loop.marks ≡ length (entry l).args.marks.now
-len l = l.loop.inv.len
+len : (l : Loop) → length l.loop-m.marks ≡ length (entry l).args.marks.now
+len l = l.loop-m.invariant.len
 
 -- the next place is a number
-more : (l : Loop) → l.loop.m < length l.loop.marks → l.loop.m + 1 ≤ length (entry l).args.normal.now
-more l h = omega (arith, len l, (entry l).pre.1.1.1.0.1)
+more : (l : Loop) → l.loop-m.m < length l.loop-m.marks → l.loop-m.m + 1 ≤ length (entry l).args.normal.now
+more l h = omega (arith, len l, (entry l).requires.statements.1)
 
-loop-holds : tie.Need-loop-init invariant-loop decreases-loop
+loop-holds : tie.Need-loop-m-init invariant-loop decreases-loop
 loop-holds c = written_start _ _
 
-is-order-sensitive-requires : tie.Need-is-order-sensitive-requires invariant-loop decreases-loop
+is-order-sensitive-requires : tie.Need-is_order_sensitive-requires invariant-loop decreases-loop
 is-order-sensitive-requires c κs = let l = c.before in let p = (entry l).requires in (p.0, (p.1.0, (p.1.1.0, ((p.1.1.1.0.0, omega (arith, len l, p.1.1.1.0.1)), p.1.1.1.1))))
 
-mul-marks : tie.Need-overflow-mul-marks invariant-loop decreases-loop
-mul-marks c = let l = c.before.before in omega (arith, more l c.before.loop-test.true, (entry l).well-formed.0)
+mul-marks : tie.Need-offset_bounds-marks-m invariant-loop decreases-loop
+mul-marks c = let l = c.before.before in omega (arith, more l c.loop-m-test.true, (entry l).well_formed.0)
 
-slice-write-marks : tie.Need-slice-write-marks invariant-loop decreases-loop
+slice-write-marks : tie.Need-bounds-marks-m invariant-loop decreases-loop
 slice-write-marks c = search rules
 
-add-m : tie.Need-overflow-add-m invariant-loop decreases-loop
-add-m c = let l = c.before.before in omega (arith, more l c.before.loop-test.true, (entry l).well-formed.0)
+add-m : tie.Need-overflow_add-m invariant-loop decreases-loop
+add-m c = let l = c.before.before in omega (arith, more l c.loop-m-test.true, (entry l).well_formed.0)
 
-loop-less : tie.Need-loop-smaller invariant-loop decreases-loop
+loop-less : tie.Need-loop-m-smaller invariant-loop decreases-loop
 loop-less c = simp length-set (omega arith)
 
-loop-again : tie.Need-loop-preserved invariant-loop decreases-loop
+loop-again : tie.Need-loop-m-preserved invariant-loop decreases-loop
 loop-again c =
     let l = c.before.before in
-    written-more (ground_of-at l) (entry l).args.marks.now l.loop.m l.loop.marks c.is-order-sensitive.result l.loop.invariant c.before.loop-test.true c.is-order-sensitive.ensures
+    written-more (ground_of-at l) (entry l).args.marks.now l.loop-m.m l.loop-m.marks c.is_order_sensitive.result l.loop-m.invariant c.loop-m-test.true c.is_order_sensitive.ensures
 
-same_length : tie.Need-same-length invariant-loop decreases-loop
+same_length : tie.Need-shape_of-marks invariant-loop decreases-loop
 same_length c = len c.before
 
 returns : tie.Need-returns invariant-loop decreases-loop
-returns c = let l = c.before in written-end (ground_of-at l) (entry l).args.marks.now l.loop.m l.loop.marks l.loop.invariant c.loop-test.false
+returns c = let l = c.before in written-end (ground_of-at l) (entry l).args.marks.now l.loop-m.m l.loop-m.marks l.loop-m.invariant c.loop-m-test.false
 
-pub mark-with-threads-spec : {M : Type 1} → statement M
-mark-with-threads-spec =
+pub mark_with_threads_spec : {M : Type 1} → statement M
+mark_with_threads_spec =
     tie.close
     (tie.spec
     invariant-loop

@@ -18,11 +18,11 @@ use Rattle.sensitivity.proofs.inner.search_uses.Reads as reads
 use Rattle.sensitivity.proofs.inner.search_uses.Lts as lts
 use Rattle.sensitivity.proofs.inner.row_wakes.Reads as row-wakes-reads
 
-abbrev invariant-loop : tie.invariant-loop
+abbrev invariant-loop : tie.invariant-loop-u
 invariant-loop normal wrap record-kind record-target statement-included use-statement use-record heads nexts first end found₀ s u₀ found u =
     (found ≡ found₀) × Searching use-statement use-record s (wakes normal wrap record-kind record-target) u
 
-abbrev decreases-loop : tie.decreases-loop
+abbrev decreases-loop : tie.decreases-loop-u
 decreases-loop normal wrap record-kind record-target statement-included use-statement use-record heads nexts first end found₀ s u₀ found u =
     length use-statement - u
 
@@ -36,10 +36,10 @@ decreases-search normal wrap record-kind record-target statement-included use-st
     end - s
 
 abbrev Known : Type 0
-Known = lts.After-shared-slice-known10 (row-wakes-reads.Asked, row-wakes-reads.Learnt) reads.Pre reads.Post invariant-loop decreases-loop invariant-search decreases-search
+Known = lts.After-shared_slice_known-in-search-1 (row-wakes-reads.Asked, row-wakes-reads.Learnt) reads.Pre reads.Post invariant-loop decreases-loop invariant-search decreases-search
 
 abbrev Loop : Type 0
-Loop = lts.At-loop (row-wakes-reads.Asked, row-wakes-reads.Learnt) reads.Pre reads.Post invariant-loop decreases-loop invariant-search decreases-search
+Loop = lts.At-loop-u (row-wakes-reads.Asked, row-wakes-reads.Learnt) reads.Pre reads.Post invariant-loop decreases-loop invariant-search decreases-search
 
 abbrev Start : Type 0
 Start = lts.Start (row-wakes-reads.Asked, row-wakes-reads.Learnt) reads.Pre reads.Post invariant-loop decreases-loop invariant-search decreases-search
@@ -60,9 +60,9 @@ abbrev asks_of : Start → ℕ → Bool
 asks_of e = statement_wakes e.args.normal.now e.args.wrap.now e.args.record-kind.now e.args.record-target.now e.args.statement-included.now e.args.use-statement.now e.args.use-record.now
 
 -- the next use of the same statement
-next : (l : Loop) → l.loop.u < length (entry (known l)).args.use-statement.now → let a = (entry (known l)).args in
-    NextRow a.use-statement.now (get_or a.use-statement.now l.loop.u 0) (l.loop.u + 1) (get_or a.nexts.now l.loop.u 0)
-next l h = (entry (known l)).requires.1.0.threads.next l.loop.u h
+next : (l : Loop) → l.loop-u.u < length (entry (known l)).args.use-statement.now → let a = (entry (known l)).args in
+    NextRow a.use-statement.now (get_or a.use-statement.now l.loop-u.u 0) (l.loop-u.u + 1) (get_or a.nexts.now l.loop-u.u 0)
+next l h = (entry (known l)).requires.1.0.threads.next l.loop-u.u h
 
 -- a statement that is included asks what its uses ask
 asks-included : (k : Known) → get_or (entry k).args.statement-included.now (outer k).search.s 0 ≡ 1
@@ -75,64 +75,64 @@ asks-excluded k n = rw (ne_eqb _ _ n)
 search-holds : tie.Need-search-init invariant-loop decreases-loop invariant-search decreases-search
 search-holds c = search rules
 
-mul-if1 : tie.Need-overflow-mul-if1 invariant-loop decreases-loop invariant-search decreases-search
+mul-if1 : tie.Need-offset_bounds-statement_included-s invariant-loop decreases-loop invariant-search decreases-search
 mul-if1 c = search rules
 
-shared-slice-read-if1 : tie.Need-shared-slice-read-if1 invariant-loop decreases-loop invariant-search decreases-search
+shared-slice-read-if1 : tie.Need-bounds-statement_included-s invariant-loop decreases-loop invariant-search decreases-search
 shared-slice-read-if1 c = search rules
 
-mul-u : tie.Need-overflow-mul-u invariant-loop decreases-loop invariant-search decreases-search
+mul-u : tie.Need-offset_bounds-heads-s invariant-loop decreases-loop invariant-search decreases-search
 mul-u c = search rules
 
-shared-slice-read-u : tie.Need-shared-slice-read-u invariant-loop decreases-loop invariant-search decreases-search
+shared-slice-read-u : tie.Need-bounds-heads-s invariant-loop decreases-loop invariant-search decreases-search
 shared-slice-read-u c = search rules
 
-cast-u : tie.Need-overflow-cast-u invariant-loop decreases-loop invariant-search decreases-search
-cast-u c = omega (arith, c.shared-slice-known11.given (outer c.before.before).search.s)
+cast-u : tie.Need-overflow_cast-u invariant-loop decreases-loop invariant-search decreases-search
+cast-u c = omega (arith, c.shared_slice_known-then-statement_included-s-eq1-1.given (outer c.before.before).search.s)
 
-loop-holds : tie.Need-loop-init invariant-loop decreases-loop invariant-search decreases-search
+loop-holds : tie.Need-loop-u-init invariant-loop decreases-loop invariant-search decreases-search
 loop-holds c =
     let k = c.before.before in
     let e = entry k in
     let s = (outer k).search.s in
-    (refl, searching-start e.args.use-statement.now e.args.use-record.now s (wakes-of e) _ (e.pre.1.0.threads.first s (omega (arith, e.pre.1.0.statements))))
+    (refl, searching-start e.args.use-statement.now e.args.use-record.now s (wakes-of e) _ (e.requires.uses.threads.first s (omega (arith, e.requires.uses.statements))))
 
-mul-row : tie.Need-overflow-mul-row invariant-loop decreases-loop invariant-search decreases-search
+mul-row : tie.Need-offset_bounds-use_record-u invariant-loop decreases-loop invariant-search decreases-search
 mul-row c = search rules
 
-shared-slice-read-row : tie.Need-shared-slice-read-row invariant-loop decreases-loop invariant-search decreases-search
-shared-slice-read-row c = omega (arith, c.before.loop-test.true, (entry (known c.before.before)).requires.1.0.rows)
+shared-slice-read-row : tie.Need-bounds-use_record-u invariant-loop decreases-loop invariant-search decreases-search
+shared-slice-read-row c = omega (arith, c.loop-u-test.true, (entry (known c.before.before)).requires.1.0.rows)
 
-cast-row : tie.Need-overflow-cast-row invariant-loop decreases-loop invariant-search decreases-search
-cast-row c = omega (arith, c.shared-slice-known12.given c.before.before.loop.u)
+cast-row : tie.Need-overflow_cast-row invariant-loop decreases-loop invariant-search decreases-search
+cast-row c = omega (arith, c.shared_slice_known-in-loop-u-1.given c.loop-u.u)
 
-row-wakes-requires : tie.Need-row-wakes-requires invariant-loop decreases-loop invariant-search decreases-search
+row-wakes-requires : tie.Need-row_wakes-requires invariant-loop decreases-loop invariant-search decreases-search
 row-wakes-requires c κs =
     let l = c.before.before in
     let p = (entry (known l)).requires in
-    (p.0, p.1.0.named l.loop.u (omega (arith, c.before.loop-test.true, p.1.0.rows)))
+    (p.0, p.1.0.named l.loop-u.u (omega (arith, c.loop-u-test.true, p.1.0.rows)))
 
-mul-u-2 : tie.Need-overflow-mul-u-2 invariant-loop decreases-loop invariant-search decreases-search
+mul-u-2 : tie.Need-offset_bounds-nexts-u invariant-loop decreases-loop invariant-search decreases-search
 mul-u-2 c = search rules
 
-shared-slice-read-u-2 : tie.Need-shared-slice-read-u-2 invariant-loop decreases-loop invariant-search decreases-search
-shared-slice-read-u-2 c = let i = c.before.before.before.before in omega (arith, i.loop-test.true, (entry (known i.before)).requires.1.0.threads.room)
+shared-slice-read-u-2 : tie.Need-bounds-nexts-u invariant-loop decreases-loop invariant-search decreases-search
+shared-slice-read-u-2 c = let i = c.before.before.before.before in omega (arith, i.loop-u-test.true, (entry (known i.before)).requires.1.0.threads.room)
 
-cast-u-2 : tie.Need-overflow-cast-u-2 invariant-loop decreases-loop invariant-search decreases-search
-cast-u-2 c = omega (arith, c.shared-slice-known13.given c.before.before.before.before.before.loop.u)
+cast-u-2 : tie.Need-overflow_cast-u-in-loop-u invariant-loop decreases-loop invariant-search decreases-search
+cast-u-2 c = omega (arith, c.shared_slice_known-in-loop-u-2-1.given c.loop-u.u)
 
-loop-less : tie.Need-loop-smaller invariant-loop decreases-loop invariant-search decreases-search
-loop-less c = let i = c.before.before.before.before in omega (arith, i.loop-test.true, (next i.before i.loop-test.true).after)
+loop-less : tie.Need-loop-u-smaller invariant-loop decreases-loop invariant-search decreases-search
+loop-less c = let i = c.before.before.before.before in omega (arith, i.loop-u-test.true, (next i.before i.loop-u-test.true).after)
 
-loop-again : tie.Need-loop-preserved invariant-loop decreases-loop invariant-search decreases-search
+loop-again : tie.Need-loop-u-preserved invariant-loop decreases-loop invariant-search decreases-search
 loop-again c =
     let w = c.before.before in
     let i = w.before.before in
     let l = i.before in
     let e = entry (known l) in
-    (l.loop.invariant.0, searching-next e.args.use-statement.now e.args.use-record.now (outer (known l)).search.s (wakes-of e) l.loop.u l.loop.invariant.1 _ i.loop-test.true (sym w.row-wakes.ensures ∙ c.before.if2.false) (next l i.loop-test.true))
+    (l.loop-u.invariant.0, searching-next e.args.use-statement.now e.args.use-record.now (outer (known l)).search.s (wakes-of e) l.loop-u.u l.loop-u.invariant.1 _ i.loop-u-test.true (sym w.row_wakes.ensures ∙ c.if-row_wakes.false) (next l i.loop-u-test.true))
 
-add-s : tie.Need-overflow-add-s invariant-loop decreases-loop invariant-search decreases-search
+add-s : tie.Need-overflow_add-s invariant-loop decreases-loop invariant-search decreases-search
 add-s c = search rules
 
 search-less : tie.Need-search-smaller invariant-loop decreases-loop invariant-search decreases-search
@@ -144,30 +144,30 @@ search-again c =
     let e = entry k in
     let s = (outer k).search.s in
     let inv = (outer k).search.invariant in
-    let pass = any-pass (asks_of e) s e.args.end k.before.search-test.true in
+    let pass = any-pass (asks_of e) s e.args.end k.search-test.true in
     ⊎_elim
-    (λ w. (omega arith, w.4 ∙ w.2.inv.0 ∙ inv.1, sym (pass (asks-included k w.0.taken ∙ sym (searching-end e.args.use-statement.now e.args.use-record.now s (wakes-of e) w.2.u w.2.inv.1 w.3.left))) ∙ inv.2))
+    (λ w. (omega arith, w.4 ∙ w.2.invariant.0 ∙ inv.1, sym (pass (asks-included k w.0.taken ∙ sym (searching-end e.args.use-statement.now e.args.use-record.now s (wakes-of e) w.2.u w.2.invariant.1 w.3.left))) ∙ inv.2))
     (λ w. (omega arith, w.1 ∙ inv.1, sym (pass (asks-excluded k w.0.left)) ∙ inv.2))
-    c.if1.branch
+    c.if-statement_included-s-eq1.branch
 
-returns : tie.Need-returns invariant-loop decreases-loop invariant-search decreases-search
+returns : tie.Need-returns-after-search invariant-loop decreases-loop invariant-search decreases-search
 returns c =
-    let o = c.before.search in
-    let a = c.before.before.before.before.before.before.before.before.before.before.before.args in
+    let o = c.search in
+    let a = c.args in
     o.invariant.1 ∙ sym (any-end (statement_wakes a.normal.now a.wrap.now a.record-kind.now a.record-target.now a.statement-included.now a.use-statement.now a.use-record.now) o.s a.end c.search-test.false) ∙ o.invariant.2
 
-returns-2 : tie.Need-returns-2 invariant-loop decreases-loop invariant-search decreases-search
+returns-2 : tie.Need-returns-then-row_wakes invariant-loop decreases-loop invariant-search decreases-search
 returns-2 c =
     let w = c.before in
     let i = w.before.before in
     let l = i.before in
     let k = known l in
     let e = entry k in
-    let hit = sym (searching-found e.args.use-statement.now e.args.use-record.now (outer k).search.s (wakes-of e) l.loop.u l.loop.invariant.1 i.loop-test.true (sym w.row-wakes.ensures ∙ c.if2.true)) in
-    sym (any-hit (asks_of e) (outer k).search.s e.args.end k.before.search-test.taken (asks-included k l.before.before.if1.true ∙ hit)) ∙ (outer k).search.inv.2
+    let hit = sym (searching-found e.args.use-statement.now e.args.use-record.now (outer k).search.s (wakes-of e) l.loop-u.u l.loop-u.invariant.1 i.loop-u-test.true (sym w.row_wakes.ensures ∙ c.if-row_wakes.true)) in
+    sym (any-hit (asks_of e) (outer k).search.s e.args.end k.search-test.taken (asks-included k l.if-statement_included-s-eq1.true ∙ hit)) ∙ (outer k).search.invariant.2
 
-pub search-uses-spec : {M : Type 1} → statement M
-search-uses-spec =
+pub search_uses_spec : {M : Type 1} → statement M
+search_uses_spec =
     tie.close
     (tie.spec
     invariant-loop

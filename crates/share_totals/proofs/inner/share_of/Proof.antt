@@ -7,5 +7,5 @@ use Rattle.share_totals.proofs.inner.share_of.Tie as tie
 returns : tie.Need-returns
 returns c = cc
 
-pub share-of-spec : {M : Type 1} → statement M
-share-of-spec = tie.close (tie.spec (λ c κs. search rules) (λ c κs. search rules) returns)
+pub share_of_spec : {M : Type 1} → statement M
+share_of_spec = tie.close (tie.spec (λ c κs. search rules) (λ c κs. search rules) returns)

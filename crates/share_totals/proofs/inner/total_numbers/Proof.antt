@@ -7,5 +7,5 @@ use Rattle.share_totals.proofs.inner.total_numbers.Tie as tie
 returns : tie.Need-returns
 returns c = cc
 
-pub total-numbers-spec : {M : Type 1} → statement M
-total-numbers-spec = tie.close (tie.spec (λ c κs. search rules) (λ c κs. search rules) returns)
+pub total_numbers_spec : {M : Type 1} → statement M
+total_numbers_spec = tie.close (tie.spec (λ c κs. search rules) (λ c κs. search rules) returns)

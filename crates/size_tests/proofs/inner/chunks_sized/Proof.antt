@@ -8,9 +8,9 @@ use Rattle.size_tests.proofs.inner.chunks_sized.Tie as tie
 
 returns : tie.Need-returns
 unfolding table
-returns c = and-5 c.before.before.before.before.one_at.ensures c.before.before.before.two_at.ensures c.before.before.two-at2.ensures c.before.two-at3.ensures c.one-at2.ensures
+returns c = and-5 c.one_at.ensures c.two_at.ensures c.two_at-2.ensures c.two_at-3.ensures c.one_at-2.ensures
 
-pub chunks-sized-spec : {M : Type 1} → statement M
-chunks-sized-spec =
+pub chunks_sized_spec : {M : Type 1} → statement M
+chunks_sized_spec =
     tie.close
     (tie.spec (λ c κs. search rules) (λ c κs. search rules) (λ c κs. search rules) (λ c κs. search rules) (λ c κs. search rules) returns)

@@ -13,12 +13,12 @@ use Rattle.size_tests.proofs.inner.code_sized.Tie as tie
 returns : tie.Need-returns
 unfolding table read
 returns c =
-    let m = c.before.before.before.modules-sized in
+    let m = c.modules_sized in
     and-4
-    (given8 (λ normal included sensitive reads exports wrap chunk newer. m.result ≡ (not (is_zero (length normal)) && sized module_limit normal (included ∷ sensitive ∷ reads ∷ exports ∷ wrap ∷ chunk ∷ newer ∷ []))) c.before.before.before.before.before.before.before.before.before.before.before.column.ensures c.before.before.before.before.before.before.before.before.before.before.column2.ensures c.before.before.before.before.before.before.before.before.before.column3.ensures c.before.before.before.before.before.before.before.before.column4.ensures c.before.before.before.before.before.before.before.column5.ensures c.before.before.before.before.before.before.column6.ensures c.before.before.before.before.before.column7.ensures c.before.before.before.before.column8.ensures m.ensures)
-    c.before.before.three-sized.ensures c.before.two_at.ensures c.two-at2.ensures
+    (given8 (λ normal included sensitive reads exports wrap chunk newer. m.result ≡ (not (is_zero (length normal)) && sized module_limit normal (included ∷ sensitive ∷ reads ∷ exports ∷ wrap ∷ chunk ∷ newer ∷ []))) c.column.ensures c.column-2.ensures c.column-3.ensures c.column-4.ensures c.column-5.ensures c.column-6.ensures c.column-7.ensures c.column-8.ensures m.ensures)
+    c.three_sized.ensures c.two_at.ensures c.two_at-2.ensures
 
-pub code-sized-spec : {M : Type 1} → statement M
-code-sized-spec =
+pub code_sized_spec : {M : Type 1} → statement M
+code_sized_spec =
     tie.close
     (tie.spec (λ c κs. search rules) (λ c κs. search rules) (λ c κs. search rules) (λ c κs. search rules) (λ c κs. search rules) (λ c κs. search rules) (λ c κs. search rules) (λ c κs. search rules) (λ c κs. search rules) (λ c κs. search rules) (λ c κs. search rules) (λ c κs. search rules) returns)

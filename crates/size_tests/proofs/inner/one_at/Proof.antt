@@ -8,9 +8,9 @@ use Rattle.size_tests.proofs.inner.one_at.Statement.{statement}
 use Rattle.size_tests.proofs.inner.one_at.Tie as tie
 
 returns : tie.Need-returns
-returns c = given1 (λ column. c.one-sized.result ≡ sized c.before.before.before.before.args.limit column []) c.before.column.ensures c.one-sized.ensures
+returns c = given1 (λ column. c.one_sized.result ≡ sized c.args.limit column []) c.column.ensures c.one_sized.ensures
 
-pub one-at-spec : {M : Type 1} → statement M
-one-at-spec =
+pub one_at_spec : {M : Type 1} → statement M
+one_at_spec =
     tie.close
     (tie.spec (λ c κs. search rules) (λ c κs. search rules) returns)

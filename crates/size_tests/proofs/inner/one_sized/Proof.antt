@@ -10,5 +10,5 @@ returns : tie.Need-returns
 unfolding sized
 returns c = sym (and-true _)
 
-pub one-sized-spec : {M : Type 1} → statement M
-one-sized-spec = tie.close (tie.spec returns)
+pub one_sized_spec : {M : Type 1} → statement M
+one_sized_spec = tie.close (tie.spec returns)

@@ -8,9 +8,9 @@ use Rattle.size_tests.proofs.inner.symbols_sized.Tie as tie
 
 returns : tie.Need-returns
 unfolding table
-returns c = and-5 c.before.before.before.before.two_at.ensures c.before.before.before.two-at2.ensures c.before.before.two-at3.ensures c.before.three-at.ensures c.two-at4.ensures
+returns c = and-5 c.two_at.ensures c.two_at-2.ensures c.two_at-3.ensures c.three_at.ensures c.two_at-4.ensures
 
-pub symbols-sized-spec : {M : Type 1} → statement M
-symbols-sized-spec =
+pub symbols_sized_spec : {M : Type 1} → statement M
+symbols_sized_spec =
     tie.close
     (tie.spec (λ c κs. search rules) (λ c κs. search rules) (λ c κs. search rules) (λ c κs. search rules) (λ c κs. search rules) returns)

@@ -8,9 +8,9 @@ use Rattle.size_tests.proofs.inner.three_at.Statement.{statement}
 use Rattle.size_tests.proofs.inner.three_at.Tie as tie
 
 returns : tie.Need-returns
-returns c = given3 (λ column other third. c.three-sized.result ≡ sized c.before.before.before.before.before.before.args.limit column (other ∷ third ∷ [])) c.before.before.before.column.ensures c.before.before.column2.ensures c.before.column3.ensures c.three-sized.ensures
+returns c = given3 (λ column other third. c.three_sized.result ≡ sized c.args.limit column (other ∷ third ∷ [])) c.column.ensures c.column-2.ensures c.column-3.ensures c.three_sized.ensures
 
-pub three-at-spec : {M : Type 1} → statement M
-three-at-spec =
+pub three_at_spec : {M : Type 1} → statement M
+three_at_spec =
     tie.close
     (tie.spec (λ c κs. search rules) (λ c. search rules) (λ c κs. search rules) (λ c. search rules) (λ c κs. search rules) (λ c κs. search rules) returns)

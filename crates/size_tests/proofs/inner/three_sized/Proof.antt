@@ -10,5 +10,5 @@ use Rattle.size_tests.proofs.inner.three_sized.Tie as tie
 returns : tie.Need-returns
 returns c = and-2 c.two-Sized.ensures refl ∙ sym (three-column _ _ _ _)
 
-pub three-sized-spec : {M : Type 1} → statement M
-three-sized-spec = tie.close (tie.spec (λ c κs. search rules) returns)
+pub three_sized_spec : {M : Type 1} → statement M
+three_sized_spec = tie.close (tie.spec (λ c κs. search rules) returns)

@@ -8,9 +8,9 @@ use Rattle.size_tests.proofs.inner.two_at.Statement.{statement}
 use Rattle.size_tests.proofs.inner.two_at.Tie as tie
 
 returns : tie.Need-returns
-returns c = given2 (λ column other. c.two-Sized.result ≡ sized c.before.before.before.before.before.args.limit column (other ∷ [])) c.before.before.column.ensures c.before.column2.ensures c.two-Sized.ensures
+returns c = given2 (λ column other. c.two-Sized.result ≡ sized c.args.limit column (other ∷ [])) c.column.ensures c.column-2.ensures c.two-Sized.ensures
 
-pub two-at-spec : {M : Type 1} → statement M
-two-at-spec =
+pub two_at_spec : {M : Type 1} → statement M
+two_at_spec =
     tie.close
     (tie.spec (λ c κs. search rules) (λ c. search rules) (λ c κs. search rules) (λ c κs. search rules) returns)

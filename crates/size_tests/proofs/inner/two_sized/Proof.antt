@@ -9,5 +9,5 @@ returns : tie.Need-returns
 unfolding sized
 returns c = simp cond-id
 
-pub two-sized-spec : {M : Type 1} → statement M
-two-sized-spec = tie.close (tie.spec returns)
+pub two_sized_spec : {M : Type 1} → statement M
+two_sized_spec = tie.close (tie.spec returns)

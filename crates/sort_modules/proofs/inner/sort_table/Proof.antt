@@ -27,10 +27,10 @@ sort-requires c κs =
     let a = e.args in
     let n = sym e.requires.size in
     let ok = e.requires.accepted in (
-      asked1 (λ normal. Fit normal a.importers.now a.kinds.now a.targets.now (length a.marks.now)) c.before.before.before.before.column.ensures
+      asked1 (λ normal. Fit normal a.importers.now a.kinds.now a.targets.now (length a.marks.now)) c.column.ensures
           (subst (Fit (of e).normal a.importers.now a.kinds.now a.targets.now) n (accepted-fit (of e) ok)),
       (
-        (subst (λ (i : ℕ). a.runtime < i) n ok.values.runtime, asked1 (Below (length a.marks.now)) c.before.before.before.column2.ensures (subst (λ (i : ℕ). Below i (of e).entry) n ok.values.entry)),
+        (subst (λ (i : ℕ). a.runtime < i) n ok.values.runtime, asked1 (Below (length a.marks.now)) c.column-2.ensures (subst (λ (i : ℕ). Below i (of e).entry) n ok.values.entry)),
         (e.requires.places, e.requires.room, omega (arith, n, ok.sizes.normal)),
       ),
     )
@@ -38,13 +38,13 @@ sort-requires c κs =
 returns : tie.Need-returns
 unfolding table read numbers_of sorted_of
 returns c =
-    let a = c.before.before.before.before.before.before.before.before.before.before.before.before.before.before.before.before.before.before.before.before.before.before.args in
-    let done = c.before.before.before.before.before.before.sort in
+    let a = c.args in
+    let done = c.sort in
     given2 (λ normal entry. Sorted (numbers a.dynamic normal a.importers.now a.kinds.now a.targets.now a.runtime entry) (sorted a.dynamic normal a.importers.now a.kinds.now a.targets.now a.runtime entry) a.marks.now a.sorted.now done.new.1.1.1.1.1.0 done.new.1.1.1.1.1.1.0 done.new.1.1.1.1.1.1.1.0 done.result)
-    c.before.before.before.before.before.before.before.before.before.before.before.column.ensures c.before.before.before.before.before.before.before.before.before.before.column2.ensures
+    c.column.ensures c.column-2.ensures
     done.ensures
 
-pub sort-table-spec : {M : Type 1} → statement M
-sort-table-spec =
+pub sort_table_spec : {M : Type 1} → statement M
+sort_table_spec =
     tie.close
     (tie.spec (λ c κs. search rules) (λ c κs. search rules) sort-requires (λ c. search rules) (λ c. search rules) (λ c. search rules) returns)

@@ -15,53 +15,53 @@ use Rattle.sort_steps.specs.Steps.{Numbered}
 abbrev with-list : tie.Start → Placed → Numbered
 with-list e p = let a = e.args in record { numbers = set a.numbers.now a.m a.counters.next; next = a.counters.next + 1; list = p }
 
-mul-numbers : tie.Need-overflow-mul-numbers
+mul-numbers : tie.Need-offset_bounds-numbers-at
 mul-numbers c = search rules
 
-slice-write-numbers : tie.Need-slice-write-numbers
+slice-write-numbers : tie.Need-bounds-numbers-at
 slice-write-numbers c = search rules
 
-mul-if1 : tie.Need-overflow-mul-if1
+mul-if1 : tie.Need-offset_bounds-normal-at
 mul-if1 c = search rules
 
-shared-slice-read-if1 : tie.Need-shared-slice-read-if1
+shared-slice-read-if1 : tie.Need-bounds-normal-at
 shared-slice-read-if1 c = search rules
 
-add-t14 : tie.Need-overflow-add-t14
+add-t14 : tie.Need-overflow_add-result
 add-t14 c = search rules
 
-same_length : tie.Need-same-length
+same_length : tie.Need-shape_of-numbers-then-normal-at-ne1
 same_length c = search rules
 
-returns : tie.Need-returns
+returns : tie.Need-returns-then-normal-at-ne1
 returns c =
     let e = c.before.before in
     let a = e.args in
-    sym (ap (with-list e) (place-no (is_normal a.normal.now) (record { order = a.sorted.now; count = a.counters.placed }) a.m (ne_eqb _ _ c.if1.true)))
+    sym (ap (with-list e) (place-no (is_normal a.normal.now) (record { order = a.sorted.now; count = a.counters.placed }) a.m (ne_eqb _ _ c.if-normal-at-ne1.true)))
 
-mul-sorted : tie.Need-overflow-mul-sorted
+mul-sorted : tie.Need-offset_bounds-sorted-placed
 mul-sorted c = search rules
 
-slice-write-sorted : tie.Need-slice-write-sorted
+slice-write-sorted : tie.Need-bounds-sorted-placed
 slice-write-sorted c = search rules
 
-add-t9 : tie.Need-overflow-add-t9
+add-t9 : tie.Need-overflow_add-result-2
 add-t9 c = search rules
 
-add-t12 : tie.Need-overflow-add-t12
+add-t12 : tie.Need-overflow_add-result-3
 add-t12 c = search rules
 
-same-length-2 : tie.Need-same-length-2
+same-length-2 : tie.Need-shape_of-numbers
 same-length-2 c = search rules
 
-same-length-3 : tie.Need-same-length-3
+same-length-3 : tie.Need-shape_of-sorted
 same-length-3 c = search rules
 
-returns-2 : tie.Need-returns-2
+returns-2 : tie.Need-returns
 returns-2 c =
     let e = c.before.before in
     let a = e.args in
-    sym (ap (with-list e) (place-yes (is_normal a.normal.now) (record { order = a.sorted.now; count = a.counters.placed }) a.m (eq-eqb _ _ c.if1.false)))
+    sym (ap (with-list e) (place-yes (is_normal a.normal.now) (record { order = a.sorted.now; count = a.counters.placed }) a.m (eq-eqb _ _ c.if-normal-at-ne1.false)))
 
 pub leave_spec : {M : Type 1} → statement M
 leave_spec =

@@ -8,63 +8,63 @@ use Rattle.sort_steps.proofs.inner.led.Tie as tie
 use Rattle.tables.specs.Readings.{any_target}
 use Rattle.sort_steps.proofs.Rows.{led-kind, led-static, led-one}
 
-mul-is-static : tie.Need-overflow-mul-is-static
+mul-is-static : tie.Need-offset_bounds-record_kind-row
 mul-is-static c = search rules
 
-shared-slice-read-is-static : tie.Need-shared-slice-read-is-static
+shared-slice-read-is-static : tie.Need-bounds-record_kind-row
 shared-slice-read-is-static c = search rules
 
-is-static-requires : tie.Need-is-static-requires
+is-static-requires : tie.Need-is_static-requires
 is-static-requires c κs = search rules
 
-returns : tie.Need-returns
+returns : tie.Need-returns-then-not-is_static
 returns c =
     let s = c.before in
-    let a = s.before.before.before.before.before.args in
-    led-kind a.dynamic a.normal.now a.record-kind.now a.record-target.now a.row (sym s.is_static.ensures ∙ not-true _ c.if1.true)
+    let a = s.args in
+    led-kind a.dynamic a.normal.now a.record-kind.now a.record-target.now a.row (sym s.is_static.ensures ∙ not-true _ c.if-not-is_static.true)
 
-resolve-requires : tie.Need-resolve-requires
+resolve-requires : tie.Need-resolve-found-requires
 resolve-requires c κs = search rules
 
-enum-known-found : tie.Need-enum-known-found
+enum-known-found : tie.Need-enum_known-found
 enum-known-found c = search rules
 
-enum-known-found-2 : tie.Need-enum-known-found-2
+enum-known-found-2 : tie.Need-enum_known-found-in-Normal-1
 enum-known-found-2 c = search rules
 
-enum_told : tie.Need-enum-told
+enum_told : tie.Need-enum_told-1
 enum_told c = search rules
 
-returns-2 : tie.Need-returns-2
+returns-2 : tie.Need-returns-in_default
 returns-2 c =
     let r = c.before.before in
     let s = r.before.before in
-    let a = s.before.before.before.before.before.args in
-    led-static a.dynamic a.normal.now a.record-kind.now a.record-target.now a.row r.resolve.result (sym s.is_static.ensures ∙ not-false _ r.before.if1.false) (sym r.resolve.ensures)
-    ∙ ap any_target c.enum_told.given.1
+    let a = s.args in
+    led-static a.dynamic a.normal.now a.record-kind.now a.record-target.now a.row r.resolve-found.result (sym s.is_static.ensures ∙ not-false _ r.if-not-is_static.false) (sym r.resolve-found.ensures)
+    ∙ ap any_target c.enum_told-1.given.1
 
-returns-3 : tie.Need-returns-3
+returns-3 : tie.Need-returns-in-External
 returns-3 c =
     let r = c.before.before.before in
     let s = r.before.before in
-    let a = s.before.before.before.before.before.args in
-    let t = c.before.found.given.0.0 in
-    let q = ap any_target c.before.found.given.1 in
-    led-static a.dynamic a.normal.now a.record-kind.now a.record-target.now a.row r.resolve.result (sym s.is_static.ensures ∙ not-false _ r.before.if1.false) (sym r.resolve.ensures)
-    ∙ q ∙ led-one a.dynamic a.normal.now a.record-kind.now a.record-target.now a.row t (ap any_target (sym r.resolve.ensures) ∙ q)
+    let a = s.args in
+    let t = c.found-1.given.0.0 in
+    let q = ap any_target c.found-1.given.1 in
+    led-static a.dynamic a.normal.now a.record-kind.now a.record-target.now a.row r.resolve-found.result (sym s.is_static.ensures ∙ not-false _ r.if-not-is_static.false) (sym r.resolve-found.ensures)
+    ∙ q ∙ led-one a.dynamic a.normal.now a.record-kind.now a.record-target.now a.row t (ap any_target (sym r.resolve-found.ensures) ∙ q)
 
-returns-4 : tie.Need-returns-4
+returns-4 : tie.Need-returns-in-External-2
 returns-4 c =
     let r = c.before.before.before in
     let s = r.before.before in
-    let a = s.before.before.before.before.before.args in
-    let t = c.before.found2.given.0.0 in
-    let q = ap any_target c.before.found2.given.1 in
-    led-static a.dynamic a.normal.now a.record-kind.now a.record-target.now a.row r.resolve.result (sym s.is_static.ensures ∙ not-false _ r.before.if1.false) (sym r.resolve.ensures)
-    ∙ q ∙ led-one a.dynamic a.normal.now a.record-kind.now a.record-target.now a.row t (ap any_target (sym r.resolve.ensures) ∙ q)
+    let a = s.args in
+    let t = c.found-in-Normal-1.given.0.0 in
+    let q = ap any_target c.found-in-Normal-1.given.1 in
+    led-static a.dynamic a.normal.now a.record-kind.now a.record-target.now a.row r.resolve-found.result (sym s.is_static.ensures ∙ not-false _ r.if-not-is_static.false) (sym r.resolve-found.ensures)
+    ∙ q ∙ led-one a.dynamic a.normal.now a.record-kind.now a.record-target.now a.row t (ap any_target (sym r.resolve-found.ensures) ∙ q)
 
-pub led-spec : {M : Type 1} → statement M
-led-spec =
+pub led_spec : {M : Type 1} → statement M
+led_spec =
     tie.close
     (tie.spec
     mul-is-static

@@ -10,58 +10,58 @@ use Rattle.sort_steps.proofs.Rows.{unless-missing, unless-one, unmet-one, unmet-
 use Rattle.sort_steps.proofs.inner.unmet.Statement.{statement}
 use Rattle.sort_steps.proofs.inner.unmet.Tie as tie
 
-abbrev entry : tie.After-led → tie.Start
+abbrev entry : tie.After-led-t → tie.Start
 entry k = k.before.before.before.before.before
 
 -- where the row leads to a module
-module _ (c : tie.Else1) where
+module _ (c : tie.Else-t) where
   abbrev start : tie.Start
   start = entry c.before
 
   abbrev target : ℕ
-  target = c.before.led.result
+  target = c.led-t.result
 
   abbrev marks : List ℕ
   marks = start.args.marks.now
 
   leads : let a = start.args in led a.dynamic a.normal.now a.record-kind.now a.record-target.now a.row ≡ target ∷ []
-  leads = c.before.led.ensures ∙ unless-one target (ne_eqb _ _ c.if1.false)
+  leads = c.led-t.ensures ∙ unless-one target (ne_eqb _ _ c.if-t.false)
 
   below : target < length marks
   below =
       let a = start.args in
-      let p = start.pre in
+      let p = start.requires in
       led-in a.dynamic a.normal.now a.record-kind.now a.record-target.now a.row (length marks) target p.2 p.1 leads
 
-led-requires : tie.Need-led-requires
+led-requires : tie.Need-led-t-requires
 led-requires c κs = search rules
 
-returns : tie.Need-returns
+returns : tie.Need-returns-then-t
 returns c =
     let k = c.before in
-    let q = unless-missing k.led.result (eq-eqb _ _ c.if1.true) in
-    ap (unmet_of (entry k).args.marks.now) (k.led.ensures ∙ q) ∙ sym q
+    let q = unless-missing k.led-t.result (eq-eqb _ _ c.if-t.true) in
+    ap (unmet_of (entry k).args.marks.now) (k.led-t.ensures ∙ q) ∙ sym q
 
-cast-if2 : tie.Need-overflow-cast-if2
+cast-if2 : tie.Need-overflow_cast-t
 cast-if2 c = search rules
 
-mul-if2 : tie.Need-overflow-mul-if2
+mul-if2 : tie.Need-offset_bounds-marks-t
 mul-if2 c = search rules
 
-shared-slice-read-if2 : tie.Need-shared-slice-read-if2
+shared-slice-read-if2 : tie.Need-bounds-marks-t
 shared-slice-read-if2 c = below c.before
 
-returns-2 : tie.Need-returns-2
+returns-2 : tie.Need-returns-then-marks-t-ne0
 returns-2 c =
     let e = c.before.before in
-    ap (unmet_of (marks e)) (leads e) ∙ unmet-none (marks e) (target e) (fresh-not (marks e) (target e) c.if2.true)
+    ap (unmet_of (marks e)) (leads e) ∙ unmet-none (marks e) (target e) (fresh-not (marks e) (target e) c.if-marks-t-ne0.true)
 
-returns-3 : tie.Need-returns-3
+returns-3 : tie.Need-returns
 returns-3 c =
     let e = c.before.before in
-    ap (unmet_of (marks e)) (leads e) ∙ unmet-one (marks e) (target e) (fresh-zero (marks e) (target e) (below e) c.if2.false) ∙ sym (unless-one (target e) (ne_eqb _ _ e.if1.false))
+    ap (unmet_of (marks e)) (leads e) ∙ unmet-one (marks e) (target e) (fresh-zero (marks e) (target e) (below e) c.if-marks-t-ne0.false) ∙ sym (unless-one (target e) (ne_eqb _ _ e.if-t.false))
 
-pub unmet-spec : {M : Type 1} → statement M
-unmet-spec =
+pub unmet_spec : {M : Type 1} → statement M
+unmet_spec =
     tie.close
     (tie.spec led-requires returns cast-if2 mul-if2 shared-slice-read-if2 returns-2 returns-3)

@@ -13,15 +13,15 @@ use Rattle.suffix_rule.specs.inner.Suffix.{Markings}
 use Rattle.suffix_places.proofs.inner.lower_entries.Statement.{statement}
 use Rattle.suffix_places.proofs.inner.lower_entries.Tie as tie
 
-abbrev invariant-loop : tie.invariant-loop
+abbrev invariant-loop : tie.invariant-loop-k
 invariant-loop runtime dynamic bounds columns importers kinds targets dependencies members roots sensitive eligible placed settled₀ asked₀ k₀ k-end settled asked k =
     (k-end ≡ length roots) × (k ≤ k-end) × LowestBelow (read (table runtime dynamic bounds columns) importers kinds targets dependencies members) roots sensitive eligible placed asked₀ k settled asked
 
-abbrev decreases-loop : tie.decreases-loop
+abbrev decreases-loop : tie.decreases-loop-k
 decreases-loop runtime dynamic bounds columns importers kinds targets dependencies members roots sensitive eligible placed settled₀ asked₀ k₀ k-end settled asked k = k-end - k
 
 abbrev Loop : Type 0
-Loop = tie.At-loop invariant-loop decreases-loop
+Loop = tie.At-loop-k invariant-loop decreases-loop
 
 abbrev Start : Type 0
 Start = tie.Start invariant-loop decreases-loop
@@ -32,101 +32,101 @@ of e = let a = e.args in read (table a.runtime a.dynamic a.bounds.now a.columns.
 abbrev entry : Loop → Start
 entry l = l.before.before.before.before.before.before.before.before.before.before.before.before.before.before
 
-few : (l : Loop) → l.loop.k < length (entry l).args.roots.now → l.loop.k < length l.loop.settled
-few l t = omega (arith, t, l.loop.inv.2.size)
+few : (l : Loop) → l.loop-k.k < length (entry l).args.roots.now → l.loop-k.k < length l.loop-k.settled
+few l t = omega (arith, t, l.loop-k.invariant.2.size)
 
-small : (l : Loop) → Small l.loop.asked
+small : (l : Loop) → Small l.loop-k.asked
 unfolding Small
-small l m = omega (arith, l.loop.inv.2.low m, (entry l).pre.1.1.0 m)
+small l m = omega (arith, l.loop-k.invariant.2.low m, (entry l).requires.1.1.0 m)
 
-loop-holds : tie.Need-loop-init invariant-loop decreases-loop
+loop-holds : tie.Need-loop-k-init invariant-loop decreases-loop
 loop-holds c =
     let e = c.before.before.before.before.before.before.before.before.before.before.before.before.before in
     let a = e.args in
     (refl, omega arith, lowest_start (of e) a.roots.now a.sensitive.now a.eligible.now a.placed.now a.asked.now a.settled.now e.requires.1.1.1.1.0 e.requires.1.1.1.1.1)
 
-mul-if1 : tie.Need-overflow-mul-if1 invariant-loop decreases-loop
-mul-if1 c = omega (arith, c.loop-test.true, c.before.before.before.before.before.before.before.before.before.before.before.before.before.before.before.well-formed)
+mul-if1 : tie.Need-offset_bounds-settled-k invariant-loop decreases-loop
+mul-if1 c = omega (arith, c.loop-k-test.true, c.well_formed)
 
-slice-read-if1 : tie.Need-slice-read-if1 invariant-loop decreases-loop
-slice-read-if1 c = few c.before.before c.before.loop-test.true
+slice-read-if1 : tie.Need-bounds-settled-k invariant-loop decreases-loop
+slice-read-if1 c = few c.before.before c.loop-k-test.true
 
-add-k : tie.Need-overflow-add-k invariant-loop decreases-loop
+add-k : tie.Need-overflow_step-k invariant-loop decreases-loop
 add-k c = search rules
 
-loop-less : tie.Need-loop-smaller invariant-loop decreases-loop
+loop-less : tie.Need-loop-k-smaller-then-settled-k-ne0 invariant-loop decreases-loop
 loop-less c = search rules
 
-loop-again : tie.Need-loop-preserved invariant-loop decreases-loop
+loop-again : tie.Need-loop-k-preserved-then-settled-k-ne0 invariant-loop decreases-loop
 loop-again c =
     let l = c.before.before.before in
     let a = (entry l).args in
-    (refl, omega (arith, c.before.before.loop-test.true), lowest-skip (of (entry l)) a.roots.now a.sensitive.now a.eligible.now a.placed.now a.asked.now l.loop.k l.loop.settled l.loop.asked l.loop.invariant.2 c.before.before.loop-test.true (mark-in (get_or l.loop.settled l.loop.k 0) c.if1.true))
+    (refl, omega (arith, c.loop-k-test.true), lowest-skip (of (entry l)) a.roots.now a.sensitive.now a.eligible.now a.placed.now a.asked-1.now l.loop-k.k l.loop-k.settled l.loop-k.asked l.loop-k.invariant.2 c.loop-k-test.true (mark-in (get_or l.loop-k.settled l.loop-k.k 0) c.if-settled-k-ne0.true))
 
-mul-lower-entry : tie.Need-overflow-mul-lower-entry invariant-loop decreases-loop
+mul-lower-entry : tie.Need-offset_bounds-roots-k invariant-loop decreases-loop
 mul-lower-entry c = search rules
 
-shared-slice-read-lower-entry : tie.Need-shared-slice-read-lower-entry invariant-loop decreases-loop
-shared-slice-read-lower-entry c = c.before.before.before.before.loop-test.true
+shared-slice-read-lower-entry : tie.Need-bounds-roots-k invariant-loop decreases-loop
+shared-slice-read-lower-entry c = c.loop-k-test.true
 
-lower-entry-requires : tie.Need-lower-entry-requires invariant-loop decreases-loop
+lower-entry-requires : tie.Need-lower_entry-requires invariant-loop decreases-loop
 lower-entry-requires c κs =
     let l = c.before.before.before.before.before in
     let e = entry l in
     let a = e.args in
-    let n = l.loop.invariant.2.len in (
-      subst (Markings (of e) a.sensitive.now a.eligible.now) (sym n) e.pre.0,
-      (e.pre.1.0 ∙ sym n, (small l, omega (arith, n, e.pre.1.1.1.0 l.loop.k c.before.before.before.before.loop-test.true))),
+    let n = l.loop-k.invariant.2.len in (
+      subst (Markings (of e) a.sensitive.now a.eligible.now) (sym n) e.requires.0,
+      (e.requires.1.0 ∙ sym n, (small l, omega (arith, n, e.requires.1.1.1.0 l.loop-k.k c.loop-k-test.true))),
     )
 
-add-k-2 : tie.Need-overflow-add-k-2 invariant-loop decreases-loop
-add-k-2 c = let t = c.before.before.before.before.before.before.before.before.loop-test.true in let i = c.before.before.before.before.before.before.before.before.before.loop.invariant in let g = c.before.before.before.before.before.before.before.before.before.before.before.before.before.before.before.before.before.before.before.before.before.before.before.well-formed in search rules
+add-k-2 : tie.Need-overflow_step-k-then-not-lower_entry invariant-loop decreases-loop
+add-k-2 c = let t = c.loop-k-test.true in let i = c.loop-k.invariant in let g = c.well_formed in search rules
 
-loop-less-2 : tie.Need-loop-smaller-2 invariant-loop decreases-loop
-loop-less-2 c = let t = c.before.before.before.before.before.before.before.before.loop-test.true in search rules
+loop-less-2 : tie.Need-loop-k-smaller-then-not-lower_entry invariant-loop decreases-loop
+loop-less-2 c = let t = c.loop-k-test.true in search rules
 
-loop-again-2 : tie.Need-loop-preserved-2 invariant-loop decreases-loop
+loop-again-2 : tie.Need-loop-k-preserved-then-not-lower_entry invariant-loop decreases-loop
 loop-again-2 c =
     let l = c.before.before.before.before.before.before.before.before.before in
     let a = (entry l).args in
-    let t = c.before.before.before.before.before.before.before.before.loop-test.true in
-    let x = c.before.before.before.lower-entry in
-    (refl, omega (arith, t), lowest-open (of (entry l)) a.roots.now a.sensitive.now a.eligible.now a.placed.now a.asked.now l.loop.k l.loop.settled l.loop.asked l.loop.invariant.2 t _ x.ensures.lowered)
+    let t = c.loop-k-test.true in
+    let x = c.lower_entry in
+    (refl, omega (arith, t), lowest-open (of (entry l)) a.roots.now a.sensitive.now a.eligible.now a.placed.now a.asked-1.now l.loop-k.k l.loop-k.settled l.loop-k.asked l.loop-k.invariant.2 t _ x.ensures.lowered)
 
-mul-settled : tie.Need-overflow-mul-settled invariant-loop decreases-loop
-mul-settled c = omega (arith, c.before.before.before.before.before.before.before.before.loop-test.true, c.before.before.before.before.before.before.before.before.before.before.before.before.before.before.before.before.before.before.before.before.before.before.before.well-formed)
+mul-settled : tie.Need-offset_bounds-settled-k-in-loop-k invariant-loop decreases-loop
+mul-settled c = omega (arith, c.loop-k-test.true, c.well_formed)
 
-slice-write-settled : tie.Need-slice-write-settled invariant-loop decreases-loop
-slice-write-settled c = few c.before.before.before.before.before.before.before.before.before c.before.before.before.before.before.before.before.before.loop-test.true
+slice-write-settled : tie.Need-bounds-settled-k-in-loop-k invariant-loop decreases-loop
+slice-write-settled c = few c.before.before.before.before.before.before.before.before.before c.loop-k-test.true
 
-add-k-3 : tie.Need-overflow-add-k-3 invariant-loop decreases-loop
-add-k-3 c = let t = c.before.before.before.before.before.before.before.before.loop-test.true in let i = c.before.before.before.before.before.before.before.before.before.loop.invariant in let g = c.before.before.before.before.before.before.before.before.before.before.before.before.before.before.before.before.before.before.before.before.before.before.before.well-formed in search rules
+add-k-3 : tie.Need-overflow_step-k-in-loop-k invariant-loop decreases-loop
+add-k-3 c = let t = c.loop-k-test.true in let i = c.loop-k.invariant in let g = c.well_formed in search rules
 
-loop-less-3 : tie.Need-loop-smaller-3 invariant-loop decreases-loop
-loop-less-3 c = let t = c.before.before.before.before.before.before.before.before.loop-test.true in search rules
+loop-less-3 : tie.Need-loop-k-smaller invariant-loop decreases-loop
+loop-less-3 c = let t = c.loop-k-test.true in search rules
 
-loop-again-3 : tie.Need-loop-preserved-3 invariant-loop decreases-loop
+loop-again-3 : tie.Need-loop-k-preserved invariant-loop decreases-loop
 loop-again-3 c =
     let l = c.before.before.before.before.before.before.before.before.before in
     let a = (entry l).args in
-    let t = c.before.before.before.before.before.before.before.before.loop-test.true in
-    let x = c.before.before.before.lower-entry in
-    (refl, omega (arith, t), lowest-settled (of (entry l)) a.roots.now a.sensitive.now a.eligible.now a.placed.now a.asked.now l.loop.k l.loop.settled l.loop.asked l.loop.invariant.2 t _ x.ensures.lowered (x.ensures.all (not-false x.result c.if2.false)))
+    let t = c.loop-k-test.true in
+    let x = c.lower_entry in
+    (refl, omega (arith, t), lowest-settled (of (entry l)) a.roots.now a.sensitive.now a.eligible.now a.placed.now a.asked-1.now l.loop-k.k l.loop-k.settled l.loop-k.asked l.loop-k.invariant.2 t _ x.ensures.lowered (x.ensures.all (not-false x.result c.if-not-lower_entry.false)))
 
-same_length : tie.Need-same-length invariant-loop decreases-loop
-same_length c = let l = c.before in l.loop.invariant.2.size ∙ sym (entry l).requires.1.1.1.1.0
+same_length : tie.Need-shape_of-settled invariant-loop decreases-loop
+same_length c = let l = c.before in l.loop-k.invariant.2.size ∙ sym (entry l).requires.1.1.1.1.0
 
-same-length-2 : tie.Need-same-length-2 invariant-loop decreases-loop
-same-length-2 c = c.before.loop.invariant.2.len
+same-length-2 : tie.Need-shape_of-asked invariant-loop decreases-loop
+same-length-2 c = c.loop-k.invariant.2.len
 
 returns : tie.Need-returns invariant-loop decreases-loop
 returns c =
     let l = c.before in
     let a = (entry l).args in
-    subst (λ (n : ℕ). LowestBelow (of (entry l)) a.roots.now a.sensitive.now a.eligible.now a.placed.now a.asked.now n l.loop.settled l.loop.asked) (let z : l.loop.k ≡ length a.roots.now = omega (arith, c.loop-test.false, l.loop.invariant.0, l.loop.invariant.1) in z) l.loop.invariant.2
+    subst (λ (n : ℕ). LowestBelow (of (entry l)) a.roots.now a.sensitive.now a.eligible.now a.placed.now a.asked-1.now n l.loop-k.settled l.loop-k.asked) (let z : l.loop-k.k ≡ length a.roots.now = omega (arith, c.loop-k-test.false, l.loop-k.invariant.0, l.loop-k.invariant.1) in z) l.loop-k.invariant.2
 
-pub lower-entries-spec : {M : Type 1} → statement M
-lower-entries-spec =
+pub lower_entries_spec : {M : Type 1} → statement M
+lower_entries_spec =
     tie.close
     (tie.spec
     invariant-loop

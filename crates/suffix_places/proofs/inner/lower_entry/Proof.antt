@@ -12,7 +12,7 @@ use Rattle.tables.specs.Project.{Project}
 use Rattle.table.specs.Table.{table, read}
 use Rattle.expected_order.specs.OfProject.{expected_of}
 use Rattle.expected_order.proofs.Laws.{expected-in, expected-length}
-use Rattle.marks.proofs.Parts.{part_length}
+use Rattle.marks-1.proofs.Parts.{part_length}
 use Rattle.suffix_rule.specs.inner.Suffix.{AllPlanned}
 use Rattle.suffix_places.proofs.inner.lower_entry.Statement.{statement}
 use Rattle.suffix_places.proofs.inner.lower_entry.Tie as tie
@@ -41,82 +41,82 @@ inside e i l =
 
 -- what is read back of the array, as far as the count says
 
-abbrev entry : tie.After-list-expected → tie.Start
+abbrev entry : tie.After-list_expected-count → tie.Start
 entry k = k.before.before.before.before.before.before.before.before.before.before.before.before.before.before
 
-abbrev made : tie.After-list-expected → List ℕ
-made k = k.list-expected.new.1.1.1.1.1.1.1.1.1.1.0
+abbrev made : tie.After-list_expected-count → List ℕ
+made k = k.list_expected-count.new.1.1.1.1.1.1.1.1.1.1.0
 
-abbrev count : tie.After-list-expected → ℕ
-count k = k.list-expected.result
+abbrev count : tie.After-list_expected-count → ℕ
+count k = k.list_expected-count.result
 
-back : (k : tie.After-list-expected) → take (count k) (made k) ≡ list (entry k)
+back : (k : tie.After-list_expected-count) → take (count k) (made k) ≡ list (entry k)
 back k =
-    let w = k.list-expected.ensures in
+    let w = k.list_expected-count.ensures in
     ap (take (count k)) w.written ∙ take_at (list (entry k)) (drop (length (list (entry k))) _) (count k) (sym w.count)
 
-room : (k : tie.After-list-expected) → count k ≤ length (made k)
+room : (k : tie.After-list_expected-count) → count k ≤ length (made k)
 room k =
     let e = entry k in
-    omega (arith, short e, few e, k.list-expected.ensures.count, k.list-expected.auto.1.1.1.1.1.1.1.1.1.1.0, length-replicate {A = ℕ} 4096 0)
+    omega (arith, short e, few e, k.list_expected-count.ensures.count, k.list_expected-count.auto.order, length-replicate {A = ℕ} 4096 0)
 
-array-borrow-prefix-marks : tie.Need-array-borrow-prefix-marks
+array-borrow-prefix-marks : tie.Need-slice_bounds-marks-end
 array-borrow-prefix-marks c = few c.before.before.before.before.before.before.before.before.before.before.before
 
-slice-aggregate-list-expected : tie.Need-slice-aggregate-list-expected
+slice-aggregate-list-expected : tie.Need-slice_bounds-list_expected-end
 slice-aggregate-list-expected c = let e = c.before.before.before.before.before.before.before.before.before.before.before.before in sym (part_length 4096 (size e) (few e))
 
-slice-aggregate-list-expected-2 : tie.Need-slice-aggregate-list-expected-2
+slice-aggregate-list-expected-2 : tie.Need-slice_bounds-list_expected-end-2
 slice-aggregate-list-expected-2 c = search rules
 
-list-expected-requires : tie.Need-list-expected-requires
+list-expected-requires : tie.Need-list_expected-count-requires
 list-expected-requires c κs =
     let e = c.before.before.before.before.before.before.before.before.before.before.before.before.before in
     let n = part_length 4096 (size e) (few e) in
     record { accepted = e.requires.0.accepted; size = n ∙ e.requires.0.size; within = omega (arith, n, e.requires.1.1.1); room = omega (arith, n, few e, length-replicate {A = ℕ} 4096 0) }
 
-array-share-prefix-order : tie.Need-array-share-prefix-order
+array-share-prefix-order : tie.Need-slice_bounds-order-end
 array-share-prefix-order c = room c.before.before
 
-slice-aggregate-lower-order : tie.Need-slice-aggregate-lower-order
-slice-aggregate-lower-order c = let k = c.before.before.before in k.list-expected.ensures.count ∙ sym (ap length (back k))
+slice-aggregate-lower-order : tie.Need-slice_bounds-lower_order-end
+slice-aggregate-lower-order c = let k = c.before.before.before in k.list_expected-count.ensures.count ∙ sym (ap length (back k))
 
-lower-order-requires : tie.Need-lower-order-requires
+lower-order-requires : tie.Need-lower_order-requires
 lower-order-requires c κs =
     let k = c.before.before.before.before in
     let e = entry k in
-    (subst (λ (xs : List ℕ). (i : ℕ) → i < length xs → get_or xs i 0 < size e) (sym (back k)) (inside e), (e.pre.0.sensitives, (e.pre.1.0, e.pre.1.1.0)))
+    (subst (λ (xs : List ℕ). (i : ℕ) → i < length xs → get_or xs i 0 < size e) (sym (back k)) (inside e), (e.requires.0.sensitives, (e.requires.1.0, e.requires.1.1.0)))
 
-array-share-prefix-order-2 : tie.Need-array-share-prefix-order-2
+array-share-prefix-order-2 : tie.Need-slice_bounds-order-end-2
 array-share-prefix-order-2 c = room c.before.before.before.before.before.before.before
 
-slice-aggregate-is-listed : tie.Need-slice-aggregate-is-listed
-slice-aggregate-is-listed c = let k = c.before.before.before.before.before.before.before.before in k.list-expected.ensures.count ∙ sym (ap length (back k))
+slice-aggregate-is-listed : tie.Need-slice_bounds-is_listed-end
+slice-aggregate-is-listed c = let k = c.before.before.before.before.before.before.before.before in k.list_expected-count.ensures.count ∙ sym (ap length (back k))
 
-is-listed-requires : tie.Need-is-listed-requires
+is-listed-requires : tie.Need-is_listed-requires
 is-listed-requires c κs =
     let k = c.before.before.before.before.before.before.before.before in
     let e = entry k in (
-      subst (λ (xs : List ℕ). (i : ℕ) → i < length xs → get_or xs i 0 < length e.args.sensitive.now) (sym (back k)) (λ i l. omega (arith, inside e i l, e.pre.0.sensitives)),
-      (e.pre.0.eligibles ∙ sym e.pre.0.sensitives, e.pre.1.0 ∙ sym e.pre.0.sensitives),
+      subst (λ (xs : List ℕ). (i : ℕ) → i < length xs → get_or xs i 0 < length e.args.sensitive.now) (sym (back k)) (λ i l. omega (arith, inside e i l, e.requires.0.sensitives)),
+      (e.requires.0.eligibles ∙ sym e.requires.0.sensitives, e.requires.1.0 ∙ sym e.requires.0.sensitives),
     )
 
-same_length : tie.Need-same-length
-same_length c = c.before.before.before.before.lower-order.ensures.len
+same_length : tie.Need-shape_of-asked
+same_length c = c.lower_order.ensures.len
 
 returns : tie.Need-returns
 returns c =
     let k = c.before.before.before.before.before.before.before.before.before in
     let a = (entry k).args in
-    let x = c.before.before.before.before.lower-order in
-    let y = c.is-listed in
+    let x = c.lower_order in
+    let y = c.is_listed in
     record {
-      lowered = subst (λ (xs : List ℕ). Lowered xs a.sensitive.now a.placed.now a.asked.now x.new.1.1.1.0) (back k) x.ensures;
+      lowered = subst (λ (xs : List ℕ). Lowered xs a.sensitive.now a.placed.now a.asked-1.now x.new.1.1.1.0) (back k) x.ensures;
       all = λ q. subst (λ (xs : List ℕ). AllPlanned xs a.sensitive.now a.eligible.now a.placed.now) (back k) (y.ensures q);
     }
 
-pub lower-entry-spec : {M : Type 1} → statement M
-lower-entry-spec =
+pub lower_entry_spec : {M : Type 1} → statement M
+lower_entry_spec =
     tie.close
     (tie.spec
     array-borrow-prefix-marks

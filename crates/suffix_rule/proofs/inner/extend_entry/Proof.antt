@@ -11,7 +11,7 @@ use Rattle.tables.specs.Project.{Project}
 use Rattle.table.specs.Table.{table, read}
 use Rattle.expected_order.specs.OfProject.{expected_of}
 use Rattle.expected_order.proofs.Laws.{expected-in, expected-length}
-use Rattle.marks.proofs.Parts.{part_length}
+use Rattle.marks-1.proofs.Parts.{part_length}
 use Rattle.suffix_rule.specs.inner.Suffix.{Extended}
 use Rattle.suffix_rule.proofs.inner.extend_entry.Statement.{statement}
 use Rattle.suffix_rule.proofs.inner.extend_entry.Tie as tie
@@ -42,55 +42,55 @@ inside e i l =
 
 -- what is read back of the array, as far as the count says
 
-abbrev entry : tie.After-list-expected → tie.Start
+abbrev entry : tie.After-list_expected-count → tie.Start
 entry k = k.before.before.before.before.before.before.before.before.before.before.before.before.before.before
 
-abbrev made : tie.After-list-expected → List ℕ
-made k = k.list-expected.new.1.1.1.1.1.1.1.1.1.1.0
+abbrev made : tie.After-list_expected-count → List ℕ
+made k = k.list_expected-count.new.1.1.1.1.1.1.1.1.1.1.0
 
-abbrev count : tie.After-list-expected → ℕ
-count k = k.list-expected.result
+abbrev count : tie.After-list_expected-count → ℕ
+count k = k.list_expected-count.result
 
-back : (k : tie.After-list-expected) → take (count k) (made k) ≡ list (entry k)
+back : (k : tie.After-list_expected-count) → take (count k) (made k) ≡ list (entry k)
 back k =
-    let w = k.list-expected.ensures in
+    let w = k.list_expected-count.ensures in
     ap (take (count k)) w.written ∙ take_at (list (entry k)) (drop (length (list (entry k))) _) (count k) (sym w.count)
 
-array-borrow-prefix-marks : tie.Need-array-borrow-prefix-marks
+array-borrow-prefix-marks : tie.Need-slice_bounds-marks-end
 array-borrow-prefix-marks c = few c.before.before.before.before.before.before.before.before.before.before.before
 
-slice-aggregate-list-expected : tie.Need-slice-aggregate-list-expected
+slice-aggregate-list-expected : tie.Need-slice_bounds-list_expected-end
 slice-aggregate-list-expected c = let e = c.before.before.before.before.before.before.before.before.before.before.before.before in sym (part_length 4096 (size e) (few e))
 
-list-expected-requires : tie.Need-list-expected-requires
+list-expected-requires : tie.Need-list_expected-count-requires
 list-expected-requires c κs =
     let e = c.before.before.before.before.before.before.before.before.before.before.before.before.before in
     let n = part_length 4096 (size e) (few e) in
     record { accepted = e.requires.0.accepted; size = n ∙ e.requires.0.size; within = omega (arith, n, e.requires.1.0); room = omega (arith, n, few e, length-replicate {A = ℕ} 4096 0) }
 
-array-share-prefix-order : tie.Need-array-share-prefix-order
+array-share-prefix-order : tie.Need-slice_bounds-order-end
 array-share-prefix-order c =
     let k = c.before.before in
     let e = entry k in
-    omega (arith, short e, few e, k.list-expected.ensures.count, k.list-expected.auto.1.1.1.1.1.1.1.1.1.1.0, length-replicate {A = ℕ} 4096 0)
+    omega (arith, short e, few e, k.list_expected-count.ensures.count, k.list_expected-count.auto.order, length-replicate {A = ℕ} 4096 0)
 
-slice-aggregate-extend-order : tie.Need-slice-aggregate-extend-order
-slice-aggregate-extend-order c = let k = c.before.before.before in k.list-expected.ensures.count ∙ sym (ap length (back k))
+slice-aggregate-extend-order : tie.Need-slice_bounds-extend_order-end
+slice-aggregate-extend-order c = let k = c.before.before.before in k.list_expected-count.ensures.count ∙ sym (ap length (back k))
 
-extend-order-requires : tie.Need-extend-order-requires
+extend-order-requires : tie.Need-extend_order-requires
 extend-order-requires c κs =
     let k = c.before.before.before.before.before in
     let e = entry k in
-    (subst (λ (xs : List ℕ). (i : ℕ) → i < length xs → get_or xs i 0 < size e) (sym (back k)) (inside e), (e.pre.0.sensitives, (e.pre.0.eligibles, (few e, e.pre.1.1))))
+    (subst (λ (xs : List ℕ). (i : ℕ) → i < length xs → get_or xs i 0 < size e) (sym (back k)) (inside e), (e.requires.0.sensitives, (e.requires.0.eligibles, (few e, e.requires.1.1))))
 
 returns : tie.Need-returns
 returns c =
     let k = c.before.before.before.before.before.before.before.before.before.before in
     let a = (entry k).args in
-    let x = c.before.before.before.before.extend-order in
-    subst (λ (xs : List ℕ). Extended xs a.sensitive.now a.eligible.now a.k a.settled.now x.new.1.1.1.0 a.plan.now x.new.1.1.1.1.0 x.result) (back k) x.ensures
+    let x = c.extend_order in
+    subst (λ (xs : List ℕ). Extended xs a.sensitive.now a.eligible.now a.k a.settled-1.now x.new.1.1.1.0 a.plan-1.now x.new.1.1.1.1.0 x.result) (back k) x.ensures
 
-pub extend-entry-spec : {M : Type 1} → statement M
-extend-entry-spec =
+pub extend_entry_spec : {M : Type 1} → statement M
+extend_entry_spec =
     tie.close
     (tie.spec array-borrow-prefix-marks slice-aggregate-list-expected (λ c. search rules) list-expected-requires array-share-prefix-order slice-aggregate-extend-order extend-order-requires (λ c. search rules) (λ c. search rules) returns)

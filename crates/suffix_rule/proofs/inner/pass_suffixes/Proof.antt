@@ -43,31 +43,31 @@ quiet e c = record { settles = e.requires.1.1.settles; passed = suffix-pass (of 
 sensitive-size : (e : tie.Start) → length e.args.sensitive.now ≡ length e.args.plan.now
 sensitive-size e = ap length e.requires.0.sensitive_set ∙ length-grounds (of e) ∙ sym e.requires.1.0.size
 
-returns : tie.Need-returns
+returns : tie.Need-returns-then-count_marked-settled
 returns c =
     let e = c.before.before.before.before.before.before.before.before.before.before.before.before.before.before.before.before in
     let p = of e in
     let s = e.requires.1.1 in
-    quiet e (all_settled p (roots p) (sensitive_marks p) (eligible_marks p) e.args.plan.now e.args.settled.now s.size s.settles (sym c.before.count-marked.ensures ∙ c.if1.true))
+    quiet e (all_settled p (roots p) (sensitive_marks p) (eligible_marks p) e.args.plan.now e.args.settled.now s.size s.settles (sym c.count_marked.ensures ∙ c.if-count_marked-settled.true))
 
-any-open-requires : tie.Need-any-open-requires
+any-open-requires : tie.Need-any_open-requires
 any-open-requires c κs =
     let e = c.before.before.before.before.before.before.before.before.before.before.before.before.before.before.before.before.before in
     let a = sensitive-size e in
     let b : length e.args.candidates.now ≡ length e.args.plan.now = ap length e.requires.0.candidate_set ∙ length-candidates (of e) ∙ sym e.requires.1.0.size in
     (omega arith, omega arith)
 
-returns-2 : tie.Need-returns-2
+returns-2 : tie.Need-returns-then-not-any_open
 returns-2 c =
     let e = c.before.before.before.before.before.before.before.before.before.before.before.before.before.before.before.before.before.before.before in
     let p = of e in
     let sets = e.requires.0 in
-    let shut = c.before.Any-open.ensures (not-true c.before.Any-open.result c.if2.true) in
+    let shut = c.Any-open.ensures (not-true c.Any-open.result c.if-not-any_open.true) in
     quiet e
     (none_open p (roots p) (sensitive_marks p) (eligible_marks p) e.args.plan.now (candidate_marks p) (orders-ready p sets.accepted)
     (λ m l q g. shut m l (subst (λ (s : List ℕ). has s m ≡ true) (sym sets.sensitive_set) q) (subst (λ (s : List ℕ). has s m ≡ true) (sym sets.candidate_set) g)))
 
-extend-entries-requires : tie.Need-extend-entries-requires
+extend-entries-requires : tie.Need-extend_entries-requires
 extend-entries-requires c κs =
     let e = c.before.before.before.before.before.before.before.before.before.before.before.before.before.before.before.before.before.before.before.before.before in
     let p = of e in
@@ -86,12 +86,12 @@ extend-entries-requires c κs =
       ),
     )
 
-returns-3 : tie.Need-returns-3
+returns-3 : tie.Need-returns
 returns-3 c =
     let e = c.before.before.before.before.before.before.before.before.before.before.before.before.before.before.before.before.before.before.before.before.before.before.before.before.before.before in
     let p = of e in
     let sets = e.requires.0 in
-    let done = c.before.before.before.before.extend-entries in
+    let done = c.extend_entries in
     let settled : List ℕ = done.new.1.1.1.1.1.1.1.1.1.1.1.1.0 in
     let plan : List ℕ = done.new.1.1.1.1.1.1.1.1.1.1.1.1.1.0 in
     record {
@@ -100,7 +100,7 @@ returns-3 c =
           (given3 (λ root_list sensitives eligibles. Passed (suffix_asks (has eligibles) (sensitive_orders p sensitives root_list)) e.args.plan.now plan done.result) sets.root sets.sensitive_set sets.eligible_set done.ensures.1);
     }
 
-pub pass-suffixes-spec : {M : Type 1} → statement M
-pass-suffixes-spec =
+pub pass_suffixes_spec : {M : Type 1} → statement M
+pass_suffixes_spec =
     tie.close
     (tie.spec (λ c κs. search rules) (λ c. search rules) returns any-open-requires (λ c. search rules) (λ c. search rules) returns-2 extend-entries-requires (λ c. search rules) (λ c. search rules) returns-3)

@@ -9,7 +9,7 @@ use Rattle.table_share.proofs.inner.count_eligible.Tie as tie
 
 returns : tie.Need-returns
 unfolding eligible_count
-returns c = c.count-marked.ensures ∙ ap ones c.before.before.before.before.mark-table-eligible.ensures
+returns c = c.count_marked.ensures ∙ ap ones c.mark_table_eligible.ensures
 
-pub count-eligible-spec : {M : Type 1} → statement M
-count-eligible-spec = tie.close (tie.spec (λ c κs. search rules) (λ c κs. search rules) (λ c. search rules) returns)
+pub count_eligible_spec : {M : Type 1} → statement M
+count_eligible_spec = tie.close (tie.spec (λ c κs. search rules) (λ c κs. search rules) (λ c. search rules) returns)

@@ -17,30 +17,30 @@ use Rattle.table_share.proofs.inner.share_of_table.Tie as tie
 abbrev of : tie.Start → Project
 of e = let a = e.args in read (table a.runtime a.dynamic a.bounds.now a.columns.now) a.importers.now a.kinds.now a.targets.now a.dependencies.now a.members.now
 
-abbrev entry : tie.After-analyze → tie.Start
+abbrev entry : tie.After-analyze-planned → tie.Start
 entry k = k.before.before.before.before.before.before.before.before.before.before.before.before.before.before
 
-few : (k : tie.After-analyze) → eligible_count (of (entry k)) ≤ 4096
+few : (k : tie.After-analyze-planned) → eligible_count (of (entry k)) ≤ 4096
 few k = eligible-few (of (entry k)) (entry k).requires.accepted
 
-eligible : (k : tie.After-analyze) → k.before.before.before.before.count-eligible.result ≡ eligible_count (of (entry k))
-eligible k = k.before.before.before.before.count-eligible.ensures
+eligible : (k : tie.After-analyze-planned) → k.count_eligible-eligible.result ≡ eligible_count (of (entry k))
+eligible k = k.count_eligible-eligible.ensures
 
-planned : (k : tie.After-analyze) → k.analyze.result ≡ planned_count (of (entry k))
+planned : (k : tie.After-analyze-planned) → k.analyze-planned.result ≡ planned_count (of (entry k))
 unfolding planned_count
-planned k = k.analyze.ensures.1
+planned k = k.analyze-planned.ensures.1
 
-cast-share-of : tie.Need-overflow-cast-share-of
+cast-share-of : tie.Need-overflow_cast-eligible
 cast-share-of c = let k = c.before.before in omega (arith, eligible k, few k)
 
-cast-share-of-2 : tie.Need-overflow-cast-share-of-2
+cast-share-of-2 : tie.Need-overflow_cast-planned
 cast-share-of-2 c = let k = c.before.before in omega (arith, planned k, planned-eligible (of (entry k)), few k)
 
-share-of-requires : tie.Need-share-of-requires
+share-of-requires : tie.Need-share_of-requires
 share-of-requires c κs = let k = c.before.before in omega (arith, eligible k, planned k, planned-eligible (of (entry k)))
 
 returns : tie.Need-returns
-returns c = let k = c.before.before.before in c.share-of.ensures ∙ ap₂ share_of (eligible k) (planned k)
+returns c = let k = c.before.before.before in c.share_of.ensures ∙ ap₂ share_of (eligible k) (planned k)
 
-pub share-of-table-spec : {M : Type 1} → statement M
-share-of-table-spec = tie.close (tie.spec (λ c κs. search rules) (λ c κs. search rules) cast-share-of cast-share-of-2 share-of-requires (λ c. search rules) returns)
+pub share_of_table_spec : {M : Type 1} → statement M
+share_of_table_spec = tie.close (tie.spec (λ c κs. search rules) (λ c κs. search rules) cast-share-of cast-share-of-2 share-of-requires (λ c. search rules) returns)

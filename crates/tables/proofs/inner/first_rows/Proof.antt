@@ -14,45 +14,45 @@ use Rattle.tables.proofs.inner.first_rows.Lts as lts
 use Rattle.tables.proofs.inner.greater.Reads as greater-reads
 use Rattle.tables.proofs.inner.row_ends.Reads as row-ends-reads
 
-abbrev invariant-loop : tie.invariant-loop
+abbrev invariant-loop : tie.invariant-loop-x
 invariant-loop column starts₀ x₀ x-end starts x = (1 ≤ x) × (length starts ≡ length starts₀) × RowEnds column starts (length column) × Carried column starts x
 
-abbrev decreases-loop : tie.decreases-loop
+abbrev decreases-loop : tie.decreases-loop-x
 decreases-loop column starts₀ x₀ x-end starts x = x-end - x
 
 abbrev Loop : Type 0
-Loop = lts.At-loop (row-ends-reads.Asked, row-ends-reads.Learnt, greater-reads.Asked, greater-reads.Learnt) reads.Pre reads.Post invariant-loop decreases-loop
+Loop = lts.At-loop-x (row-ends-reads.Asked, row-ends-reads.Learnt, greater-reads.Asked, greater-reads.Learnt) reads.Pre reads.Post invariant-loop decreases-loop
 
 abbrev column : Loop → List ℕ
-column l = l.before.before.before.before.before.before.before.args.column.now
+column l = l.args.column.now
 
 -- src/inner.rt:61:5
-row-ends-requires : tie.Need-row-ends-requires invariant-loop decreases-loop
+row-ends-requires : tie.Need-row_ends-requires invariant-loop decreases-loop
 row-ends-requires c κs = search rules
 
 -- src/inner.rt:62:5
-loop-holds : tie.Need-loop-init invariant-loop decreases-loop
+loop-holds : tie.Need-loop-x-init invariant-loop decreases-loop
 loop-holds c =
-    (omega arith, refl, c.before.before.row_ends.ensures, carried_none _ _)
+    (omega arith, refl, c.row_ends.ensures, carried_none _ _)
 
 -- src/inner.rt:63:36
-sub-greater : tie.Need-overflow-sub-greater invariant-loop decreases-loop
+sub-greater : tie.Need-overflow_sub-x invariant-loop decreases-loop
 sub-greater c = search rules
 
 -- src/inner.rt:63:29
-mul-greater : tie.Need-overflow-mul-greater invariant-loop decreases-loop
+mul-greater : tie.Need-offset_bounds-starts-x invariant-loop decreases-loop
 mul-greater c = search rules
 
 -- src/inner.rt:63:29
-slice-read-greater : tie.Need-slice-read-greater invariant-loop decreases-loop
+slice-read-greater : tie.Need-bounds-starts-x invariant-loop decreases-loop
 slice-read-greater c = search rules
 
 -- src/inner.rt:63:44
-mul-greater-2 : tie.Need-overflow-mul-greater-2 invariant-loop decreases-loop
+mul-greater-2 : tie.Need-offset_bounds-starts-x-in-loop-x invariant-loop decreases-loop
 mul-greater-2 c = search rules
 
 -- src/inner.rt:63:44
-slice-read-greater-2 : tie.Need-slice-read-greater-2 invariant-loop decreases-loop
+slice-read-greater-2 : tie.Need-bounds-starts-x-in-loop-x invariant-loop decreases-loop
 slice-read-greater-2 c = search rules
 
 -- src/inner.rt:63:21
@@ -60,46 +60,46 @@ greater-requires : tie.Need-greater-requires invariant-loop decreases-loop
 greater-requires c κs = search rules
 
 -- src/inner.rt:63:9
-mul-starts : tie.Need-overflow-mul-starts invariant-loop decreases-loop
+mul-starts : tie.Need-offset_bounds-starts-x-in-loop-x-2 invariant-loop decreases-loop
 mul-starts c = search rules
 
 -- src/inner.rt:63:9
-slice-write-starts : tie.Need-slice-write-starts invariant-loop decreases-loop
+slice-write-starts : tie.Need-bounds-starts-x-in-loop-x-2 invariant-loop decreases-loop
 slice-write-starts c = search rules
 
 -- src/inner.rt:62:9
-add-x : tie.Need-overflow-add-x invariant-loop decreases-loop
+add-x : tie.Need-overflow_step-x invariant-loop decreases-loop
 add-x c = search rules
 
 -- src/inner.rt:62:5
-loop-less : tie.Need-loop-smaller invariant-loop decreases-loop
+loop-less : tie.Need-loop-x-smaller invariant-loop decreases-loop
 loop-less c = search rules
 
 -- src/inner.rt:62:5
-loop-again : tie.Need-loop-preserved invariant-loop decreases-loop
+loop-again : tie.Need-loop-x-preserved invariant-loop decreases-loop
 loop-again c =
     let l = c.before.before.before.before in
-    let starts = l.loop.starts in
-    let x = l.loop.x in
+    let starts = l.loop-x.starts in
+    let x = l.loop-x.x in
     let v = c.greater.result in (
       omega arith,
-      length-set starts x v ∙ l.loop.invariant.1,
-      ends-carried (column l) starts x v l.loop.invariant.2 l.loop.invariant.0 (omega arith) c.greater.ensures,
-      carried-more (column l) starts x v l.loop.invariant.2 l.loop.invariant.0 (omega arith) c.greater.ensures l.loop.invariant.3,
+      length-set starts x v ∙ l.loop-x.invariant.1,
+      ends-carried (column l) starts x v l.loop-x.invariant.2 l.loop-x.invariant.0 (omega arith) c.greater.ensures,
+      carried-more (column l) starts x v l.loop-x.invariant.2 l.loop-x.invariant.0 (omega arith) c.greater.ensures l.loop-x.invariant.3,
     )
 
 -- src/inner.rt:56:1
-same_length : tie.Need-same-length invariant-loop decreases-loop
+same_length : tie.Need-shape_of-starts invariant-loop decreases-loop
 same_length c = search rules
 
 -- src/inner.rt:56:1
 returns : tie.Need-returns invariant-loop decreases-loop
 returns c =
     let l = c.before in
-    carried-all (column l) l.loop.starts l.loop.x (omega arith) l.loop.invariant.2 l.loop.invariant.3
+    carried-all (column l) l.loop-x.starts l.loop-x.x (omega arith) l.loop-x.invariant.2 l.loop-x.invariant.3
 
-pub first-rows-spec : {M : Type 1} → statement M
-first-rows-spec =
+pub first_rows_spec : {M : Type 1} → statement M
+first_rows_spec =
     tie.close
     (tie.spec
     invariant-loop

@@ -4,11 +4,11 @@ use borrow.Author.Tests.{lt-ltb, le-ltb}
 use Rattle.tables.proofs.inner.greater.Statement.{statement}
 use Rattle.tables.proofs.inner.greater.Tie as tie
 
-returns : tie.Need-returns
-returns c = rw (lt-ltb _ _ c.if1.true)
+returns : tie.Need-returns-then-a-b
+returns c = rw (lt-ltb _ _ c.if-a-b.true)
 
-returns-2 : tie.Need-returns-2
-returns-2 c = rw (le-ltb _ _ c.if1.false)
+returns-2 : tie.Need-returns
+returns-2 c = rw (le-ltb _ _ c.if-a-b.false)
 
-pub greater-spec : {M : Type 1} → statement M
-greater-spec = tie.close (tie.spec returns returns-2)
+pub greater_spec : {M : Type 1} → statement M
+greater_spec = tie.close (tie.spec returns returns-2)

@@ -7,22 +7,22 @@ use Rattle.text_rows.proofs.inner.name_at.Tie as tie
 start-requires : tie.Need-start-requires
 start-requires c κs = search rules
 
-add_start : tie.Need-overflow-add-start
+add_start : tie.Need-overflow_add-l
 add_start c = search rules
 
 start-requires-2 : tie.Need-start-requires-2
 start-requires-2 c κs = search rules
 
-sub-result : tie.Need-overflow-sub-result
+sub-result : tie.Need-overflow_sub-result
 sub-result c =
     let s = c.before.before.before in
-    let n = name-here s.args.lines.now s.args.l c.before.start.result c.start2.result s.requires.0 s.requires.1 c.before.start.ensures c.start2.ensures in
+    let n = name-here s.args.lines.now s.args.l c.start.result c.start-2.result s.requires.0 s.requires.1 c.start.ensures c.start-2.ensures in
     omega (arith, n.order)
 
-sub-result-2 : tie.Need-overflow-sub-result-2
+sub-result-2 : tie.Need-slice_bounds-result-count
 sub-result-2 c =
     let s = c.before.before.before in
-    let n = name-here s.args.lines.now s.args.l c.before.start.result c.start2.result s.requires.0 s.requires.1 c.before.start.ensures c.start2.ensures in
+    let n = name-here s.args.lines.now s.args.l c.start.result c.start-2.result s.requires.0 s.requires.1 c.start.ensures c.start-2.ensures in
     omega (arith, n.order)
 
 part-result-start : tie.Need-slice-bounds-result-start
@@ -31,17 +31,17 @@ part-result-start = sub-result-2
 part-result-end : tie.Need-slice-bounds-result-end
 part-result-end c =
     let s = c.before.before.before in
-    let n = name-here s.args.lines.now s.args.l c.before.start.result c.start2.result s.requires.0 s.requires.1 c.before.start.ensures c.start2.ensures in
+    let n = name-here s.args.lines.now s.args.l c.start.result c.start-2.result s.requires.0 s.requires.1 c.start.ensures c.start-2.ensures in
     omega (arith, n.inside)
 
 returns : tie.Need-returns
 returns c =
     let s = c.before.before.before.before in
-    let n = name-here s.args.lines.now s.args.l c.before.before.start.result c.before.start2.result s.requires.0 s.requires.1 c.before.before.start.ensures c.before.start2.ensures in
+    let n = name-here s.args.lines.now s.args.l c.start.result c.start-2.result s.requires.0 s.requires.1 c.start.ensures c.start-2.ensures in
     n.same
 
-pub name-at-spec : {M : Type 1} → statement M
-name-at-spec =
+pub name_at_spec : {M : Type 1} → statement M
+name_at_spec =
     tie.close
     (tie.spec
     start-requires

@@ -3,34 +3,34 @@ use borrow.Author.Rules.{rules}
 use Rattle.text_rows.proofs.inner.read_noted.Statement.{statement}
 use Rattle.text_rows.proofs.inner.read_noted.Tie as tie
 
-read-list-requires : tie.Need-read-list-requires
+read-list-requires : tie.Need-read_list-r-requires
 read-list-requires c κs = search rules
 
-enum-known-r : tie.Need-enum-known-r
+enum-known-r : tie.Need-enum_known-r
 enum-known-r c = search rules
 
-mul-ends : tie.Need-overflow-mul-ends
+mul-ends : tie.Need-offset_bounds-ends-j
 mul-ends c = search rules
 
-element-write-ends : tie.Need-element-write-ends
+element-write-ends : tie.Need-bounds-ends-j
 element-write-ends c = search rules
 
-enum_told : tie.Need-enum-told
+enum_told : tie.Need-enum_told-1
 enum_told c = search rules
 
-returns : tie.Need-returns
+returns : tie.Need-returns-in-On
 returns c =
-    let g = c.before.r.given in
-    let rl = c.before.before.before.read-list in
+    let g = c.r-1.given in
+    let rl = c.read_list-r in
     record { list = rw g.1 at rl.ensures.0; room = rw g.1 at rl.ensures.1; noted = refl }
 
-returns-2 : tie.Need-returns-2
+returns-2 : tie.Need-returns-in-Off
 returns-2 c =
-    let rl = c.before.before.read-list in
-    record { list = rw c.enum_told.given.1 at rl.ensures.0; room = tt; noted = tt }
+    let rl = c.read_list-r in
+    record { list = rw c.enum_told-1.given.1 at rl.ensures.0; room = tt; noted = tt }
 
-pub read-noted-spec : {M : Type 1} → statement M
-read-noted-spec =
+pub read_noted_spec : {M : Type 1} → statement M
+read_noted_spec =
     tie.close
     (tie.spec
     read-list-requires

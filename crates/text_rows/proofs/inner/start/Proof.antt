@@ -3,7 +3,7 @@ use Rattle.text_rows.specs.inner.Cells.{starts_of}
 use Rattle.text_rows.proofs.inner.start.Statement.{statement}
 use Rattle.text_rows.proofs.inner.start.Tie as tie
 
-mul-result : tie.Need-overflow-mul-result
+mul-result : tie.Need-offset_bounds-l
 mul-result c = search rules
 
 array-read-result : tie.Need-array-read-result

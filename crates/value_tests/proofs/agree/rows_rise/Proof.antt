@@ -11,9 +11,9 @@ use Rattle.value_tests.proofs.agree.rows_rise.Tie as tie
 returns : tie.Need-returns
 unfolding table read rows_rise
 returns c =
-    and-4 c.before.before.before.before.before.before.is-rising.ensures (c.before.before.before.before.is-rising2.ensures ∙ ap rises c.before.before.before.before.before.column.ensures) (c.before.before.is-rising3.ensures ∙ ap rises c.before.before.before.column2.ensures) (c.is-rising4.ensures ∙ ap rises c.before.column3.ensures)
+    and-4 c.is_rising.ensures (c.is_rising-2.ensures ∙ ap rises c.column.ensures) (c.is_rising-3.ensures ∙ ap rises c.column-2.ensures) (c.is_rising-4.ensures ∙ ap rises c.column-3.ensures)
 
-pub rows-rise-spec : {M : Type 1} → statement M
-rows-rise-spec =
+pub rows_rise_spec : {M : Type 1} → statement M
+rows_rise_spec =
     tie.close
     (tie.spec (λ c κs. search rules) (λ c κs. search rules) (λ c κs. search rules) (λ c κs. search rules) (λ c κs. search rules) (λ c κs. search rules) (λ c κs. search rules) returns)

@@ -13,18 +13,18 @@ use Rattle.value_tests.proofs.inner.chunks_in.Tie as tie
 returns : tie.Need-returns
 unfolding table
 returns c =
-    let a = c.before.before.before.before.before.before.before.before.before.before.before.before.before.args in
-    let orders = c.before.before.before.before.before.before.before.all-below in
-    let entries = c.before.before.entries-in in
-    let seeds = c.all-below2 in
-    chunks-joined (table a.runtime a.dynamic a.bounds.now a.columns.now) c.before.before.before.before.before.before.before.before.before.before.rows.ensures c.before.before.before.before.before.before.before.before.before.rows2.ensures
-    (given1 (λ order. orders.result ≡ below missing order) c.before.before.before.before.before.before.before.before.column.ensures orders.ensures)
-    c.before.before.before.before.before.before.pair-at.ensures
-    c.before.before.before.before.before.pair-at2.ensures
-    (given2 (λ entry entry_chunk. entries.result ≡ entries_in c.before.before.before.before.before.before.before.before.before.before.rows.result c.before.before.before.before.before.before.before.before.before.rows2.result entry entry_chunk) c.before.before.before.before.column2.ensures c.before.before.before.column3.ensures entries.ensures)
-    (given1 (λ seed. seeds.result ≡ below c.before.before.before.before.before.before.before.before.before.before.rows.result seed) c.before.column4.ensures seeds.ensures)
+    let a = c.args in
+    let orders = c.all_below in
+    let entries = c.entries_in in
+    let seeds = c.all_below-2 in
+    chunks-joined (table a.runtime a.dynamic a.bounds.now a.columns.now) c.rows-modules.ensures c.rows-chunks.ensures
+    (given1 (λ order. orders.result ≡ below missing order) c.column.ensures orders.ensures)
+    c.pair_at.ensures
+    c.pair_at-2.ensures
+    (given2 (λ entry entry_chunk. entries.result ≡ entries_in c.rows-modules.result c.rows-chunks.result entry entry_chunk) c.column-2.ensures c.column-3.ensures entries.ensures)
+    (given1 (λ seed. seeds.result ≡ below c.rows-modules.result seed) c.column-4.ensures seeds.ensures)
 
-pub chunks-in-spec : {M : Type 1} → statement M
-chunks-in-spec =
+pub chunks_in_spec : {M : Type 1} → statement M
+chunks_in_spec =
     tie.close
     (tie.spec (λ c κs. search rules) (λ c κs. search rules) (λ c κs. search rules) (λ c. search rules) (λ c κs. search rules) (λ c κs. search rules) (λ c κs. search rules) (λ c κs. search rules) (λ c κs. search rules) (λ c κs. search rules) (λ c κs. search rules) (λ c κs. search rules) returns)

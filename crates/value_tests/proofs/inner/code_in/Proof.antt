@@ -12,16 +12,16 @@ use Rattle.value_tests.proofs.inner.code_in.Tie as tie
 returns : tie.Need-returns
 unfolding table read
 returns c =
-    let a = c.before.before.before.before.before.before.before.before.before.before.before.before.before.before.before.before.before.before.before.args in
-    let m = c.before.before.before.modules-in in
-    code-joined (with_records (table a.runtime a.dynamic a.bounds.now a.columns.now) a.importers.now a.kinds.now a.targets.now) c.before.before.before.before.before.before.before.before.before.before.before.before.before.rows.ensures c.before.before.before.before.before.before.before.before.before.before.before.before.rows2.ensures
-    c.before.before.before.before.before.before.before.before.before.before.before.settings-in.ensures
-    (given7 (λ normal included sensitive reads exports wrap chunk. m.result ≡ modules_in c.before.before.before.before.before.before.before.before.before.before.before.before.rows2.result normal included sensitive reads exports wrap chunk) c.before.before.before.before.before.before.before.before.before.before.column.ensures c.before.before.before.before.before.before.before.before.before.column2.ensures c.before.before.before.before.before.before.before.before.column3.ensures c.before.before.before.before.before.before.before.column4.ensures c.before.before.before.before.before.before.column5.ensures c.before.before.before.before.before.column6.ensures c.before.before.before.before.column7.ensures m.ensures)
-    c.before.before.three-in.ensures
-    c.before.pair-at.ensures
-    c.pair-at2.ensures
+    let a = c.args in
+    let m = c.modules_in in
+    code-joined (with_records (table a.runtime a.dynamic a.bounds.now a.columns.now) a.importers.now a.kinds.now a.targets.now) c.rows-modules.ensures c.rows-chunks.ensures
+    c.settings_in.ensures
+    (given7 (λ normal included sensitive reads exports wrap chunk. m.result ≡ modules_in c.rows-chunks.result normal included sensitive reads exports wrap chunk) c.column.ensures c.column-2.ensures c.column-3.ensures c.column-4.ensures c.column-5.ensures c.column-6.ensures c.column-7.ensures m.ensures)
+    c.three_in.ensures
+    c.pair_at.ensures
+    c.pair_at-2.ensures
 
-pub code-in-spec : {M : Type 1} → statement M
-code-in-spec =
+pub code_in_spec : {M : Type 1} → statement M
+code_in_spec =
     tie.close
     (tie.spec (λ c κs. search rules) (λ c κs. search rules) (λ c κs. search rules) (λ c κs. search rules) (λ c κs. search rules) (λ c κs. search rules) (λ c κs. search rules) (λ c κs. search rules) (λ c κs. search rules) (λ c κs. search rules) (λ c κs. search rules) (λ c κs. search rules) (λ c κs. search rules) (λ c κs. search rules) returns)

@@ -6,7 +6,7 @@ use Rattle.value_tests.proofs.inner.entries_in.Statement.{statement}
 use Rattle.value_tests.proofs.inner.entries_in.Tie as tie
 
 returns : tie.Need-returns
-returns c = and-2 c.before.all-below.ensures c.all-below-or-missing.ensures
+returns c = and-2 c.all_below.ensures c.all_below_or_missing.ensures
 
-pub entries-in-spec : {M : Type 1} → statement M
-entries-in-spec = tie.close (tie.spec (λ c κs. search rules) (λ c κs. search rules) returns)
+pub entries_in_spec : {M : Type 1} → statement M
+entries_in_spec = tie.close (tie.spec (λ c κs. search rules) (λ c κs. search rules) returns)

@@ -8,9 +8,9 @@ use Rattle.value_tests.proofs.inner.pair_at.Statement.{statement}
 use Rattle.value_tests.proofs.inner.pair_at.Tie as tie
 
 returns : tie.Need-returns
-returns c = given2 (λ first second. c.pair-in.result ≡ pair_in c.before.before.before.before.before.args.m c.before.before.before.before.before.args.n first second) c.before.before.column.ensures c.before.column2.ensures c.pair-in.ensures
+returns c = given2 (λ first second. c.pair_in.result ≡ pair_in c.args.m c.args.n first second) c.column.ensures c.column-2.ensures c.pair_in.ensures
 
-pub pair-at-spec : {M : Type 1} → statement M
-pair-at-spec =
+pub pair_at_spec : {M : Type 1} → statement M
+pair_at_spec =
     tie.close
     (tie.spec (λ c κs. search rules) (λ c. search rules) (λ c κs. search rules) (λ c κs. search rules) returns)

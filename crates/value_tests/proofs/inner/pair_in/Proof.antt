@@ -6,7 +6,7 @@ use Rattle.value_tests.proofs.inner.pair_in.Statement.{statement}
 use Rattle.value_tests.proofs.inner.pair_in.Tie as tie
 
 returns : tie.Need-returns
-returns c = and-2 c.before.all-below.ensures c.all-below2.ensures
+returns c = and-2 c.all_below.ensures c.all_below-2.ensures
 
-pub pair-in-spec : {M : Type 1} → statement M
-pair-in-spec = tie.close (tie.spec (λ c κs. search rules) (λ c κs. search rules) returns)
+pub pair_in_spec : {M : Type 1} → statement M
+pair_in_spec = tie.close (tie.spec (λ c κs. search rules) (λ c κs. search rules) returns)

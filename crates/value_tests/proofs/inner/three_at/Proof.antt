@@ -8,9 +8,9 @@ use Rattle.value_tests.proofs.inner.three_at.Statement.{statement}
 use Rattle.value_tests.proofs.inner.three_at.Tie as tie
 
 returns : tie.Need-returns
-returns c = let a = c.before.before.before.before.before.before.args in given3 (λ first second third. c.three-in.result ≡ (below a.l first && (below a.m second && below_or_missing a.n third))) c.before.before.before.column.ensures c.before.before.column2.ensures c.before.column3.ensures c.three-in.ensures
+returns c = let a = c.args in given3 (λ first second third. c.three_in.result ≡ (below a.l first && (below a.m second && below_or_missing a.n third))) c.column.ensures c.column-2.ensures c.column-3.ensures c.three_in.ensures
 
-pub three-at-spec : {M : Type 1} → statement M
-three-at-spec =
+pub three_at_spec : {M : Type 1} → statement M
+three_at_spec =
     tie.close
     (tie.spec (λ c κs. search rules) (λ c. search rules) (λ c κs. search rules) (λ c. search rules) (λ c κs. search rules) (λ c κs. search rules) returns)

@@ -6,7 +6,7 @@ use Rattle.value_tests.proofs.inner.three_in.Statement.{statement}
 use Rattle.value_tests.proofs.inner.three_in.Tie as tie
 
 returns : tie.Need-returns
-returns c = and-3 c.before.before.all-below.ensures c.before.all-below2.ensures c.all-below-or-missing.ensures
+returns c = and-3 c.all_below.ensures c.all_below-2.ensures c.all_below_or_missing.ensures
 
-pub three-in-spec : {M : Type 1} → statement M
-three-in-spec = tie.close (tie.spec (λ c κs. search rules) (λ c κs. search rules) (λ c κs. search rules) returns)
+pub three_in_spec : {M : Type 1} → statement M
+three_in_spec = tie.close (tie.spec (λ c κs. search rules) (λ c κs. search rules) (λ c κs. search rules) returns)

@@ -18,7 +18,7 @@ use Rattle.visit_columns.proofs.Cuts.{cut-same, cut-before, front-before, put-le
 use Rattle.visit_columns.proofs.inner.prepare.Statement.{statement}
 use Rattle.visit_columns.proofs.inner.prepare.Tie as tie
 
-abbrev entry : tie.After-write-ways-arg → tie.Start
+abbrev entry : tie.After-write_ways-arg-1 → tie.Start
 entry k = k.before.before.before.before.before.before.before.before.before.before.before.before
 
 -- how many modules, chunks and rows there are
@@ -36,37 +36,37 @@ module _ (e : tie.Start) where
   loads = length e.args.import-chunk.now
 
   few : modules ≤ 4096
-  few = e.pre.1.1.1.0
+  few = e.requires.room.0
 
   few-chunks : chunks ≤ 1024
-  few-chunks = e.pre.1.1.0.limit
+  few-chunks = e.requires.imports.limit
 
   few-records : records ≤ 16384
-  few-records = e.pre.0.rows
+  few-records = e.requires.fit.rows
 
   few-loads : loads ≤ 16384
-  few-loads = e.pre.1.1.0.rows
+  few-loads = e.requires.imports.rows
 
   size : length e.args.prepared.now ≡ 43011
-  size = e.pre.1.1.1.1
+  size = e.requires.room.1
 
   front-size : length (take modules e.args.prepared.now) ≡ modules
   front-size = length-take-le modules e.args.prepared.now (omega (arith, few, size))
 
 -- the slice after each step, and the part that the step wrote
 
-module _ (x : tie.After-write-ways) where
+module _ (x : tie.After-write_ways) where
   abbrev start₁ : tie.Start
   start₁ = entry x.before
 
   abbrev made₁ : List ℕ
-  made₁ = x.write-ways.last.1.1.1.0
+  made₁ = x.write_ways.last.1.1.1.0
 
   abbrev list₁ : List ℕ
   list₁ = made₁ ++ drop (modules start₁) start₁.args.prepared.now
 
   made-size₁ : length made₁ ≡ modules start₁
-  made-size₁ = x.write-ways.kept.1.1.1.0 ∙ front-size start₁
+  made-size₁ = x.write_ways.auto.ways ∙ front-size start₁
 
   size₁ : length list₁ ≡ 43011
   size₁ = length-append made₁ (drop (modules start₁) start₁.args.prepared.now) ∙ omega (arith, made-size₁, length-drop (modules start₁) start₁.args.prepared.now, size start₁, few start₁)
@@ -74,11 +74,11 @@ module _ (x : tie.After-write-ways) where
   written₁ : ways_in (modules start₁) list₁ ≡ ways start₁.args.normal.now start₁.args.included.now start₁.args.wrap.now (modules start₁)
   written₁ =
       take_at made₁ (drop (modules start₁) start₁.args.prepared.now) (modules start₁) made-size₁
-      ∙ x.write-ways.ensures
+      ∙ x.write_ways.ensures
       ∙ ap (λ (n : ℕ). map (way_of start₁.args.normal.now start₁.args.included.now start₁.args.wrap.now) (up_to n)) (front-size start₁)
 
-module _ (x : tie.After-first-rows) where
-  abbrev before₂ : tie.After-write-ways
+module _ (x : tie.After-first_rows) where
+  abbrev before₂ : tie.After-write_ways
   before₂ = x.before.before.before.before
 
   abbrev start₂ : tie.Start
@@ -97,16 +97,16 @@ module _ (x : tie.After-first-rows) where
   within₂ = omega (arith, size₁ before₂, few start₂)
 
   size₂ : length list₂ ≡ 43011
-  size₂ = put-length 4096 end₂ (list₁ before₂) made₂ (omega arith) within₂ x.first_rows.kept.1.0 ∙ size₁ before₂
+  size₂ = put-length 4096 end₂ (list₁ before₂) made₂ (omega arith) within₂ x.first_rows.auto.starts ∙ size₁ before₂
 
   part₂ : cut 4096 end₂ list₂ ≡ made₂
-  part₂ = cut-same 4096 end₂ (list₁ before₂) made₂ (omega arith) within₂ x.first_rows.kept.1.0
+  part₂ = cut-same 4096 end₂ (list₁ before₂) made₂ (omega arith) within₂ x.first_rows.auto.starts
 
   front₂ : (n : ℕ) → n ≤ 4096 → take n list₂ ≡ take n (list₁ before₂)
-  front₂ = front-before 4096 end₂ (list₁ before₂) made₂ (omega arith) within₂ x.first_rows.kept.1.0
+  front₂ = front-before 4096 end₂ (list₁ before₂) made₂ (omega arith) within₂ x.first_rows.auto.starts
 
-module _ (x : tie.After-first-rows2) where
-  abbrev before₃ : tie.After-first-rows
+module _ (x : tie.After-first_rows-2) where
+  abbrev before₃ : tie.After-first_rows
   before₃ = x.before.before.before.before
 
   abbrev start₃ : tie.Start
@@ -116,7 +116,7 @@ module _ (x : tie.After-first-rows2) where
   end₃ = 8193 + chunks start₃ + 1
 
   abbrev made₃ : List ℕ
-  made₃ = x.first-rows2.last.1.0
+  made₃ = x.first_rows-2.last.1.0
 
   abbrev list₃ : List ℕ
   list₃ = put_mid 8193 (end₃ - 8193) (list₂ before₃) made₃
@@ -125,20 +125,20 @@ module _ (x : tie.After-first-rows2) where
   within₃ = omega (arith, size₂ before₃, few-chunks start₃)
 
   size₃ : length list₃ ≡ 43011
-  size₃ = put-length 8193 end₃ (list₂ before₃) made₃ (omega arith) within₃ x.first-rows2.kept.1.0 ∙ size₂ before₃
+  size₃ = put-length 8193 end₃ (list₂ before₃) made₃ (omega arith) within₃ x.first_rows-2.auto.starts ∙ size₂ before₃
 
   part₃ : cut 8193 end₃ list₃ ≡ made₃
-  part₃ = cut-same 8193 end₃ (list₂ before₃) made₃ (omega arith) within₃ x.first-rows2.kept.1.0
+  part₃ = cut-same 8193 end₃ (list₂ before₃) made₃ (omega arith) within₃ x.first_rows-2.auto.starts
 
   -- a part before it stays
   kept₃ : (c d : ℕ) → d ≤ 8193 → cut c d list₃ ≡ cut c d (list₂ before₃)
-  kept₃ = cut-before 8193 end₃ (list₂ before₃) made₃ (omega arith) within₃ x.first-rows2.kept.1.0
+  kept₃ = cut-before 8193 end₃ (list₂ before₃) made₃ (omega arith) within₃ x.first_rows-2.auto.starts
 
   front₃ : (n : ℕ) → n ≤ 8193 → take n list₃ ≡ take n (list₂ before₃)
-  front₃ = front-before 8193 end₃ (list₂ before₃) made₃ (omega arith) within₃ x.first-rows2.kept.1.0
+  front₃ = front-before 8193 end₃ (list₂ before₃) made₃ (omega arith) within₃ x.first_rows-2.auto.starts
 
-module _ (x : tie.After-first-rows3) where
-  abbrev before₄ : tie.After-first-rows2
+module _ (x : tie.After-first_rows-3) where
+  abbrev before₄ : tie.After-first_rows-2
   before₄ = x.before.before.before.before
 
   abbrev start₄ : tie.Start
@@ -148,7 +148,7 @@ module _ (x : tie.After-first-rows3) where
   end₄ = 9218 + chunks start₄ + 1
 
   abbrev made₄ : List ℕ
-  made₄ = x.first-rows3.last.1.0
+  made₄ = x.first_rows-3.last.1.0
 
   abbrev list₄ : List ℕ
   list₄ = put_mid 9218 (end₄ - 9218) (list₃ before₄) made₄
@@ -157,20 +157,20 @@ module _ (x : tie.After-first-rows3) where
   within₄ = omega (arith, size₃ before₄, few-chunks start₄)
 
   size₄ : length list₄ ≡ 43011
-  size₄ = put-length 9218 end₄ (list₃ before₄) made₄ (omega arith) within₄ x.first-rows3.kept.1.0 ∙ size₃ before₄
+  size₄ = put-length 9218 end₄ (list₃ before₄) made₄ (omega arith) within₄ x.first_rows-3.auto.starts ∙ size₃ before₄
 
   part₄ : cut 9218 end₄ list₄ ≡ made₄
-  part₄ = cut-same 9218 end₄ (list₃ before₄) made₄ (omega arith) within₄ x.first-rows3.kept.1.0
+  part₄ = cut-same 9218 end₄ (list₃ before₄) made₄ (omega arith) within₄ x.first_rows-3.auto.starts
 
   -- a part before it stays
   kept₄ : (c d : ℕ) → d ≤ 9218 → cut c d list₄ ≡ cut c d (list₃ before₄)
-  kept₄ = cut-before 9218 end₄ (list₃ before₄) made₄ (omega arith) within₄ x.first-rows3.kept.1.0
+  kept₄ = cut-before 9218 end₄ (list₃ before₄) made₄ (omega arith) within₄ x.first_rows-3.auto.starts
 
   front₄ : (n : ℕ) → n ≤ 9218 → take n list₄ ≡ take n (list₃ before₄)
-  front₄ = front-before 9218 end₄ (list₃ before₄) made₄ (omega arith) within₄ x.first-rows3.kept.1.0
+  front₄ = front-before 9218 end₄ (list₃ before₄) made₄ (omega arith) within₄ x.first_rows-3.auto.starts
 
-module _ (x : tie.After-write-triggers) where
-  abbrev before₅ : tie.After-first-rows3
+module _ (x : tie.After-write_triggers) where
+  abbrev before₅ : tie.After-first_rows-3
   before₅ = x.before.before.before.before
 
   abbrev start₅ : tie.Start
@@ -180,7 +180,7 @@ module _ (x : tie.After-write-triggers) where
   end₅ = 10243 + records start₅
 
   abbrev made₅ : List ℕ
-  made₅ = x.write-triggers.last.1.1.1.1.1.0
+  made₅ = x.write_triggers.last.1.1.1.1.1.0
 
   abbrev list₅ : List ℕ
   list₅ = put_mid 10243 (end₅ - 10243) (list₄ before₅) made₅
@@ -189,20 +189,20 @@ module _ (x : tie.After-write-triggers) where
   within₅ = omega (arith, size₄ before₅, few-records start₅)
 
   size₅ : length list₅ ≡ 43011
-  size₅ = put-length 10243 end₅ (list₄ before₅) made₅ (omega arith) within₅ x.write-triggers.kept.1.1.1.1.1.0 ∙ size₄ before₅
+  size₅ = put-length 10243 end₅ (list₄ before₅) made₅ (omega arith) within₅ x.write_triggers.auto.triggers ∙ size₄ before₅
 
   part₅ : cut 10243 end₅ list₅ ≡ made₅
-  part₅ = cut-same 10243 end₅ (list₄ before₅) made₅ (omega arith) within₅ x.write-triggers.kept.1.1.1.1.1.0
+  part₅ = cut-same 10243 end₅ (list₄ before₅) made₅ (omega arith) within₅ x.write_triggers.auto.triggers
 
   -- a part before it stays
   kept₅ : (c d : ℕ) → d ≤ 10243 → cut c d list₅ ≡ cut c d (list₄ before₅)
-  kept₅ = cut-before 10243 end₅ (list₄ before₅) made₅ (omega arith) within₅ x.write-triggers.kept.1.1.1.1.1.0
+  kept₅ = cut-before 10243 end₅ (list₄ before₅) made₅ (omega arith) within₅ x.write_triggers.auto.triggers
 
   front₅ : (n : ℕ) → n ≤ 10243 → take n list₅ ≡ take n (list₄ before₅)
-  front₅ = front-before 10243 end₅ (list₄ before₅) made₅ (omega arith) within₅ x.write-triggers.kept.1.1.1.1.1.0
+  front₅ = front-before 10243 end₅ (list₄ before₅) made₅ (omega arith) within₅ x.write_triggers.auto.triggers
 
 module _ (x : tie.After-arrange) where
-  abbrev before₆ : tie.After-write-triggers
+  abbrev before₆ : tie.After-write_triggers
   before₆ = x.before.before.before.before
 
   abbrev start₆ : tie.Start
@@ -221,33 +221,33 @@ module _ (x : tie.After-arrange) where
   within₆ = omega (arith, size₅ before₆, few-loads start₆)
 
   size₆ : length list₆ ≡ 43011
-  size₆ = put-length 26627 end₆ (list₅ before₆) made₆ (omega arith) within₆ x.arrange.kept.1.1.1.0 ∙ size₅ before₆
+  size₆ = put-length 26627 end₆ (list₅ before₆) made₆ (omega arith) within₆ x.arrange.auto.loads ∙ size₅ before₆
 
   part₆ : cut 26627 end₆ list₆ ≡ made₆
-  part₆ = cut-same 26627 end₆ (list₅ before₆) made₆ (omega arith) within₆ x.arrange.kept.1.1.1.0
+  part₆ = cut-same 26627 end₆ (list₅ before₆) made₆ (omega arith) within₆ x.arrange.auto.loads
 
   -- a part before it stays
   kept₆ : (c d : ℕ) → d ≤ 26627 → cut c d list₆ ≡ cut c d (list₅ before₆)
-  kept₆ = cut-before 26627 end₆ (list₅ before₆) made₆ (omega arith) within₆ x.arrange.kept.1.1.1.0
+  kept₆ = cut-before 26627 end₆ (list₅ before₆) made₆ (omega arith) within₆ x.arrange.auto.loads
 
   front₆ : (n : ℕ) → n ≤ 26627 → take n list₆ ≡ take n (list₅ before₆)
-  front₆ = front-before 26627 end₆ (list₅ before₆) made₆ (omega arith) within₆ x.arrange.kept.1.1.1.0
+  front₆ = front-before 26627 end₆ (list₅ before₆) made₆ (omega arith) within₆ x.arrange.auto.loads
 
 -- at the end each part is as it was written
 module _ (x : tie.After-arrange) where
-  abbrev at₅ : tie.After-write-triggers
+  abbrev at₅ : tie.After-write_triggers
   at₅ = before₆ x
 
-  abbrev at₄ : tie.After-first-rows3
+  abbrev at₄ : tie.After-first_rows-3
   at₄ = before₅ at₅
 
-  abbrev at₃ : tie.After-first-rows2
+  abbrev at₃ : tie.After-first_rows-2
   at₃ = before₄ at₄
 
-  abbrev at₂ : tie.After-first-rows
+  abbrev at₂ : tie.After-first_rows
   at₂ = before₃ at₃
 
-  abbrev at₁ : tie.After-write-ways
+  abbrev at₁ : tie.After-write_ways
   at₁ = before₂ at₂
 
   abbrev start : tie.Start
@@ -271,14 +271,14 @@ module _ (x : tie.After-arrange) where
       let l = few-chunks start in
       subst (FirstRows start.args.member-chunk.now)
       (sym (kept₆ x 8193 (8193 + chunks start + 1) (omega arith) ∙ kept₅ at₅ 8193 (8193 + chunks start + 1) (omega arith) ∙ kept₄ at₄ 8193 (8193 + chunks start + 1) (omega arith) ∙ part₃ at₃))
-      at₃.first-rows2.ensures
+      at₃.first_rows-2.ensures
 
   load-starts : FirstRows start.args.import-chunk.now (load_starts_in (chunks start) (list₆ x))
   load-starts =
       let l = few-chunks start in
       subst (FirstRows start.args.import-chunk.now)
       (sym (kept₆ x 9218 (9218 + chunks start + 1) (omega arith) ∙ kept₅ at₅ 9218 (9218 + chunks start + 1) (omega arith) ∙ part₄ at₄))
-      at₄.first-rows3.ensures
+      at₄.first_rows-3.ensures
 
   trigger : triggers_in (records start) (list₆ x) ≡ triggers start.args.normal.now start.args.included.now start.args.wrap.now start.args.record-kind.now start.args.record-target.now (records start)
   trigger =
@@ -287,52 +287,52 @@ module _ (x : tie.After-arrange) where
       let z : length (cut 10243 (10243 + records start) (list₄ at₄)) ≡ records start = mid_len 10243 (10243 + records start) (list₄ at₄) (within₅ at₅) ∙ omega arith in
       kept₆ x 10243 (10243 + records start) (omega arith)
       ∙ part₅ at₅
-      ∙ at₅.write-triggers.ensures
+      ∙ at₅.write_triggers.ensures
       ∙ ap (λ (n : ℕ). map (row_trigger a.normal.now a.included.now a.wrap.now a.record-kind.now a.record-target.now) (up_to n)) z
 
   loaded : values_of start.args.import-chunk.now (loads_in (loads start) (list₆ x)) ≡ load_order start.args.order.now start.args.import-chunk.now start.args.imports.now
   loaded = ap (values_of start.args.import-chunk.now) (part₆ x) ∙ x.arrange.ensures
 
   loads-size : length (loads_in (loads start) (list₆ x)) ≡ length start.args.imports.now
-  loads-size = mid_len 26627 (26627 + loads start) (list₆ x) (omega (arith, size₆ x, few-loads start)) ∙ omega (arith, start.pre.1.1.0.lengths)
+  loads-size = mid_len 26627 (26627 + loads start) (list₆ x) (omega (arith, size₆ x, few-loads start)) ∙ omega (arith, start.requires.imports.lengths)
 
-add-starts-end : tie.Need-overflow-add-starts-end
+add-starts-end : tie.Need-overflow_add-starts_end
 add-starts-end c = search rules
 
-add-starts-end-2 : tie.Need-overflow-add-starts-end-2
+add-starts-end-2 : tie.Need-overflow_add-starts_end-2
 add-starts-end-2 c = search rules
 
-add-member-end : tie.Need-overflow-add-member-end
+add-member-end : tie.Need-overflow_add-member_end
 add-member-end c = search rules
 
-add-member-end-2 : tie.Need-overflow-add-member-end-2
+add-member-end-2 : tie.Need-overflow_add-member_end-2
 add-member-end-2 c = search rules
 
-add-load-end : tie.Need-overflow-add-load-end
+add-load-end : tie.Need-overflow_add-load_end
 add-load-end c = search rules
 
-add-load-end-2 : tie.Need-overflow-add-load-end-2
+add-load-end-2 : tie.Need-overflow_add-load_end-2
 add-load-end-2 c = search rules
 
-add-triggers-end : tie.Need-overflow-add-triggers-end
+add-triggers-end : tie.Need-overflow_add-triggers_end
 add-triggers-end c = search rules
 
-add-loads-end : tie.Need-overflow-add-loads-end
+add-loads-end : tie.Need-overflow_add-loads_end
 add-loads-end c = search rules
 
-slice-relend-prefix-write-ways : tie.Need-slice-relend-prefix-write-ways
+slice-relend-prefix-write-ways : tie.Need-slice_bounds-write_ways-end
 slice-relend-prefix-write-ways c = search rules
 
-slice-aggregate-write-ways : tie.Need-slice-aggregate-write-ways
+slice-aggregate-write-ways : tie.Need-slice_bounds-write_ways-end-2
 slice-aggregate-write-ways c = sym (front-size (entry c))
 
-write-ways-requires : tie.Need-write-ways-requires
-write-ways-requires c κs = let e = entry c in let z = sym (front-size e) in let f = e.pre.0 in (z, f.includeds ∙ z, f.wraps ∙ z)
+write-ways-requires : tie.Need-write_ways-requires
+write-ways-requires c κs = let e = entry c in let z = sym (front-size e) in let f = e.requires.fit in (z, f.includeds ∙ z, f.wraps ∙ z)
 
-mul-first-rows : tie.Need-overflow-mul-first-rows
+mul-first-rows : tie.Need-offset_bounds-prepared-starts
 mul-first-rows c = search rules
 
-sub-first-rows : tie.Need-overflow-sub-first-rows
+sub-first-rows : tie.Need-slice_bounds-first_rows-count
 sub-first-rows c = search rules
 
 part-first-rows-start : tie.Need-slice-bounds-first-rows-start
@@ -341,13 +341,13 @@ part-first-rows-start c = search rules
 part-first-rows-end : tie.Need-slice-bounds-first-rows-end
 part-first-rows-end c = let w = c.before.before in omega (arith, size₁ w, few (start₁ w))
 
-first-rows-requires : tie.Need-first-rows-requires
+first-rows-requires : tie.Need-first_rows-requires
 first-rows-requires c κs = search rules
 
-mul-first-rows-2 : tie.Need-overflow-mul-first-rows-2
+mul-first-rows-2 : tie.Need-offset_bounds-prepared-member_starts
 mul-first-rows-2 c = search rules
 
-sub-first-rows-2 : tie.Need-overflow-sub-first-rows-2
+sub-first-rows-2 : tie.Need-slice_bounds-first_rows-count-2
 sub-first-rows-2 c = search rules
 
 part-first-rows-start-2 : tie.Need-slice-bounds-first-rows-start-2
@@ -356,13 +356,13 @@ part-first-rows-start-2 c = search rules
 part-first-rows-end-2 : tie.Need-slice-bounds-first-rows-end-2
 part-first-rows-end-2 c = let w = c.before.before in omega (arith, size₂ w, few-chunks (start₂ w))
 
-first-rows-requires-2 : tie.Need-first-rows-requires-2
+first-rows-requires-2 : tie.Need-first_rows-requires-2
 first-rows-requires-2 c κs = search rules
 
-mul-first-rows-3 : tie.Need-overflow-mul-first-rows-3
+mul-first-rows-3 : tie.Need-offset_bounds-prepared-load_starts
 mul-first-rows-3 c = search rules
 
-sub-first-rows-3 : tie.Need-overflow-sub-first-rows-3
+sub-first-rows-3 : tie.Need-slice_bounds-first_rows-count-3
 sub-first-rows-3 c = search rules
 
 part-first-rows-start-3 : tie.Need-slice-bounds-first-rows-start-3
@@ -371,13 +371,13 @@ part-first-rows-start-3 c = search rules
 part-first-rows-end-3 : tie.Need-slice-bounds-first-rows-end-3
 part-first-rows-end-3 c = let w = c.before.before in omega (arith, size₃ w, few-chunks (start₃ w))
 
-first-rows-requires-3 : tie.Need-first-rows-requires-3
+first-rows-requires-3 : tie.Need-first_rows-requires-3
 first-rows-requires-3 c κs = search rules
 
-mul-write-triggers : tie.Need-overflow-mul-write-triggers
+mul-write-triggers : tie.Need-offset_bounds-prepared-triggers
 mul-write-triggers c = search rules
 
-sub-write-triggers : tie.Need-overflow-sub-write-triggers
+sub-write-triggers : tie.Need-slice_bounds-write_triggers-count
 sub-write-triggers c = search rules
 
 part-write-triggers-start : tie.Need-slice-bounds-write-triggers-start
@@ -386,18 +386,18 @@ part-write-triggers-start c = search rules
 part-write-triggers-end : tie.Need-slice-bounds-write-triggers-end
 part-write-triggers-end c = let w = c.before.before in omega (arith, size₄ w, few-records (start₄ w))
 
-write-triggers-requires : tie.Need-write-triggers-requires
+write-triggers-requires : tie.Need-write_triggers-requires
 write-triggers-requires c κs =
     let w = c.before.before.before in
     let e = start₄ w in
-    let f = e.pre.0 in
+    let f = e.requires.fit in
     let z : records e ≡ length (cut 10243 (10243 + records e) (list₄ w)) = sym (mid_len 10243 (10243 + records e) (list₄ w) (omega (arith, size₄ w, few-records e)) ∙ omega arith) in
     (f.kinds ∙ z, (f.targets ∙ z, (f.includeds, f.wraps)))
 
-mul-arrange : tie.Need-overflow-mul-arrange
+mul-arrange : tie.Need-offset_bounds-prepared-loads
 mul-arrange c = search rules
 
-sub-arrange : tie.Need-overflow-sub-arrange
+sub-arrange : tie.Need-slice_bounds-arrange-count
 sub-arrange c = search rules
 
 part-arrange-start : tie.Need-slice-bounds-arrange-start
@@ -410,9 +410,9 @@ arrange-requires : tie.Need-arrange-requires
 arrange-requires c κs =
     let w = c.before.before.before in
     let e = start₅ w in
-    (e.pre.1.1.0, mid_len 26627 (26627 + loads e) (list₅ w) (omega (arith, size₅ w, few-loads e)) ∙ omega (arith, e.pre.1.1.0.lengths))
+    (e.requires.imports, mid_len 26627 (26627 + loads e) (list₅ w) (omega (arith, size₅ w, few-loads e)) ∙ omega (arith, e.requires.imports.lengths))
 
-same_length : tie.Need-same-length
+same_length : tie.Need-shape_of-prepared
 same_length c = let x = c.before.before in size₆ x ∙ sym (size (start₆ x))
 
 returns : tie.Need-returns
@@ -427,13 +427,13 @@ returns c =
         member_starts = member-starts x;
         load_starts = load-starts x;
         trigger = trigger x;
-        loading = arranged-loads a.order.now a.import-chunk.now a.imports.now e.pre.1.1.0 (loads_in (loads e) (list₆ x)) (loads-size x) (loaded x);
+        loading = arranged-loads a.order.now a.import-chunk.now a.imports.now e.requires.imports (loads_in (loads e) (list₆ x)) (loads-size x) (loaded x);
       },
       loaded x,
     )
 
-pub prepare-spec : {M : Type 1} → statement M
-prepare-spec =
+pub prepare_spec : {M : Type 1} → statement M
+prepare_spec =
     tie.close
     (tie.spec
     add-starts-end

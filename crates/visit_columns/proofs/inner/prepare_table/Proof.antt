@@ -19,13 +19,13 @@ own : (k : tie.After-column) → k.column.result.now ≡ (of k.before.before.bef
 unfolding table read
 own k = k.column.ensures
 
-prepare-wrapped-requires : tie.Need-prepare-wrapped-requires
-prepare-wrapped-requires c κs = let k = c.before in (ap length (own k) ∙ c.before.before.before.before.before.before.before.before.before.before.requires.accepted.sizes.wrap, c.before.before.before.before.before.before.before.before.before.before.requires)
+prepare-wrapped-requires : tie.Need-prepare_wrapped-requires
+prepare-wrapped-requires c κs = let k = c.before in (ap length (own k) ∙ c.requires.accepted.sizes.wrap, c.requires)
 
 returns : tie.Need-returns
 returns c =
     let call = c.before.before in
-    subst (λ (wraps : List ℕ). PreparedAs (of c.before.before.before.before.before.before.before.before.before.before.before.before.before) wraps call.prepare-wrapped.new.1.1.1.1.1.1.1.1.1.1.0) (own c.before.before.before.before) call.prepare-wrapped.ensures
+    subst (λ (wraps : List ℕ). PreparedAs (of c.before.before.before.before.before.before.before.before.before.before.before.before.before) wraps call.prepare_wrapped.new.1.1.1.1.1.1.1.1.1.1.0) (own c.before.before.before.before) call.prepare_wrapped.ensures
 
-pub prepare-table-spec : {M : Type 1} → statement M
-prepare-table-spec = tie.close (tie.spec (λ c κs. search rules) prepare-wrapped-requires (λ c. search rules) returns)
+pub prepare_table_spec : {M : Type 1} → statement M
+prepare_table_spec = tie.close (tie.spec (λ c κs. search rules) prepare-wrapped-requires (λ c. search rules) returns)

@@ -27,12 +27,12 @@ prepare-requires c κs =
     let e = c.before.before.before.before.before.before.before.before.before.before.before.before.before.before.before.before in
     let p = of e in
     let ok = e.requires.1.accepted in (
-      asked2 (λ normal included. Fit normal included e.args.wraps.now p.record_module p.record_kind p.record_target (length normal)) c.before.before.before.before.before.before.column.ensures c.before.before.before.before.before.column2.ensures (modules-fit p ok e.args.wraps.now e.requires.0),
+      asked2 (λ normal included. Fit normal included e.args.wraps.now p.record_module p.record_kind p.record_target (length normal)) c.column.ensures c.column-2.ensures (modules-fit p ok e.args.wraps.now e.requires.0),
       (
-        asked1 (λ owners. Rising owners × (length owners ≤ row_limit)) c.before.before.before.column4.ensures (ok.rises.member_chunk, ok.sizes.member_chunk),
+        asked1 (λ owners. Rising owners × (length owners ≤ row_limit)) c.column-4.ensures (ok.rises.member_chunk, ok.sizes.member_chunk),
         (
-          asked3 Imports c.before.before.before.before.column3.ensures c.before.before.column5.ensures c.before.column6.ensures (imports-fit p ok),
-          (asked1 (λ normal. length normal ≤ module_limit) c.before.before.before.before.before.before.column.ensures ok.sizes.normal, e.requires.1.size),
+          asked3 Imports c.column-3.ensures c.column-5.ensures c.column-6.ensures (imports-fit p ok),
+          (asked1 (λ normal. length normal ≤ module_limit) c.column.ensures ok.sizes.normal, e.requires.1.size),
         ),
       ),
     )
@@ -46,10 +46,10 @@ returns c =
     let made : List ℕ = call.prepare.new.1.1.1.1.1.1.1.1.1.1.0 in
     let all =
     given6 (λ normal included order owners from imports. Parts normal included e.args.wraps.now p.record_module p.record_kind p.record_target owners from made (length normal) (length order) × (values_of from (loads_in (length from) made) ≡ load_order order from imports))
-    c.before.before.before.before.before.before.before.before.before.column.ensures c.before.before.before.before.before.before.before.before.column2.ensures c.before.before.before.before.before.before.before.column3.ensures c.before.before.before.before.before.before.column4.ensures c.before.before.before.before.before.column5.ensures c.before.before.before.before.column6.ensures call.prepare.ensures in
+    c.column.ensures c.column-2.ensures c.column-3.ensures c.column-4.ensures c.column-5.ensures c.column-6.ensures call.prepare.ensures in
     record { parts = all.0; same = all.1 }
 
-pub prepare-wrapped-spec : {M : Type 1} → statement M
-prepare-wrapped-spec =
+pub prepare_wrapped_spec : {M : Type 1} → statement M
+prepare_wrapped_spec =
     tie.close
     (tie.spec (λ c κs. search rules) (λ c κs. search rules) (λ c κs. search rules) (λ c κs. search rules) (λ c κs. search rules) (λ c κs. search rules) prepare-requires (λ c. search rules) returns)

@@ -12,61 +12,61 @@ use Rattle.visit_steps.proofs.Passing.{passed_none}
 use Rattle.visit_steps.proofs.inner.enter.Statement.{statement}
 use Rattle.visit_steps.proofs.inner.enter.Tie as tie
 
-abbrev entry : tie.Else1 → tie.Start
+abbrev entry : tie.Else-marks-at-ne0 → tie.Start
 entry t = t.before.before.before.before.before
 
 -- the place's rows are there
 within : (e : tie.Start) → let a = e.args in get_or a.starts.now (a.m + 1) 0 ≤ length a.column.now
 within e = e.requires.0.within e.args.m e.requires.2
 
-mul-if1 : tie.Need-overflow-mul-if1
+mul-if1 : tie.Need-offset_bounds-marks-at
 mul-if1 c = search rules
 
-slice-read-if1 : tie.Need-slice-read-if1
+slice-read-if1 : tie.Need-bounds-marks-at
 slice-read-if1 c = search rules
 
-returns : tie.Need-returns
+returns : tie.Need-returns-then-marks-at-ne0
 returns c =
-    let a = c.before.before.before.before.before.args in
-    record { entered = sym (fresh-not a.marks.now a.m c.if1.true); marked = refl; leads = passed_none a.marks.now []; within = omega arith }
+    let a = c.args in
+    record { entered = sym (fresh-not a.marks.now a.m c.if-marks-at-ne0.true); marked = refl; leads = passed_none a.marks.now []; within = omega arith }
 
-mul-marks : tie.Need-overflow-mul-marks
+mul-marks : tie.Need-offset_bounds-marks-at-2
 mul-marks c = search rules
 
-slice-write-marks : tie.Need-slice-write-marks
+slice-write-marks : tie.Need-bounds-marks-at-2
 slice-write-marks c = search rules
 
-mul-start : tie.Need-overflow-mul-start
+mul-start : tie.Need-offset_bounds-starts-at
 mul-start c = search rules
 
-shared-slice-read-start : tie.Need-shared-slice-read-start
+shared-slice-read-start : tie.Need-bounds-starts-at
 shared-slice-read-start c = search rules
 
-cast-start : tie.Need-overflow-cast-start
-cast-start c = omega (arith, c.shared-slice-known3.given (entry c.before).args.m)
+cast-start : tie.Need-overflow_cast-start
+cast-start c = omega (arith, c.shared_slice_known-3-1.given (entry c.before).args.m)
 
-add-end : tie.Need-overflow-add-end
+add-end : tie.Need-overflow_add-end
 add-end c = search rules
 
-mul-end : tie.Need-overflow-mul-end
+mul-end : tie.Need-offset_bounds-starts-at-2
 mul-end c = search rules
 
-shared-slice-read-end : tie.Need-shared-slice-read-end
+shared-slice-read-end : tie.Need-bounds-starts-at-2
 shared-slice-read-end c = search rules
 
-cast-end : tie.Need-overflow-cast-end
-cast-end c = omega (arith, c.shared-slice-known4.given ((entry c.before.before).args.m + 1))
+cast-end : tie.Need-overflow_cast-end
+cast-end c = omega (arith, c.shared_slice_known-4-1.given ((entry c.before.before).args.m + 1))
 
 next-requires : tie.Need-next-requires
 next-requires c κs =
     let e = entry c.before.before.before in
     let a = e.args in
-    (within e, subst (λ (n : ℕ). BelowOrMissing n a.column.now) (sym (length-set a.marks.now a.m 1)) e.pre.1)
+    (within e, subst (λ (n : ℕ). BelowOrMissing n a.column.now) (sym (length-set a.marks.now a.m 1)) e.requires.1)
 
-same_length : tie.Need-same-length
+same_length : tie.Need-shape_of-marks
 same_length c = search rules
 
-returns-2 : tie.Need-returns-2
+returns-2 : tie.Need-returns
 unfolding leads
 returns-2 c =
     let test = c.before.before.before.before in
@@ -74,7 +74,7 @@ returns-2 c =
     let a = e.args in
     let r = c.next.ensures in
     record {
-      entered = r.entered ∙ sym (fresh-zero a.marks.now a.m e.pre.2 test.if1.false);
+      entered = r.entered ∙ sym (fresh-zero a.marks.now a.m e.requires.2 test.if-marks-at-ne0.false);
       marked = ap (λ (b : Bool). cond b (set a.marks.now a.m 1) a.marks.now) (sym r.entered);
       leads = subst (λ (l : List ℕ). Passed (set a.marks.now a.m 1) l (pending (named a.column.now) c.next.result))
           (ap (λ (b : Bool). cond b (leads a.starts.now a.column.now a.m) []) (sym r.entered))

@@ -20,7 +20,7 @@ within e = e.requires.within e.args.c (omega arith)
 abbrev chosen : tie.Start → Bool → List ℕ
 chosen e b = let a = e.args in cond b (part a.starts.now a.member.now a.c) []
 
-sub-result : tie.Need-overflow-sub-result
+sub-result : tie.Need-slice_bounds-result-count
 sub-result c = search rules
 
 part-result-start : tie.Need-slice-bounds-result-start
@@ -29,34 +29,34 @@ part-result-start c = search rules
 part-result-end : tie.Need-slice-bounds-result-end
 part-result-end c = search rules
 
-returns : tie.Need-returns
-returns c = let e = c.before.before in ap (chosen e) (sym (not-true e.args.entered c.before.if1.true))
+returns : tie.Need-returns-then-not-entered
+returns c = let e = c.before.before in ap (chosen e) (sym (not-true e.args.entered c.if-not-entered.true))
 
-mul-start : tie.Need-overflow-mul-start
+mul-start : tie.Need-offset_bounds-starts-at
 mul-start c = search rules
 
-shared-slice-read-start : tie.Need-shared-slice-read-start
+shared-slice-read-start : tie.Need-bounds-starts-at
 shared-slice-read-start c = search rules
 
-cast-start : tie.Need-overflow-cast-start
-cast-start c = omega (arith, c.shared-slice-known.given c.before.before.args.c)
+cast-start : tie.Need-overflow_cast-start
+cast-start c = omega (arith, c.shared_slice_known-1.given c.args.c)
 
-add-end : tie.Need-overflow-add-end
+add-end : tie.Need-overflow_add-end
 add-end c = search rules
 
-mul-end : tie.Need-overflow-mul-end
+mul-end : tie.Need-offset_bounds-starts-at-2
 mul-end c = search rules
 
-shared-slice-read-end : tie.Need-shared-slice-read-end
+shared-slice-read-end : tie.Need-bounds-starts-at-2
 shared-slice-read-end c = search rules
 
-cast-end : tie.Need-overflow-cast-end
-cast-end c = omega (arith, c.shared-slice-known2.given (c.before.before.before.args.c + 1))
+cast-end : tie.Need-overflow_cast-end
+cast-end c = omega (arith, c.shared_slice_known-2-1.given (c.args.c + 1))
 
-mul-result : tie.Need-overflow-mul-result
-mul-result c = let e = c.before.before.before in omega (arith, c.shared-slice-known2.given (e.args.c + 1), c.before.shared-slice-known.given e.args.c)
+mul-result : tie.Need-offset_bounds-member-start
+mul-result c = let e = c.before.before.before in omega (arith, c.shared_slice_known-2-1.given (e.args.c + 1), c.shared_slice_known-1.given e.args.c)
 
-sub-result-2 : tie.Need-overflow-sub-result-2
+sub-result-2 : tie.Need-slice_bounds-result-count-2
 sub-result-2 c = ordered c.before.before.before
 
 part-result-start-2 : tie.Need-slice-bounds-result-start-2
@@ -65,11 +65,11 @@ part-result-start-2 c = ordered c.before.before.before
 part-result-end-2 : tie.Need-slice-bounds-result-end-2
 part-result-end-2 c = within c.before.before.before
 
-returns-2 : tie.Need-returns-2
-returns-2 c = let e = c.before.before.before.before in ap (chosen e) (sym (not-false e.args.entered c.before.before.before.if1.false))
+returns-2 : tie.Need-returns
+returns-2 c = let e = c.before.before.before.before in ap (chosen e) (sym (not-false e.args.entered c.if-not-entered.false))
 
-pub members-spec : {M : Type 1} → statement M
-members-spec =
+pub members_spec : {M : Type 1} → statement M
+members_spec =
     tie.close
     (tie.spec
     sub-result

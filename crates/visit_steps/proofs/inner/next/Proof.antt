@@ -22,14 +22,14 @@ named_some column row n = rw (ne_eqb (get_or column row 0) missing n)
 named_none : (column : List ℕ) (row : ℕ) → get_or column row 0 ≡ missing → named column row ≡ []
 named_none column row e = rw (eq-eqb (get_or column row 0) missing e)
 
-abbrev invariant-loop : tie.invariant-loop
+abbrev invariant-loop : tie.invariant-loop-row
 invariant-loop column marks visit row₀ row = Passed marks (behind (named column) visit) (flat_map (named column) (count_from row (visit.end - row)))
 
-abbrev decreases-loop : tie.decreases-loop
+abbrev decreases-loop : tie.decreases-loop-row
 decreases-loop column marks visit row₀ row = visit.end - row
 
 abbrev Here : Type 0
-Here = tie.Then1 invariant-loop decreases-loop
+Here = tie.In-loop-row invariant-loop decreases-loop
 
 -- the loop at a row
 module _ (t : Here) where
@@ -37,18 +37,18 @@ module _ (t : Here) where
   entry = t.before.before.before
 
   abbrev row : ℕ
-  row = t.before.before.loop.row
+  row = t.loop-row.row
 
   there : row < length entry.args.column.now
-  there = omega (arith, t.if1.taken, entry.pre.0)
+  there = omega (arith, t.loop-row-test.taken, entry.requires.0)
 
   -- what the row names is left, and those behind it
   step : (here : List ℕ) → named entry.args.column.now row ≡ here → let a = entry.args in
       Passed a.marks.now (behind (named a.column.now) a.visit) (here ++ flat_map (named a.column.now) (count_from (row + 1) (a.visit.end - (row + 1))))
-  step here e = passed-row (named entry.args.column.now) row entry.args.visit.end t.before.before.loop.inv t.if1.taken e
+  step here e = passed-row (named entry.args.column.now) row entry.args.visit.end t.loop-row.invariant t.loop-row-test.taken e
 
 -- where it names a place
-module _ (x : tie.Else2 invariant-loop decreases-loop) where
+module _ (x : tie.Else-m invariant-loop decreases-loop) where
   abbrev at : Here
   at = x.before.before
 
@@ -56,56 +56,56 @@ module _ (x : tie.Else2 invariant-loop decreases-loop) where
   place = get_or (entry at).args.column.now (row at) 0
 
   inside : place < length (entry at).args.marks.now
-  inside = ⊎_elim (λ h. h) (λ h. absurd (x.if2.left h)) ((entry at).pre.1 (row at) (there at))
+  inside = ⊎_elim (λ h. h) (λ h. absurd (x.if-m.left h)) ((entry at).requires.1 (row at) (there at))
 
   found : let a = (entry at).args in
       Passed a.marks.now (behind (named a.column.now) a.visit) (place ∷ flat_map (named a.column.now) (count_from (row at + 1) (a.visit.end - (row at + 1))))
-  found = step at (place ∷ []) (named_some (entry at).args.column.now (row at) x.if2.left)
+  found = step at (place ∷ []) (named_some (entry at).args.column.now (row at) x.if-m.left)
 
-loop-holds : tie.Need-loop-init invariant-loop decreases-loop
+loop-holds : tie.Need-loop-row-init invariant-loop decreases-loop
 loop-holds c = passed_none c.args.marks.now _
 
-mul-m : tie.Need-overflow-mul-m invariant-loop decreases-loop
-mul-m c = omega (arith, there c, (entry c).well-formed.0)
+mul-m : tie.Need-offset_bounds-column-row invariant-loop decreases-loop
+mul-m c = omega (arith, there c, (entry c).well_formed.0)
 
-shared-slice-read-m : tie.Need-shared-slice-read-m invariant-loop decreases-loop
+shared-slice-read-m : tie.Need-bounds-column-row invariant-loop decreases-loop
 shared-slice-read-m c = there c.before
 
-add_row : tie.Need-overflow-add-row invariant-loop decreases-loop
-add_row c = omega (arith, there c.before, (entry c.before).good.0)
+add_row : tie.Need-overflow_add-row invariant-loop decreases-loop
+add_row c = omega (arith, there c.before, (entry c.before).well_formed.0)
 
-loop-less : tie.Need-loop-smaller invariant-loop decreases-loop
-loop-less c = omega (arith, c.before.before.if1.true)
+loop-less : tie.Need-loop-row-smaller-then-m invariant-loop decreases-loop
+loop-less c = omega (arith, c.loop-row-test.true)
 
-loop-again : tie.Need-loop-preserved invariant-loop decreases-loop
-loop-again c = let t = c.before.before in step t [] (named_none (entry t).args.column.now (row t) c.if2.true)
+loop-again : tie.Need-loop-row-preserved-then-m invariant-loop decreases-loop
+loop-again c = let t = c.before.before in step t [] (named_none (entry t).args.column.now (row t) c.if-m.true)
 
-cast-if3 : tie.Need-overflow-cast-if3 invariant-loop decreases-loop
-cast-if3 c = omega (arith, c.before.shared-slice-known.given (row (at c)))
+cast-if3 : tie.Need-overflow_cast-m invariant-loop decreases-loop
+cast-if3 c = omega (arith, c.shared_slice_known-1.given (row (at c)))
 
-mul-if3 : tie.Need-overflow-mul-if3 invariant-loop decreases-loop
-mul-if3 c = omega (arith, c.before.shared-slice-known.given (row (at c)))
+mul-if3 : tie.Need-offset_bounds-marks-m invariant-loop decreases-loop
+mul-if3 c = omega (arith, c.shared_slice_known-1.given (row (at c)))
 
-shared-slice-read-if3 : tie.Need-shared-slice-read-if3 invariant-loop decreases-loop
+shared-slice-read-if3 : tie.Need-bounds-marks-m invariant-loop decreases-loop
 shared-slice-read-if3 c = inside c.before
 
-loop-less-2 : tie.Need-loop-smaller-2 invariant-loop decreases-loop
-loop-less-2 c = omega (arith, (at c.before.before).if1.true)
+loop-less-2 : tie.Need-loop-row-smaller invariant-loop decreases-loop
+loop-less-2 c = omega (arith, (at c.before.before).loop-row-test.true)
 
-loop-again-2 : tie.Need-loop-preserved-2 invariant-loop decreases-loop
-loop-again-2 c = let x = c.before.before in passed-one (found x) (fresh-not (entry (at x)).args.marks.now (place x) c.if3.true)
+loop-again-2 : tie.Need-loop-row-preserved invariant-loop decreases-loop
+loop-again-2 c = let x = c.before.before in passed-one (found x) (fresh-not (entry (at x)).args.marks.now (place x) c.if-marks-m-ne0.true)
 
-returns : tie.Need-returns invariant-loop decreases-loop
+returns : tie.Need-returns-in-loop-row invariant-loop decreases-loop
 returns c = record { rest = found c.before.before; entered = refl; end = refl }
 
-returns-2 : tie.Need-returns-2 invariant-loop decreases-loop
+returns-2 : tie.Need-returns invariant-loop decreases-loop
 returns-2 c =
     let l = c.before.before in
-    let a = l.before.args in
-    record { rest = passed-end (named a.column.now) l.loop.row a.visit.end l.loop.invariant c.if1.false; entered = refl; end = refl }
+    let a = l.args in
+    record { rest = passed-end (named a.column.now) l.loop-row.row a.visit.end l.loop-row.invariant c.loop-row-test.false; entered = refl; end = refl }
 
-pub next-spec : {M : Type 1} → statement M
-next-spec =
+pub next_spec : {M : Type 1} → statement M
+next_spec =
     tie.close
     (tie.spec
     invariant-loop

@@ -21,14 +21,14 @@ module _ (way : ℕ) (ways member : List ℕ) (row : ℕ) where
   chosen_none : (get_or ways (get_or member row 0) 0 ≡ way → ⊥) → chosen way ways member row ≡ []
   chosen_none n = rw (ne_eqb (get_or ways (get_or member row 0) 0) way n)
 
-abbrev invariant-loop : tie.invariant-loop
+abbrev invariant-loop : tie.invariant-loop-row
 invariant-loop ways member marks first way end row₀ row = (row ≤ length member) × Passed marks (flat_map (chosen way ways member) (count_from first (length member - first))) (flat_map (chosen way ways member) (count_from row (length member - row)))
 
-abbrev decreases-loop : tie.decreases-loop
+abbrev decreases-loop : tie.decreases-loop-row
 decreases-loop ways member marks first way end row₀ row = length member - row
 
 abbrev Here : Type 0
-Here = tie.In-loop invariant-loop decreases-loop
+Here = tie.In-loop-row invariant-loop decreases-loop
 
 -- the loop at a row
 module _ (t : Here) where
@@ -36,7 +36,7 @@ module _ (t : Here) where
   entry = t.before.before
 
   abbrev row : ℕ
-  row = t.before.loop.row
+  row = t.loop-row.row
 
   abbrev here : ℕ
   here = get_or entry.args.member.now row 0
@@ -48,77 +48,77 @@ module _ (t : Here) where
   Rest l = let a = entry.args in Passed a.marks.now (flat_map rows (count_from a.first (length a.member.now - a.first))) (l ++ flat_map rows (count_from (row + 1) (length a.member.now - (row + 1))))
 
   step : (l : List ℕ) → rows row ≡ l → Rest l
-  step l e = passed-row rows row (length entry.args.member.now) t.before.loop.inv.1 t.loop-test.taken e
+  step l e = passed-row rows row (length entry.args.member.now) t.loop-row.invariant.1 t.loop-row-test.taken e
 
   inside : here < length entry.args.marks.now
-  inside = entry.pre.2 row t.loop-test.taken
+  inside = entry.requires.2 row t.loop-row-test.taken
 
 -- the module at hand executes in the way asked for
-abbrev at : tie.Else1 invariant-loop decreases-loop → Here
+abbrev at : tie.Else-ways-m invariant-loop decreases-loop → Here
 at x = x.before.before.before
 
-kept : (x : tie.Else1 invariant-loop decreases-loop) → Rest (at x) (here (at x) ∷ [])
-kept x = let a = (entry (at x)).args in step (at x) (here (at x) ∷ []) (chosen-one a.way a.ways.now a.member.now (row (at x)) x.if1.false)
+kept : (x : tie.Else-ways-m invariant-loop decreases-loop) → Rest (at x) (here (at x) ∷ [])
+kept x = let a = (entry (at x)).args in step (at x) (here (at x) ∷ []) (chosen-one a.way a.ways.now a.member.now (row (at x)) x.if-ways-m.false)
 
-loop-holds : tie.Need-loop-init invariant-loop decreases-loop
+loop-holds : tie.Need-loop-row-init invariant-loop decreases-loop
 loop-holds c = (c.requires.0, passed_none c.args.marks.now _)
 
-mul-m : tie.Need-overflow-mul-m invariant-loop decreases-loop
-mul-m c = omega (arith, c.loop-test.true, (entry c).well-formed.1.0)
+mul-m : tie.Need-offset_bounds-member-row invariant-loop decreases-loop
+mul-m c = omega (arith, c.loop-row-test.true, (entry c).well_formed.1.0)
 
-shared-slice-read-m : tie.Need-shared-slice-read-m invariant-loop decreases-loop
-shared-slice-read-m c = c.before.loop-test.true
+shared-slice-read-m : tie.Need-bounds-member-row invariant-loop decreases-loop
+shared-slice-read-m c = c.loop-row-test.true
 
-add_row : tie.Need-overflow-add-row invariant-loop decreases-loop
-add_row c = let t = c.before in omega (arith, t.loop-test.true, (entry t).well-formed.1.0)
+add_row : tie.Need-overflow_add-row invariant-loop decreases-loop
+add_row c = let t = c.before in omega (arith, t.loop-row-test.true, (entry t).well_formed.1.0)
 
-cast-if1 : tie.Need-overflow-cast-if1 invariant-loop decreases-loop
-cast-if1 c = omega (arith, c.shared-slice-known.given (row c.before))
+cast-if1 : tie.Need-overflow_cast-m invariant-loop decreases-loop
+cast-if1 c = omega (arith, c.shared_slice_known-1.given (row c.before))
 
-mul-if1 : tie.Need-overflow-mul-if1 invariant-loop decreases-loop
-mul-if1 c = omega (arith, c.shared-slice-known.given (row c.before))
+mul-if1 : tie.Need-offset_bounds-ways-m invariant-loop decreases-loop
+mul-if1 c = omega (arith, c.shared_slice_known-1.given (row c.before))
 
-shared-slice-read-if1 : tie.Need-shared-slice-read-if1 invariant-loop decreases-loop
+shared-slice-read-if1 : tie.Need-bounds-ways-m invariant-loop decreases-loop
 shared-slice-read-if1 c = let t = c.before.before in omega (arith, inside t, (entry t).requires.1)
 
-loop-less : tie.Need-loop-smaller invariant-loop decreases-loop
-loop-less c = omega (arith, c.before.before.before.loop-test.true)
+loop-less : tie.Need-loop-row-smaller-then-ways-m invariant-loop decreases-loop
+loop-less c = omega (arith, c.loop-row-test.true)
 
-loop-again : tie.Need-loop-preserved invariant-loop decreases-loop
+loop-again : tie.Need-loop-row-preserved-then-ways-m invariant-loop decreases-loop
 loop-again c =
     let t = c.before.before.before in
     let a = (entry t).args in
-    (omega (arith, t.loop-test.true), step t [] (chosen_none a.way a.ways.now a.member.now (row t) c.if1.true))
+    (omega (arith, t.loop-row-test.true), step t [] (chosen_none a.way a.ways.now a.member.now (row t) c.if-ways-m.true))
 
-cast-if2 : tie.Need-overflow-cast-if2 invariant-loop decreases-loop
-cast-if2 c = omega (arith, c.before.before.shared-slice-known.given (row (at c)))
+cast-if2 : tie.Need-overflow_cast-m-in-loop-row invariant-loop decreases-loop
+cast-if2 c = omega (arith, c.shared_slice_known-1.given (row (at c)))
 
-mul-if2 : tie.Need-overflow-mul-if2 invariant-loop decreases-loop
-mul-if2 c = omega (arith, c.before.before.shared-slice-known.given (row (at c)))
+mul-if2 : tie.Need-offset_bounds-marks-m invariant-loop decreases-loop
+mul-if2 c = omega (arith, c.shared_slice_known-1.given (row (at c)))
 
-shared-slice-read-if2 : tie.Need-shared-slice-read-if2 invariant-loop decreases-loop
+shared-slice-read-if2 : tie.Need-bounds-marks-m invariant-loop decreases-loop
 shared-slice-read-if2 c = inside (at c.before)
 
-loop-less-2 : tie.Need-loop-smaller-2 invariant-loop decreases-loop
-loop-less-2 c = omega (arith, (at c.before.before).loop-test.true)
+loop-less-2 : tie.Need-loop-row-smaller invariant-loop decreases-loop
+loop-less-2 c = omega (arith, (at c.before.before).loop-row-test.true)
 
-loop-again-2 : tie.Need-loop-preserved-2 invariant-loop decreases-loop
+loop-again-2 : tie.Need-loop-row-preserved invariant-loop decreases-loop
 loop-again-2 c =
     let x = c.before.before in
     let t = at x in
-    (omega (arith, t.loop-test.taken), passed-one (kept x) (fresh-not (entry t).args.marks.now (here t) c.if2.true))
+    (omega (arith, t.loop-row-test.taken), passed-one (kept x) (fresh-not (entry t).args.marks.now (here t) c.if-marks-m-ne0.true))
 
-returns : tie.Need-returns invariant-loop decreases-loop
-returns c = let x = c.before.before in record { rest = kept x; end = refl; within = omega (arith, (at x).loop-test.true) }
+returns : tie.Need-returns-in-loop-row invariant-loop decreases-loop
+returns c = let x = c.before.before in record { rest = kept x; end = refl; within = omega (arith, (at x).loop-row-test.true) }
 
-returns-2 : tie.Need-returns-2 invariant-loop decreases-loop
+returns-2 : tie.Need-returns invariant-loop decreases-loop
 returns-2 c =
     let l = c.before in
-    let a = l.before.args in
-    record { rest = passed-end (chosen a.way a.ways.now a.member.now) l.loop.row (length a.member.now) l.loop.invariant.1 c.loop-test.false; end = refl; within = l.loop.invariant.0 }
+    let a = l.args in
+    record { rest = passed-end (chosen a.way a.ways.now a.member.now) l.loop-row.row (length a.member.now) l.loop-row.invariant.1 c.loop-row-test.false; end = refl; within = l.loop-row.invariant.0 }
 
-pub next-member-spec : {M : Type 1} → statement M
-next-member-spec =
+pub next_member_spec : {M : Type 1} → statement M
+next_member_spec =
     tie.close
     (tie.spec
     invariant-loop

@@ -29,13 +29,13 @@ small e = omega (arith, fits e, e.requires.1.listed.size, e.requires.1.size, e.r
 sensitives : (e : tie.Start) → length e.args.sensitive.now ≡ modules (of e)
 sensitives e = ap length e.requires.0.sensitive_set ∙ length-grounds (of e)
 
-mul-any-sensitive : tie.Need-overflow-mul-any-sensitive
+mul-any-sensitive : tie.Need-offset_bounds-list-end
 mul-any-sensitive c = let e = c.before.before.before.before.before.before.before.before.before.before.before.before.before.before.before.before.before.before in record { fits = omega (arith, small e, e.requires.1.within) }
 
 part-any-sensitive-end : tie.Need-slice-bounds-any-sensitive-end
 part-any-sensitive-end c = let e = c.before.before.before.before.before.before.before.before.before.before.before.before.before.before.before.before.before.before in omega (arith, fits e, e.requires.1.within)
 
-any-sensitive-requires : tie.Need-any-sensitive-requires
+any-sensitive-requires : tie.Need-any_sensitive-requires
 any-sensitive-requires c κs =
     let e = c.before.before.before.before.before.before.before.before.before.before.before.before.before.before.before.before.before.before.before in
     let a = e.args in
@@ -44,45 +44,45 @@ any-sensitive-requires c κs =
     let h = e.requires.1.listed.placed (a.end + i) (omega (arith, l, n, e.requires.1.within)) in
     omega (arith, h.0, part-from a.list.now a.end a.count e.requires.1.within (fits e) i l, e.requires.1.size, sensitives e)
 
-returns-2 : tie.Need-returns-2
+returns-2 : tie.Need-returns-then-not-any_sensitive
 returns-2 c =
     let e = c.before.before.before.before.before.before.before.before.before.before.before.before.before.before.before.before.before.before.before.before.before in
     let a = e.args in
     let b = e.requires.1 in
-    let s = c.before.any-sensitive in
+    let s = c.any_sensitive in
     let n = part_length a.list.now a.end a.count b.within (fits e) in
     record {
       settling = b.settling;
       batch = none-sensitive (of e) e.requires.0.accepted a.placed.now a.list.now a.asked.now a.heads.now a.nexts.now a.count a.end b.listed b.batch
           (λ i l h q.
-          s.ensures (not-true s.result c.if2.true) (i - a.end) (omega (arith, n, l, h))
+          s.ensures (not-true s.result c.if-not-any_sensitive.true) (i - a.end) (omega (arith, n, l, h))
           (subst (λ (x : ℕ). has a.sensitive.now x ≡ true) (sym (part_at a.list.now a.end a.count b.within (fits e) i l h)) (subst (λ (xs : List ℕ). has xs (get_or a.list.now i 0) ≡ true) (sym e.requires.0.sensitive_set) q)));
       before = b.ahead;
       within = omega arith;
     }
 
-any-open-requires : tie.Need-any-open-requires
+any-open-requires : tie.Need-any_open-requires
 any-open-requires c κs =
     let e = c.before.before.before.before.before.before.before.before.before.before.before.before.before.before.before.before.before.before.before.before.before in
     (sensitives e ∙ sym e.requires.1.size, ap length e.requires.0.candidate_set ∙ length-candidates (of e) ∙ sym e.requires.1.size)
 
-returns-3 : tie.Need-returns-3
+returns-3 : tie.Need-returns-then-not-any_open
 returns-3 c =
     let e = c.before.before.before.before.before.before.before.before.before.before.before.before.before.before.before.before.before.before.before.before.before.before.before in
     let a = e.args in
     let b = e.requires.1 in
-    let s = c.before.Any-open in
+    let s = c.Any-open in
     record {
       settling = b.settling;
       batch = none_open (of e) e.requires.0.accepted a.placed.now a.list.now a.asked.now a.heads.now a.nexts.now a.count a.end b.listed b.batch
           (λ m l q g.
-          s.ensures (not-true s.result c.if3.true) m l (subst (λ (xs : List ℕ). has xs m ≡ true) (sym e.requires.0.sensitive_set) q) (subst (λ (xs : List ℕ). has xs m ≡ true) (sym e.requires.0.candidate_set) g))
+          s.ensures (not-true s.result c.if-not-any_open.true) m l (subst (λ (xs : List ℕ). has xs m ≡ true) (sym e.requires.0.sensitive_set) q) (subst (λ (xs : List ℕ). has xs m ≡ true) (sym e.requires.0.candidate_set) g))
           b.size;
       before = b.ahead;
       within = omega arith;
     }
 
-note-asked-requires : tie.Need-note-asked-requires
+note-asked-requires : tie.Need-note_asked-requires
 note-asked-requires c κs =
     let e = c.before.before.before.before.before.before.before.before.before.before.before.before.before.before.before.before.before.before.before.before.before.before.before.before.before.before.before in
     let s = e.requires.0 in
@@ -97,13 +97,13 @@ note-asked-requires c κs =
       slices = record { len = b.batch.len; room = b.batch.room; places = b.batch.places };
     }
 
-returns-4 : tie.Need-returns-4
+returns-4 : tie.Need-returns
 returns-4 c =
     let e = c.before.before.before.before.before.before.before.before.before.before.before.before.before.before.before.before.before.before.before.before.before.before.before.before.before.before.before.before.before.before.before.before.before.before.before.before in
-    let s = c.before.before.before.before.before.before.before.before.note-asked in
+    let s = c.note_asked in
     record { settling = s.ensures.settling; batch = s.ensures.batch e.args.count; before = e.requires.1.ahead; within = omega arith }
 
-pub advance-spec : {M : Type 1} → statement M
-advance-spec =
+pub advance_spec : {M : Type 1} → statement M
+advance_spec =
     tie.close
     (tie.spec (λ c. search rules) mul-any-sensitive (λ c. search rules) (λ c. search rules) part-any-sensitive-end any-sensitive-requires returns-2 any-open-requires returns-3 note-asked-requires (λ c. search rules) (λ c. search rules) (λ c. search rules) (λ c. search rules) returns-4)

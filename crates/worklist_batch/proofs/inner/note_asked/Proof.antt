@@ -33,7 +33,7 @@ of e = let a = e.args in read (table a.runtime a.dynamic a.bounds.now a.columns.
 
 -- after the fill
 filled : (k : tie.After-fill) → k.fill.new.0 ≡ replicate (modules (of k.before.before.before.before.before.before.before.before.before.before.before.before.before.before.before.before.before)) never
-filled k = k.fill.ensures ∙ ap (λ (n : ℕ). replicate n never) k.before.before.before.before.before.before.before.before.before.before.before.before.before.before.before.before.before.requires.slices.len
+filled k = k.fill.ensures ∙ ap (λ (n : ℕ). replicate n never) k.requires.slices.len
 
 filled-length : (k : tie.After-fill) → length k.fill.new.0 ≡ modules (of k.before.before.before.before.before.before.before.before.before.before.before.before.before.before.before.before.before)
 filled-length k = ap length (filled k) ∙ length-replicate {A = ℕ} (modules (of k.before.before.before.before.before.before.before.before.before.before.before.before.before.before.before.before.before)) never
@@ -53,22 +53,22 @@ fill-requires : tie.Need-fill-requires
 fill-requires c κs = search rules
 
 -- what lowering leaves, at the project's own sets
-lowest : (k : tie.After-lower-entries) → let e = k.before.before.before.before.before.before.before.before.before.before.before.before.before.before.before.before.before.before.before.before.before.before in
-    Lowest (of e) (roots (of e)) (sensitive_marks (of e)) (eligible_marks (of e)) e.args.placed.now k.before.before.before.before.before.fill.new.0 k.lower-entries.new.1.1.1.1.1.1.1.1.1.1.1.1.1.0 k.lower-entries.new.1.1.1.1.1.1.1.1.1.1.1.1.1.1.0
+lowest : (k : tie.After-lower_entries) → let e = k.before.before.before.before.before.before.before.before.before.before.before.before.before.before.before.before.before.before.before.before.before.before in
+    Lowest (of e) (roots (of e)) (sensitive_marks (of e)) (eligible_marks (of e)) e.args.placed.now k.fill.new.0 k.lower_entries.new.1.1.1.1.1.1.1.1.1.1.1.1.1.0 k.lower_entries.new.1.1.1.1.1.1.1.1.1.1.1.1.1.1.0
 lowest k =
     let e = k.before.before.before.before.before.before.before.before.before.before.before.before.before.before.before.before.before.before.before.before.before.before in
-    given3 (λ (root_list sensitives eligibles : List ℕ). Lowest (of e) root_list sensitives eligibles e.args.placed.now k.before.before.before.before.before.fill.new.0 k.lower-entries.new.1.1.1.1.1.1.1.1.1.1.1.1.1.0 k.lower-entries.new.1.1.1.1.1.1.1.1.1.1.1.1.1.1.0)
-    e.requires.root e.requires.sensitive_set e.requires.eligible_set k.lower-entries.ensures
+    given3 (λ (root_list sensitives eligibles : List ℕ). Lowest (of e) root_list sensitives eligibles e.args.placed.now k.fill.new.0 k.lower_entries.new.1.1.1.1.1.1.1.1.1.1.1.1.1.0 k.lower_entries.new.1.1.1.1.1.1.1.1.1.1.1.1.1.1.0)
+    e.requires.root e.requires.sensitive_set e.requires.eligible_set k.lower_entries.ensures
 
-asked-length : (k : tie.After-lower-entries) → length k.lower-entries.new.1.1.1.1.1.1.1.1.1.1.1.1.1.1.0 ≡ modules (of k.before.before.before.before.before.before.before.before.before.before.before.before.before.before.before.before.before.before.before.before.before.before)
+asked-length : (k : tie.After-lower_entries) → length k.lower_entries.new.1.1.1.1.1.1.1.1.1.1.1.1.1.1.0 ≡ modules (of k.before.before.before.before.before.before.before.before.before.before.before.before.before.before.before.before.before.before.before.before.before.before)
 asked-length k = (lowest k).len ∙ filled-length k.before.before.before.before.before
 
-asked-below : (k : tie.After-lower-entries) (i : ℕ) → get_or k.lower-entries.new.1.1.1.1.1.1.1.1.1.1.1.1.1.1.0 i 0 ≤ never
+asked-below : (k : tie.After-lower_entries) (i : ℕ) → get_or k.lower_entries.new.1.1.1.1.1.1.1.1.1.1.1.1.1.1.0 i 0 ≤ never
 asked-below k i =
     let f = k.before.before.before.before.before in
     omega (arith, (lowest k).low i, small (modules (of k.before.before.before.before.before.before.before.before.before.before.before.before.before.before.before.before.before.before.before.before.before.before)) i, ap (λ (xs : List ℕ). get_or xs i 0) (filled f))
 
-lower-entries-requires : tie.Need-lower-entries-requires
+lower-entries-requires : tie.Need-lower_entries-requires
 lower-entries-requires c κs =
     let e = c.before.before.before.before.before.before.before.before.before.before.before.before.before.before.before.before.before.before.before.before.before in
     let p = of e in
@@ -100,30 +100,30 @@ thread-requires c κs =
       froms = λ i l. omega (arith, asked-below k i, e.requires.slices.room);
     }
 
-same_length : tie.Need-same-length
+same_length : tie.Need-shape_of-settled
 same_length c = let k = c.before.before.before.before.before.before.before.before.before.before.before.before in let e = c.before.before.before.before.before.before.before.before.before.before.before.before.before.before.before.before.before.before.before.before.before.before.before.before.before.before.before.before.before.before.before.before.before.before in (lowest k).size ∙ sym e.requires.settling.size
 
-same-length-2 : tie.Need-same-length-2
+same-length-2 : tie.Need-shape_of-asked
 same-length-2 c = let k = c.before.before.before.before.before.before.before.before.before.before.before.before in let e = c.before.before.before.before.before.before.before.before.before.before.before.before.before.before.before.before.before.before.before.before.before.before.before.before.before.before.before.before.before.before.before.before.before.before in asked-length k ∙ sym e.requires.slices.len
 
-same-length-3 : tie.Need-same-length-3
+same-length-3 : tie.Need-shape_of-heads
 same-length-3 c = search rules
 
-same-length-4 : tie.Need-same-length-4
+same-length-4 : tie.Need-shape_of-nexts
 same-length-4 c = search rules
 
 returns : tie.Need-returns
 returns c =
     let k = c.before.before.before.before.before.before.before.before.before.before.before.before in
     let e = c.before.before.before.before.before.before.before.before.before.before.before.before.before.before.before.before.before.before.before.before.before.before.before.before.before.before.before.before.before.before.before.before.before.before in
-    let t = c.before.before.before.before.thread in
+    let t = c.thread in
     record {
       settling = record { size = (lowest k).size; settles = (lowest k).settles };
-      batch = lowest-batch (of e) e.args.placed.now k.before.before.before.before.before.fill.new.0 _ _ t.new.1.0 t.new.1.1.0 (asked-length k) (filled k.before.before.before.before.before) (lowest k) (t.auto.1.0 ∙ e.requires.slices.room) (t.auto.1.1.0 ∙ e.requires.slices.places) t.ensures;
+      batch = lowest-batch (of e) e.args.placed.now k.fill.new.0 _ _ t.new.1.0 t.new.1.1.0 (asked-length k) (filled k.before.before.before.before.before) (lowest k) (t.auto.1.0 ∙ e.requires.slices.room) (t.auto.1.1.0 ∙ e.requires.slices.places) t.ensures;
     }
 
-pub note-asked-spec : {M : Type 1} → statement M
-note-asked-spec =
+pub note_asked_spec : {M : Type 1} → statement M
+note_asked_spec =
     tie.close
     (tie.spec
     fill-requires

@@ -8,11 +8,11 @@ use Rattle.lists.proofs.Laws.{mark-in}
 use Rattle.worklist_ends.proofs.inner.mark_of.Statement.{statement}
 use Rattle.worklist_ends.proofs.inner.mark_of.Tie as tie
 
-returns : tie.Need-returns
+returns : tie.Need-returns-then-x-eq0
 returns c = search rules
 
-returns-2 : tie.Need-returns-2
-returns-2 c = sym (ap bit (mark-in c.before.args.x c.if1.false))
+returns-2 : tie.Need-returns
+returns-2 c = sym (ap bit (mark-in c.args.x c.if-x-eq0.false))
 
-pub mark-of-spec : {M : Type 1} → statement M
-mark-of-spec = tie.close (tie.spec returns returns-2)
+pub mark_of_spec : {M : Type 1} → statement M
+mark_of_spec = tie.close (tie.spec returns returns-2)

@@ -15,20 +15,20 @@ use Rattle.worklist_plan.proofs.inner.plan_by_takings.Tie as tie
 abbrev of : tie.Start → Project
 of e = let a = e.args in read (table a.runtime a.dynamic a.bounds.now a.columns.now) a.importers.now a.kinds.now a.targets.now a.dependencies.now a.members.now
 
-run-table-requires : tie.Need-run-table-requires
+run-table-requires : tie.Need-run_table-requires
 run-table-requires c κs = let e = c.before.before.before.before.before.before.before.before.before.before.before in (e.requires, omega (arith, e.requires.size, e.requires.accepted.sizes.normal, length-replicate {A = ℕ} 4096 0))
 
-same_length : tie.Need-same-length
-same_length c = c.before.before.before.before.mark-listed.auto.0 ∙ c.before.before.before.before.before.before.before.before.before.run-table.auto.1.1.1.1.1.1.1.1.1.1.0
+same_length : tie.Need-shape_of-plan
+same_length c = c.mark_listed.auto.placed ∙ c.run_table.auto.placed
 
 returns : tie.Need-returns
 returns c =
     let e = c.before.before.before.before.before.before.before.before.before.before.before.before.before.before.before.before.before.before.before.before.before in
-    let r = c.before.before.before.before.before.before.before.before.before.run-table in
-    let q = c.before.before.before.before.mark-listed.ensures ∙ taken-plan (of e) e.args.seeds.now r.new.1.1.1.1.1.1.1.1.1.1.0 (replicate 4096 0) r.new.1.1.1.1.1.1.1.1.1.1.1.0 r.result r.ensures in
-    (q, c.count-marked.ensures ∙ ap ones q)
+    let r = c.run_table in
+    let q = c.mark_listed.ensures ∙ taken-plan (of e) e.args.seeds.now r.new.1.1.1.1.1.1.1.1.1.1.0 (replicate 4096 0) r.new.1.1.1.1.1.1.1.1.1.1.1.0 r.result r.ensures in
+    (q, c.count_marked.ensures ∙ ap ones q)
 
-pub plan-by-takings-spec : {M : Type 1} → statement M
-plan-by-takings-spec =
+pub plan_by_takings_spec : {M : Type 1} → statement M
+plan_by_takings_spec =
     tie.close
     (tie.spec (λ c. sym (length-replicate {A = ℕ} 4096 0)) run-table-requires (λ c κs. search rules) (λ c κs. search rules) same_length returns)

@@ -8,28 +8,28 @@ use borrow.Author.Rules.{rules}
 use Rattle.worklist_plan.proofs.inner.run_marked.Statement.{statement}
 use Rattle.worklist_plan.proofs.inner.run_marked.Tie as tie
 
-list-table-roots-requires : tie.Need-list-table-roots-requires
-list-table-roots-requires c κs = record { accepted = c.before.before.before.before.before.before.before.before.before.before.before.before.before.before.requires.0.accepted; fits = omega arith }
+list-table-roots-requires : tie.Need-list_table_roots-count-requires
+list-table-roots-requires c κs = record { accepted = c.requires.0.accepted; fits = omega arith }
 
-array-share-prefix-roots : tie.Need-array-share-prefix-roots
-array-share-prefix-roots c = written-room c.before.list-table-roots.ensures
+array-share-prefix-roots : tie.Need-slice_bounds-roots-end
+array-share-prefix-roots c = written-room c.list_table_roots-count.ensures
 
-slice-aggregate-run-rooted : tie.Need-slice-aggregate-run-rooted
-slice-aggregate-run-rooted c = let w = c.before.before.list-table-roots.ensures in w.count ∙ sym (ap length (written_read w))
+slice-aggregate-run-rooted : tie.Need-slice_bounds-run_rooted-end
+slice-aggregate-run-rooted c = let w = c.list_table_roots-count.ensures in w.count ∙ sym (ap length (written_read w))
 
-run-rooted-requires : tie.Need-run-rooted-requires
-run-rooted-requires c κs = let e = c.before.before.before.before.before.before.before.before.before.before.before.before.before.before.before.before.before.before.before in (record { basis = e.requires.0; root = written_read c.before.before.before.before.list-table-roots.ensures }, e.requires.1)
+run-rooted-requires : tie.Need-run_rooted-requires
+run-rooted-requires c κs = let e = c.before.before.before.before.before.before.before.before.before.before.before.before.before.before.before.before.before.before.before in (record { basis = e.requires.0; root = written_read c.list_table_roots-count.ensures }, e.requires.1)
 
-same_length : tie.Need-same-length
-same_length c = c.before.before.before.before.run-rooted.auto.1.1.1.1.1.1.1.1.1.1.1.1.1.1.0
+same_length : tie.Need-shape_of-placed
+same_length c = c.run_rooted.auto.placed
 
-same-length-2 : tie.Need-same-length-2
-same-length-2 c = c.before.before.before.before.run-rooted.auto.1.1.1.1.1.1.1.1.1.1.1.1.1.1.1.0
+same-length-2 : tie.Need-shape_of-lengths
+same-length-2 c = c.run_rooted.auto.lengths
 
 returns : tie.Need-returns
-returns c = c.before.before.before.before.run-rooted.ensures
+returns c = c.run_rooted.ensures
 
-pub run-marked-spec : {M : Type 1} → statement M
-run-marked-spec =
+pub run_marked_spec : {M : Type 1} → statement M
+run_marked_spec =
     tie.close
     (tie.spec (λ c. search rules) list-table-roots-requires array-share-prefix-roots slice-aggregate-run-rooted run-rooted-requires same_length same-length-2 returns)

@@ -12,7 +12,7 @@ use Rattle.worklist_run.proofs.inner.start_notes.Tie as tie
 thread-requires : tie.Need-thread-requires
 thread-requires c κs =
     let e = c.before.before.before.before.before.before.before.before.before.before in
-    let f = c.before.before.before.before.before.fill in
+    let f = c.fill in
     let n : length f.new.0 ≡ length e.args.asked.now = ap length f.ensures ∙ length-replicate {A = ℕ} (length e.args.asked.now) never in
     record {
       rows = omega (arith, n, e.requires.few);
@@ -20,7 +20,7 @@ thread-requires c κs =
       froms = λ i l. omega (arith, ap (λ (xs : List ℕ). get_or xs i 0) f.ensures, get_or-replicate (length e.args.asked.now) i never 0 (omega (arith, l, n, length-replicate {A = ℕ} (length e.args.asked.now) never)), e.requires.room);
     }
 
-pub start-notes-spec : {M : Type 1} → statement M
-start-notes-spec =
+pub start_notes_spec : {M : Type 1} → statement M
+start_notes_spec =
     tie.close
     (tie.spec (λ c κs. search rules) thread-requires (λ c. search rules) (λ c. search rules) (λ c. search rules) (λ c. search rules))

@@ -12,14 +12,14 @@ use Rattle.worklist_step.specs.inner.Step.{nodes, Half, Gives, Given, RequestedB
 use Rattle.worklist_step.proofs.inner.half.Statement.{statement}
 use Rattle.worklist_step.proofs.inner.half.Tie as tie
 
-sub-result : tie.Need-overflow-sub-result
+sub-result : tie.Need-overflow_sub-result
 sub-result c = search rules
 
-returns : tie.Need-returns
-returns c = inl (omega (arith, c.before.requires), c.if1.true)
+returns : tie.Need-returns-then-v-lt-DEPENDENT
+returns c = inl (omega (arith, c.requires), c.if-v-lt-DEPENDENT.true)
 
-returns-2 : tie.Need-returns-2
-returns-2 c = inr (omega (arith, c.if1.false))
+returns-2 : tie.Need-returns
+returns-2 c = inr (omega (arith, c.if-v-lt-DEPENDENT.false))
 
 pub half_spec : {M : Type 1} → statement M
 half_spec = tie.close (tie.spec sub-result returns returns-2)

@@ -27,44 +27,44 @@ module _ (queue : List ℕ) (met more : ℕ) (a : met ≤ more) (b : more ≤ le
   part-from : (j : ℕ) → j < length (take (more - met) (drop met queue)) → get_or (take (more - met) (drop met queue)) j 0 ≡ get_or queue (met + j) 0
   part-from j l = get_or-take (more - met) (drop met queue) j 0 (omega (arith, l, part_length)) ∙ get_or-drop met queue j 0
 
-mul-x : tie.Need-overflow-mul-x
+mul-x : tie.Need-offset_bounds-list-k
 mul-x c = search rules
 
-slice-read-x : tie.Need-slice-read-x
+slice-read-x : tie.Need-bounds-list-k
 slice-read-x c = let e = c.before.before.before.before.before.before.before.before.before.before.before.before.before.before in omega (arith, e.requires.ahead, count_fits e.requires.listed)
 
-reach-requires : tie.Need-reach-requires
+reach-requires : tie.Need-reach-more-requires
 reach-requires c κs =
     let e = c.before.before.before.before.before.before.before.before.before.before.before.before.before.before.before.before in
     let g = e.requires.listed in
     (e.requires.linked, (e.requires.known, (omega (arith, e.requires.size), (omega (arith, e.requires.size, e.requires.few, (g.placed e.args.k e.requires.ahead).0), e.requires.along))))
 
-module _ (k : tie.After-reach) where
+module _ (k : tie.After-reach-more) where
   abbrev entry : tie.Start
   entry = k.before.before.before.before.before.before.before.before.before.before.before.before.before.before.before.before.before
 
   abbrev more : ℕ
-  more = k.reach.result
+  more = k.reach-more.result
 
   abbrev marks' : List ℕ
-  marks' = k.reach.last.1.1.1.1.0
+  marks' = k.reach-more.last.1.1.1.1.0
 
   abbrev queue' : List ℕ
-  queue' = k.reach.last.1.1.1.1.1.0
+  queue' = k.reach-more.last.1.1.1.1.1.0
 
   fits : more ≤ length queue'
-  fits = count_fits k.reach.ensures.grew.listed
+  fits = count_fits k.reach-more.ensures.grew.listed
 
   rises : entry.args.met ≤ more
-  rises = k.reach.ensures.grew.more
+  rises = k.reach-more.ensures.grew.more
 
   places : length marks' ≡ nodes
-  places = k.reach.ensures.grew.size ∙ entry.pre.size
+  places = k.reach-more.ensures.grew.size ∙ entry.requires.size
 
-mul-list-requests : tie.Need-overflow-mul-list-requests
-mul-list-requests c = let k = c.before.before.before.before in record { fits = omega (arith, fits k, rises k, k.reach.ensures.grew.listed.size, places k) }
+mul-list-requests : tie.Need-offset_bounds-queue-met
+mul-list-requests c = let k = c.before.before.before.before in record { fits = omega (arith, fits k, rises k, k.reach-more.ensures.grew.listed.size, places k) }
 
-sub-list-requests : tie.Need-overflow-sub-list-requests
+sub-list-requests : tie.Need-slice_bounds-list_requests-count
 sub-list-requests c = let k = c.before.before.before.before in rises k
 
 part-list-requests-start : tie.Need-slice-bounds-list-requests-start
@@ -73,46 +73,46 @@ part-list-requests-start c = rises c.before.before.before.before.before
 part-list-requests-end : tie.Need-slice-bounds-list-requests-end
 part-list-requests-end c = let k = c.before.before.before.before.before in omega (arith, fits k, rises k)
 
-list-requests-requires : tie.Need-list-requests-requires
+list-requests-requires : tie.Need-list_requests-requested-requires
 list-requests-requires c κs =
     let k = c.before.before.before.before.before.before.before.before.before in
     let e = entry k in
-    (places k, (omega (arith, e.pre.candidate, e.pre.few), (sym e.pre.candidate, e.pre.listed)))
+    (places k, (omega (arith, e.requires.candidate, e.requires.few), (sym e.requires.candidate, e.requires.listed)))
 
-add-list-asked : tie.Need-overflow-add-list-asked
+add-list-asked : tie.Need-overflow_add-k
 add-list-asked c = let e = c.before.before.before.before.before.before.before.before.before.before.before.before.before.before.before.before.before.before.before.before.before.before.before.before.before.before.before.before.before.before.before.before.before in record { fits = omega (arith, e.requires.ahead, count_fits e.requires.listed, e.requires.listed.size, e.requires.few) }
 
-list-asked-requires : tie.Need-list-asked-requires
+list-asked-requires : tie.Need-list_asked-listed-requires
 list-asked-requires c κs =
     let e = c.before.before.before.before.before.before.before.before.before.before.before.before.before.before.before.before.before.before.before.before.before.before.before.before.before.before.before.before.before.before.before.before.before in
-    let g = c.before.before.before.before.before.before.list-requests.ensures.grew in
+    let g = c.list_requests-requested.ensures.grew in
     (e.requires.threads, (e.requires.room, (omega (arith, e.requires.askeds, e.requires.few), (e.requires.eligibles ∙ sym e.requires.askeds, (g.size ∙ sym e.requires.askeds, g.listed)))))
 
-same_length : tie.Need-same-length
-same_length c = c.before.before.before.before.before.before.before.before.before.before.before.before.before.before.before.before.before.before.before.before.before.reach.ensures.grew.size
+same_length : tie.Need-shape_of-marks
+same_length c = c.reach-more.ensures.grew.size
 
-same-length-2 : tie.Need-same-length-2
-same-length-2 c = c.before.before.before.before.before.before.before.before.before.before.before.before.before.before.before.before.before.before.before.before.before.reach.ensures.grew.room
+same-length-2 : tie.Need-shape_of-queue
+same-length-2 c = c.reach-more.ensures.grew.room
 
-same-length-3 : tie.Need-same-length-3
-same-length-3 c = c.before.before.before.before.list-asked.ensures.grew.size ∙ c.before.before.before.before.before.before.before.before.before.before.before.list-requests.ensures.grew.size
+same-length-3 : tie.Need-shape_of-placed
+same-length-3 c = c.list_asked-listed.ensures.grew.size ∙ c.list_requests-requested.ensures.grew.size
 
-same-length-4 : tie.Need-same-length-4
-same-length-4 c = c.before.before.before.before.list-asked.ensures.grew.room ∙ c.before.before.before.before.before.before.before.before.before.before.before.list-requests.ensures.grew.room
+same-length-4 : tie.Need-shape_of-list
+same-length-4 c = c.list_asked-listed.ensures.grew.room ∙ c.list_requests-requested.ensures.grew.room
 
 returns : tie.Need-returns
 returns c =
     let k = c.before.before.before.before.before.before.before.before.before.before.before.before.before.before.before.before.before.before.before.before.before in
     let e = entry k in
     let met = e.args.met in
-    let v = c.before.before.before.before.before.before.before.before.before.before.before.list-requests.ensures in
-    let w = c.before.before.before.before.list-asked.ensures in
+    let v = c.list_requests-requested.ensures in
+    let w = c.list_asked-listed.ensures in
     let q = queue' k in
     let n = more k in
     let a = rises k in
     let b = fits k in
     record {
-      reached = k.reach.ensures;
+      reached = k.reach-more.ensures;
       grew = grew-on
           (λ m g. inl (met + g.0, omega arith, omega (arith, g.1, part_length q met n a b, a), subst (λ (x : ℕ). Gives (marks' k) e.args.candidates.now x m) (part-from q met n a b g.0 g.1) g.2))
           (λ m g. inr (inr g)) v.grew w.grew;

@@ -19,34 +19,34 @@ use Rattle.wrap_plan.proofs.inner.plan_marked.Tie as tie
 abbrev of : tie.Start → Project
 of e = let a = e.args in read (table a.runtime a.dynamic a.bounds.now a.columns.now) a.importers.now a.kinds.now a.targets.now a.dependencies.now a.members.now
 
-abbrev entry : tie.After-mark-seeds → tie.Start
+abbrev entry : tie.After-mark_seeds → tie.Start
 entry k = k.before.before.before.before.before.before.before.before.before.before.before.before.before.before.before.before.before.before
 
-marked : (k : tie.After-mark-seeds) → Marked (of (entry k)) k.mark-seeds.new.1.1.0
+marked : (k : tie.After-mark_seeds) → Marked (of (entry k)) k.mark_seeds.new.1.1.0
 marked k =
     let e = entry k in
-    let f = k.before.before.before.before.fill in
-    seeds-marked (of e) e.args.eligible.now (length e.args.plan.now) e.pre.0.eligible_set e.pre.1.size e.args.seeds.now f.new.0 k.mark-seeds.new.1.1.0 f.ensures k.mark-seeds.ensures
+    let f = k.fill in
+    seeds-marked (of e) e.args.eligible.now (length e.args.plan.now) e.requires.0.eligible_set e.requires.1.size e.args.seeds.now f.new.0 k.mark_seeds.new.1.1.0 f.ensures k.mark_seeds.ensures
 
-mark-seeds-requires : tie.Need-mark-seeds-requires
+mark-seeds-requires : tie.Need-mark_seeds-requires
 mark-seeds-requires c κs =
     let e = c.before.before.before.before.before.before.before.before.before.before.before.before.before.before.before.before.before in
-    let n = c.before.before.before.fill.auto.0 in
+    let n = c.fill.auto.slots in
     (ap length e.requires.0.eligible_set ∙ length-marks_of (eligible (of e)) (modules (of e)) ∙ sym e.requires.1.size ∙ sym n, subst (λ (i : ℕ). Below i e.args.seeds.now) (sym n) e.requires.1.inside)
 
-build-order-wrap-plan-requires : tie.Need-build-order-wrap-plan-requires
-build-order-wrap-plan-requires c κs = (c.before.before.before.before.before.before.before.before.before.before.before.before.before.before.before.before.before.before.before.before.before.requires.0, marked c.before.before.before)
+build-order-wrap-plan-requires : tie.Need-build_order_wrap_plan-requires
+build-order-wrap-plan-requires c κs = (c.requires.0, marked c.before.before.before)
 
 returns : tie.Need-returns
 returns c =
-    let b = c.before.before.build-order-wrap-plan in
+    let b = c.build_order_wrap_plan in
     let k = c.before.before.before.before.before.before in
     let e = entry k in
-    let f = k.before.before.before.before.fill in
-    seeds-planned (of e) e.args.eligible.now (length e.args.plan.now) e.pre.0.eligible_set e.pre.1.size e.args.seeds.now f.new.0 k.mark-seeds.new.1.1.0 f.ensures k.mark-seeds.ensures
+    let f = k.fill in
+    seeds-planned (of e) e.args.eligible.now (length e.args.plan.now) e.requires.0.eligible_set e.requires.1.size e.args.seeds.now f.new.0 k.mark_seeds.new.1.1.0 f.ensures k.mark_seeds.ensures
     b.new.1.1.1.1.1.1.1.1.1.1.1.1.0 b.ensures
 
-pub plan-marked-spec : {M : Type 1} → statement M
-plan-marked-spec =
+pub plan_marked_spec : {M : Type 1} → statement M
+plan_marked_spec =
     tie.close
     (tie.spec (λ c κs. search rules) mark-seeds-requires build-order-wrap-plan-requires (λ c. search rules) returns)

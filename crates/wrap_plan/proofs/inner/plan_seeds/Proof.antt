@@ -26,94 +26,94 @@ few e = omega (arith, e.requires.size, e.requires.accepted.sizes.normal)
 
 -- the chunk count
 
-abbrev entry : tie.After-rows → tie.Start
+abbrev entry : tie.After-rows-chunks → tie.Start
 entry k = k.before.before.before.before.before.before.before.before.before.before
 
-abbrev count : tie.After-rows → ℕ
-count k = k.rows.result
+abbrev count : tie.After-rows-chunks → ℕ
+count k = k.rows-chunks.result
 
-counted : (k : tie.After-rows) → count k ≡ chunks (of (entry k))
+counted : (k : tie.After-rows-chunks) → count k ≡ chunks (of (entry k))
 unfolding table read
-counted k = k.rows.ensures
+counted k = k.rows-chunks.ensures
 
-few-chunks : (k : tie.After-rows) → count k ≤ 1024
+few-chunks : (k : tie.After-rows-chunks) → count k ≤ 1024
 few-chunks k = omega (arith, counted k, (entry k).requires.accepted.sizes.order)
 
 -- labels and marks
 
-labels-lent : (k : tie.After-label-table) → Lent 1024 (count k.before.before) k.label-table.new.1.1.1.1.1.1.1.1.1.0
-labels-lent k = record { fits = few-chunks k.before.before; kept = k.label-table.auto.1.1.1.1.1.1.1.1.1.0 }
+labels-lent : (k : tie.After-label_table) → Lent 1024 (count k.before.before) k.label_table.new.1.1.1.1.1.1.1.1.1.0
+labels-lent k = record { fits = few-chunks k.before.before; kept = k.label_table.auto.labels }
 
-sensitives-lent : (k : tie.After-mark-table-sensitive) → Lent 4096 (size k.before.before.before.before.before.before.before.before.before.before.before.before.before.before.before) k.mark-table-sensitive.new.1.1.1.1.1.1.1.1.1.0
-sensitives-lent k = record { fits = few k.before.before.before.before.before.before.before.before.before.before.before.before.before.before.before; kept = k.mark-table-sensitive.auto.1.1.1.1.1.1.1.1.1.0 }
+sensitives-lent : (k : tie.After-mark_table_sensitive) → Lent 4096 (size k.before.before.before.before.before.before.before.before.before.before.before.before.before.before.before) k.mark_table_sensitive.new.1.1.1.1.1.1.1.1.1.0
+sensitives-lent k = record { fits = few k.before.before.before.before.before.before.before.before.before.before.before.before.before.before.before; kept = k.mark_table_sensitive.auto.marks }
 
-eligibles-lent : (k : tie.After-mark-table-eligible) → Lent 4096 (size k.before.before.before.before.before.before.before.before.before.before.before.before.before.before.before.before.before.before) k.mark-table-eligible.new.1.1.1.1.1.1.1.1.1.0
-eligibles-lent k = record { fits = few k.before.before.before.before.before.before.before.before.before.before.before.before.before.before.before.before.before.before; kept = k.mark-table-eligible.auto.1.1.1.1.1.1.1.1.1.0 }
+eligibles-lent : (k : tie.After-mark_table_eligible) → Lent 4096 (size k.before.before.before.before.before.before.before.before.before.before.before.before.before.before.before.before.before.before) k.mark_table_eligible.new.1.1.1.1.1.1.1.1.1.0
+eligibles-lent k = record { fits = few k.before.before.before.before.before.before.before.before.before.before.before.before.before.before.before.before.before.before; kept = k.mark_table_eligible.auto.marks }
 
-basis : (k : tie.After-mark-table-eligible) → let e = k.before.before.before.before.before.before.before.before.before.before.before.before.before.before.before.before.before.before in let s = k.before.before.before in let l = k.before.before.before.before.before.before in
-    Basis (of e) (view 1024 (count l.before.before) l.label-table.new.1.1.1.1.1.1.1.1.1.0) (view 4096 (size e) s.mark-table-sensitive.new.1.1.1.1.1.1.1.1.1.0) (view 4096 (size e) k.mark-table-eligible.new.1.1.1.1.1.1.1.1.1.0)
+basis : (k : tie.After-mark_table_eligible) → let e = k.before.before.before.before.before.before.before.before.before.before.before.before.before.before.before.before.before.before in let s = k.before.before.before in let l = k.before.before.before.before.before.before in
+    Basis (of e) (view 1024 (count l.before.before) l.label_table.new.1.1.1.1.1.1.1.1.1.0) (view 4096 (size e) s.mark_table_sensitive.new.1.1.1.1.1.1.1.1.1.0) (view 4096 (size e) k.mark_table_eligible.new.1.1.1.1.1.1.1.1.1.0)
 basis k =
     let s = k.before.before.before in
     let l = k.before.before.before.before.before.before in
     record {
-      accepted = k.before.before.before.before.before.before.before.before.before.before.before.before.before.before.before.before.before.before.requires.accepted;
-      label = view-is (labels-lent l) ∙ l.label-table.ensures.same;
-      sensitive_set = view-is (sensitives-lent s) ∙ s.mark-table-sensitive.ensures;
-      eligible_set = view-is (eligibles-lent k) ∙ k.mark-table-eligible.ensures;
+      accepted = k.requires.accepted;
+      label = view-is (labels-lent l) ∙ l.label_table.ensures.same;
+      sensitive_set = view-is (sensitives-lent s) ∙ s.mark_table_sensitive.ensures;
+      eligible_set = view-is (eligibles-lent k) ∙ k.mark_table_eligible.ensures;
     }
 
-array-borrow-prefix-labels : tie.Need-array-borrow-prefix-labels
+array-borrow-prefix-labels : tie.Need-slice_bounds-labels-end
 array-borrow-prefix-labels c = few-chunks (c)
 
-slice-aggregate-label-table : tie.Need-slice-aggregate-label-table
+slice-aggregate-label-table : tie.Need-slice_bounds-label_table-end
 slice-aggregate-label-table c = let k = c.before in sym (part_length 1024 (count k) (few-chunks k))
 
-label-table-requires : tie.Need-label-table-requires
+label-table-requires : tie.Need-label_table-requires
 label-table-requires c κs = let k = c.before in record { accepted = (entry k).requires.accepted; size = part_length 1024 (count k) (few-chunks k) ∙ counted k }
 
-array-borrow-prefix-sensitives : tie.Need-array-borrow-prefix-sensitives
+array-borrow-prefix-sensitives : tie.Need-slice_bounds-sensitives-end
 array-borrow-prefix-sensitives c = few c.before.before.before.before.before.before.before.before.before.before.before.before.before
 
-slice-aggregate-mark-table-sensitive : tie.Need-slice-aggregate-mark-table-sensitive
+slice-aggregate-mark-table-sensitive : tie.Need-slice_bounds-mark_table_sensitive-end
 slice-aggregate-mark-table-sensitive c = let e = c.before.before.before.before.before.before.before.before.before.before.before.before.before.before in sym (part_length 4096 (size e) (few e))
 
-mark-table-sensitive-requires : tie.Need-mark-table-sensitive-requires
+mark-table-sensitive-requires : tie.Need-mark_table_sensitive-requires
 mark-table-sensitive-requires c κs = let e = c.before.before.before.before.before.before.before.before.before.before.before.before.before.before in record { accepted = e.requires.accepted; size = part_length 4096 (size e) (few e) ∙ e.requires.size }
 
-array-borrow-prefix-eligibles : tie.Need-array-borrow-prefix-eligibles
+array-borrow-prefix-eligibles : tie.Need-slice_bounds-eligibles-end
 array-borrow-prefix-eligibles c = few c.before.before.before.before.before.before.before.before.before.before.before.before.before.before.before.before
 
-slice-aggregate-mark-table-eligible : tie.Need-slice-aggregate-mark-table-eligible
+slice-aggregate-mark-table-eligible : tie.Need-slice_bounds-mark_table_eligible-end
 slice-aggregate-mark-table-eligible c = let e = c.before.before.before.before.before.before.before.before.before.before.before.before.before.before.before.before.before in sym (part_length 4096 (size e) (few e))
 
-mark-table-eligible-requires : tie.Need-mark-table-eligible-requires
+mark-table-eligible-requires : tie.Need-mark_table_eligible-requires
 mark-table-eligible-requires c κs = let e = c.before.before.before.before.before.before.before.before.before.before.before.before.before.before.before.before.before in record { accepted = e.requires.accepted; size = part_length 4096 (size e) (few e) ∙ e.requires.size }
 
-array-share-prefix-labels : tie.Need-array-share-prefix-labels
+array-share-prefix-labels : tie.Need-slice_bounds-labels-end-2
 array-share-prefix-labels c = view-room (labels-lent c.before.before.before.before.before.before.before)
 
-slice-aggregate-plan-marked : tie.Need-slice-aggregate-plan-marked
+slice-aggregate-plan-marked : tie.Need-slice_bounds-plan_marked-end
 slice-aggregate-plan-marked c = sym (view-length (labels-lent c.before.before.before.before.before.before.before.before))
 
-array-share-prefix-sensitives : tie.Need-array-share-prefix-sensitives
+array-share-prefix-sensitives : tie.Need-slice_bounds-sensitives-end-2
 array-share-prefix-sensitives c = view-room (sensitives-lent c.before.before.before.before.before)
 
-slice-aggregate-plan-marked-2 : tie.Need-slice-aggregate-plan-marked-2
+slice-aggregate-plan-marked-2 : tie.Need-slice_bounds-plan_marked-end-2
 slice-aggregate-plan-marked-2 c = sym (view-length (sensitives-lent c.before.before.before.before.before.before))
 
-array-share-prefix-eligibles : tie.Need-array-share-prefix-eligibles
+array-share-prefix-eligibles : tie.Need-slice_bounds-eligibles-end-2
 array-share-prefix-eligibles c = view-room (eligibles-lent c.before.before.before)
 
-slice-aggregate-plan-marked-3 : tie.Need-slice-aggregate-plan-marked-3
+slice-aggregate-plan-marked-3 : tie.Need-slice_bounds-plan_marked-end-3
 slice-aggregate-plan-marked-3 c = sym (view-length (eligibles-lent c.before.before.before.before))
 
-plan-marked-requires : tie.Need-plan-marked-requires
-plan-marked-requires c κs = (basis c.before.before.before.before.before, c.before.before.before.before.before.before.before.before.before.before.before.before.before.before.before.before.before.before.before.before.before.before.before.requires)
+plan-marked-requires : tie.Need-plan_marked-requires
+plan-marked-requires c κs = (basis c.before.before.before.before.before, c.requires)
 
 returns : tie.Need-returns
-returns c = let q = c.before.before.before.before.plan-marked.ensures in (q, c.count-marked.ensures ∙ ap ones q)
+returns c = let q = c.plan_marked.ensures in (q, c.count_marked.ensures ∙ ap ones q)
 
-pub plan-seeds-spec : {M : Type 1} → statement M
-plan-seeds-spec =
+pub plan_seeds_spec : {M : Type 1} → statement M
+plan_seeds_spec =
     tie.close
     (tie.spec (λ c κs. search rules) array-borrow-prefix-labels slice-aggregate-label-table label-table-requires array-borrow-prefix-sensitives slice-aggregate-mark-table-sensitive mark-table-sensitive-requires array-borrow-prefix-eligibles slice-aggregate-mark-table-eligible mark-table-eligible-requires array-share-prefix-labels slice-aggregate-plan-marked array-share-prefix-sensitives slice-aggregate-plan-marked-2 array-share-prefix-eligibles slice-aggregate-plan-marked-3 plan-marked-requires (λ c κs. search rules) (λ c. search rules) returns)
