@@ -1,4 +1,4 @@
-/* The order planner's operations, from target/staticlib/libjolmuqter.a (`rt staticlib jolmuqter`, x86-64 Linux).
+/* The order planner's operations, from target/staticlib/libjolmuqter.a (`library/build`, x86-64 Linux).
  *
  * A slice is a pointer and a length in elements, in this order; a pointer is aligned and isn't null, even where the length is 0. Outputs overlap
  * neither each other nor the inputs. A call uses less than 2 MiB of stack (measured: up to 1.97 MiB), jolmuqter_plan_by_worklist

@@ -1,4 +1,4 @@
-//! Links target/staticlib/libjolmuqter.a, which `rt staticlib jolmuqter` writes.
+//! Links target/staticlib/libjolmuqter.a, which `library/build` writes.
 fn main() {
   let folder = format!("{}/../../target/staticlib", std::env::var("CARGO_MANIFEST_DIR").unwrap());
   println!("cargo:rerun-if-changed={folder}/libjolmuqter.a");

@@ -2,12 +2,13 @@
 // whether the plan is accepted or what it breaks first.
 #![tactic(auto)]
 
-use io::print_decimal;
-use libc::{STDIN_FILENO, STDOUT_FILENO};
 use listing::{Reading, read};
 use parts::{first_of, part_of};
 use plan_check::check_plan;
 use plan_conditions::Judgement;
+use std::io;
+use std::rt::Env;
+use streams::read_full;
 use table::{COLUMNS, MODULE_LIMIT, NORMAL, rows};
 
 // What an argument is: so many numbers, or something else.
@@ -53,9 +54,9 @@ fn read_numbers(text: &[u8], out: &mut [u32]) -> Numbers {
 }
 
 // The numbers of an argument.
-fn read_argument(i: usize, out: &mut [u32]) -> Numbers {
+fn read_argument(rt: &impl Env, i: usize, out: &mut [u32]) -> Numbers {
     let mut text = [0u8; 65536];
-    let n = os::arg(i, &mut text);
+    let n = rt.arg(i, &mut text).unwrap_or(0);
     read_numbers(&text[..n], out)
 }
 
@@ -74,93 +75,83 @@ fn mark_members(members: &[u32], marks: &mut [u32], n: usize) -> bool {
     true
 }
 
-fn wide(x: u32) -> u64 {
-    x as u64
-}
-
-fn refused(number: u32) {
-    io::write_all(STDOUT_FILENO, b"refused ");
-    print_decimal(STDOUT_FILENO, wide(number));
-    io::write_all(STDOUT_FILENO, b"\n");
+fn refused(rt: &impl Print, number: u32) -> io::Result<()> {
+    println!(rt; "refused {number}")
 }
 
 // Which condition a module breaks.
-fn broken(condition: u32, module: u32) {
-    io::write_all(STDOUT_FILENO, b"module ");
-    print_decimal(STDOUT_FILENO, wide(module));
+fn broken(rt: &impl Print, condition: u32, module: u32) -> io::Result<()> {
+    print!(rt; "module {module}")?;
     match condition {
-        1 => io::write_all(STDOUT_FILENO, b" is in the plan and isn't eligible\n"),
-        2 => io::write_all(
-            STDOUT_FILENO,
-            b" is an eligible seed and isn't in the plan\n",
+        1 => println!(rt; " is in the plan and isn't eligible"),
+        2 => println!(rt; " is an eligible seed and isn't in the plan"),
+        3 => println!(rt;
+            " isn't in the plan; by rule (i) it has to be: it follows a planned module in an entry's expected sensitive order"
         ),
-        3 => io::write_all(
-            STDOUT_FILENO,
-            b" isn't in the plan; by rule (i) it has to be: it follows a planned module in an entry's expected sensitive order\n",
+        4 => println!(rt;
+            " isn't in the plan; by rule (ii) it has to be: its chunk is in a cycle with a planned module's chunk"
         ),
-        4 => io::write_all(
-            STDOUT_FILENO,
-            b" isn't in the plan; by rule (ii) it has to be: its chunk is in a cycle with a planned module's chunk\n",
+        5 => println!(rt;
+            " isn't in the plan; by rule (iii) it has to be: it depends on a planned module and imports what leads to one"
         ),
-        5 => io::write_all(
-            STDOUT_FILENO,
-            b" isn't in the plan; by rule (iii) it has to be: it depends on a planned module and imports what leads to one\n",
+        _ => println!(rt;
+            " isn't in the plan; by rule (iv) it has to be: it reads what touches a planned module"
         ),
-        _ => io::write_all(
-            STDOUT_FILENO,
-            b" isn't in the plan; by rule (iv) it has to be: it reads what touches a planned module\n",
-        ),
-    };
+    }
 }
 
-fn say(judgement: Judgement) {
+fn say(rt: &impl Print, judgement: Judgement) -> io::Result<()> {
     match judgement {
-        Judgement::Accepted => {
-            io::write_all(STDOUT_FILENO, b"accepted\n");
-        }
-        Judgement::Broken(condition, module) => broken(condition, module),
-        Judgement::Refused(number) => refused(number),
+        Judgement::Accepted => println!(rt; "accepted"),
+        Judgement::Broken(condition, module) => broken(rt, condition, module),
+        Judgement::Refused(number) => refused(rt, number),
     }
 }
 
 // Judges marks with the seeds of the second argument.
 fn judge<'a>(
+    rt: &(impl Env + Print),
     runtime: u32,
     dynamic: u32,
     bounds: &'a [u32],
     columns: &'a [u32],
     names: &'a [u8],
     plan: &[u32],
-) {
+) -> io::Result<()> {
     let mut seeds = [0u32; 16386];
-    let list = read_argument(2, &mut seeds);
+    let list = read_argument(rt, 2, &mut seeds);
     match list {
-        Numbers::Read(n) => say(check_plan(
-            runtime,
-            dynamic,
-            bounds,
-            columns,
-            names,
-            first_of(&seeds, n),
-            plan,
-        )),
-        Numbers::Broken => refused(5),
+        Numbers::Read(n) => say(
+            rt,
+            check_plan(
+                runtime,
+                dynamic,
+                bounds,
+                columns,
+                names,
+                first_of(&seeds, n),
+                plan,
+            ),
+        ),
+        Numbers::Broken => refused(rt, 5),
     }
 }
 
 // Judges the plan of the first argument.
 fn judge_listed<'a>(
+    rt: &(impl Env + Print),
     runtime: u32,
     dynamic: u32,
     bounds: &'a [u32],
     columns: &'a [u32],
     names: &'a [u8],
     members: &[u32],
-) {
+) -> io::Result<()> {
     let n = rows(bounds, columns, NORMAL);
     let mut marks = [0u32; MODULE_LIMIT];
     if mark_members(members, &mut marks, n) {
         return judge(
+            rt,
             runtime,
             dynamic,
             bounds,
@@ -169,21 +160,23 @@ fn judge_listed<'a>(
             first_of(&marks, n),
         );
     }
-    judge(runtime, dynamic, bounds, columns, names, &[]);
+    judge(rt, runtime, dynamic, bounds, columns, names, &[])
 }
 
 // Judges it, read from its argument.
 fn judge_argument<'a>(
+    rt: &(impl Env + Print),
     runtime: u32,
     dynamic: u32,
     bounds: &'a [u32],
     columns: &'a [u32],
     names: &'a [u8],
-) {
+) -> io::Result<()> {
     let mut members = [0u32; 16386];
-    let list = read_argument(1, &mut members);
+    let list = read_argument(rt, 1, &mut members);
     match list {
         Numbers::Read(n) => judge_listed(
+            rt,
             runtime,
             dynamic,
             bounds,
@@ -191,43 +184,45 @@ fn judge_argument<'a>(
             names,
             first_of(&members, n),
         ),
-        Numbers::Broken => judge(runtime, dynamic, bounds, columns, names, &[]),
+        Numbers::Broken => judge(rt, runtime, dynamic, bounds, columns, names, &[]),
     }
 }
 
 // Judges it for a project that was read, with n values in its columns.
 fn judge_of<'a>(
+    rt: &(impl Env + Print),
     settings: [u32; 2],
     bounds: &'a [u32; COLUMNS + 1],
     columns: &'a [u32; 32768],
     n: usize,
     names: &'a [u8],
-) {
+) -> io::Result<()> {
     judge_argument(
+        rt,
         settings[0],
         settings[1],
         bounds,
         first_of(columns, n),
         names,
-    );
+    )
 }
 
 // Judges it for a text.
-fn judge_text(text: &[u8]) {
+fn judge_text(rt: &(impl Env + Print), text: &[u8]) -> io::Result<()> {
     let mut settings = [0u32; 2];
     let mut bounds = [0u32; COLUMNS + 1];
     let mut columns = [0u32; 32768];
     let answer = read(text, &mut settings, &mut bounds, &mut columns);
     match answer {
-        Reading::Refused(number) => refused(number),
+        Reading::Refused(number) => refused(rt, number),
         Reading::Read(k, from, to) => {
-            judge_of(settings, &bounds, &columns, k, part_of(text, from, to))
+            judge_of(rt, settings, &bounds, &columns, k, part_of(text, from, to))
         }
     }
 }
 
-fn main() {
+fn main(rt: HostRuntime) -> io::Result<()> {
     let mut text = [0u8; 65537];
-    let n = io::read_full(STDIN_FILENO, &mut text);
-    judge_text(&text[..n]);
+    let n = read_full(&mut rt.reader(), &mut text)?;
+    judge_text(&rt, &text[..n])
 }

@@ -55,10 +55,8 @@ pub fn find_entry<'a>(
     members: &'a [u32],
     root: u32,
 ) -> u32
-    ghost p: { Project }
-    requires project { read (table runtime dynamic bounds.now columns.now) importers.now kinds.now targets.now dependencies.now members.now ≡ p }
-    requires accepted { Accepted p }
-    ensures { Found p root result }
+    requires accepted { let p : Project = read (table runtime dynamic bounds.now columns.now) importers.now kinds.now targets.now dependencies.now members.now in Accepted p }
+    ensures { let p : Project = read (table runtime dynamic bounds.now columns.now) importers.now kinds.now targets.now dependencies.now members.now in Found p root result }
 {
     analysed_chunk(
         column(bounds, columns, INCLUDED),

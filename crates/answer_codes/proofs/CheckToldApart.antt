@@ -4,16 +4,15 @@ use mathlib.Core.Path.{◌≡◌, refl, sym, ap, ◌∙◌}
 use mathlib.Core.Logic.{◌⊎◌, inl, inr, ⊎_elim}
 use mathlib.Core.Bool.{Bool, true, false, cond}
 use mathlib.Core.List.{List, [], ◌∷◌, map}
-use Prim.Native.Nat.{ℕ, zero, suc, ◌+◌, ◌≤◌, ◌<◌}
+use Prim.Native.Nat.{ℕ, zero, suc, ◌≤◌, ◌<◌}
 use native.Mathlib.Omega.{arith}
 use lib.ListN.{length, length-append}
 use lib.Dec.{eqb}
 use Rattle.lists.specs.Words.{is_zero}
 use Rattle.tables.specs.Project.{Project, missing}
 use Rattle.tables.specs.Readings.{modules}
-use Rattle.tables.specs.Refusal.{module_limit}
 use Rattle.tables.specs.Accepted.{Accepted}
-use Rattle.table.specs.Table.{Lent, lent, table, current}
+use Rattle.table.specs.Table.{Lent, lent, table}
 use Rattle.table.proofs.Laws.{lent-current}
 use Rattle.seeds.specs.Seeds.{seeds_fit}
 use Rattle.plan_conditions.specs.declared.Judgement.{Judgement}
@@ -22,9 +21,9 @@ use Rattle.plan_conditions.specs.Form.{plan_fits}
 use Rattle.plan_conditions.specs.Conditions.{Condition, conditions, broken, lowest, first_broken, judged}
 use Rattle.plan_conditions.proofs.Lowest.{lowest-found}
 use Rattle.plan_conditions.proofs.Judging.{Named, broken-named}
-use Rattle.plan_check.specs.Promise.{check_verdict, judgement}
+use Rattle.plan_check.specs.Promise.{judgement}
 use Rattle.answer_codes.specs.Exported.{coded_judgement}
-use Rattle.answer_codes.specs.CheckToldApart.{AcceptedCode, BrokenCode, RefusedCode, ToldBy, JudgementsAreToldApart, OneCodeOneJudgement}
+use Rattle.answer_codes.specs.CheckToldApart.{BrokenCode, ToldBy, JudgementsAreToldApart, OneCodeOneJudgement}
 use Rattle.answer_codes.proofs.ToldApart.{Known, number-known}
 
 -- the first broken condition is named, or there is none

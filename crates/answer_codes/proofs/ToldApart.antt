@@ -14,7 +14,7 @@ use Rattle.walk.specs.Walk.{everywhere}
 use Rattle.walk.proofs.Orders.{order-length}
 use Rattle.tables.specs.Project.{Project}
 use Rattle.tables.specs.Readings.{modules, chunks, is_normal, is_analysed}
-use Rattle.tables.specs.Refusal.{module_limit, below, sizes_fit, values_fit, rows_rise, rows_agree, newer_fits, refusal}
+use Rattle.tables.specs.Refusal.{below, sizes_fit, values_fit, rows_rise, rows_agree, newer_fits, refusal}
 use Rattle.tables.specs.Answers.{number_of, verdict}
 use Rattle.tables.specs.Accepted.{Accepted}
 use Rattle.tables.specs.declared.Answer.{Answer}

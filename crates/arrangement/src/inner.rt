@@ -96,12 +96,10 @@ fn arrange_table<'a>(
     numbers: &'a [u32],
     out: &mut [u32],
 )
-    ghost p: { Project }
-    requires project { read (table runtime dynamic bounds.now columns.now) importers.now kinds.now targets.now dependencies.now members.now ≡ p }
-    requires places { Places p (length p.member) (length out.old) }
-    requires named { names_fit (modules p) names.now ≡ true }
-    requires numbered { numbers.now ≡ numbers_of p }
-    ensures { out.new ≡ arranged_of p names.now }
+    requires places { let p : Project = read (table runtime dynamic bounds.now columns.now) importers.now kinds.now targets.now dependencies.now members.now in Places p (length p.member) (length out.old) }
+    requires named { let p : Project = read (table runtime dynamic bounds.now columns.now) importers.now kinds.now targets.now dependencies.now members.now in names_fit (modules p) names.now ≡ true }
+    requires numbered { let p : Project = read (table runtime dynamic bounds.now columns.now) importers.now kinds.now targets.now dependencies.now members.now in numbers.now ≡ numbers_of p }
+    ensures { let p : Project = read (table runtime dynamic bounds.now columns.now) importers.now kinds.now targets.now dependencies.now members.now in out.new ≡ arranged_of p names.now }
 {
     copy_to(members, out);
     arrange(
@@ -130,11 +128,9 @@ pub fn arrange_members<'a>(
     names: &'a [u8],
     out: &mut [u32],
 )
-    ghost p: { Project }
-    requires project { read (table runtime dynamic bounds.now columns.now) importers.now kinds.now targets.now dependencies.now members.now ≡ p }
-    requires places { Places p (length p.member) (length out.old) }
-    requires named { names_fit (modules p) names.now ≡ true }
-    ensures { out.new ≡ arranged_of p names.now }
+    requires places { let p : Project = read (table runtime dynamic bounds.now columns.now) importers.now kinds.now targets.now dependencies.now members.now in Places p (length p.member) (length out.old) }
+    requires named { let p : Project = read (table runtime dynamic bounds.now columns.now) importers.now kinds.now targets.now dependencies.now members.now in names_fit (modules p) names.now ≡ true }
+    ensures { let p : Project = read (table runtime dynamic bounds.now columns.now) importers.now kinds.now targets.now dependencies.now members.now in out.new ≡ arranged_of p names.now }
 {
     let modules = rows(bounds, columns, NORMAL);
     let mut marks = [0u32; MODULE_LIMIT];
@@ -184,11 +180,9 @@ pub fn read_members<'a>(
     names: &'a [u8],
     out: &mut [u32],
 )
-    ghost p: { Project }
-    requires project { read (table runtime dynamic bounds.now columns.now) importers.now kinds.now targets.now dependencies.now members.now ≡ p }
-    requires places { Places p (length p.member) (length out.old) }
-    requires named { names_in (modules p) names.now ≡ true }
-    ensures { out.new ≡ members_read p names.now }
+    requires places { let p : Project = read (table runtime dynamic bounds.now columns.now) importers.now kinds.now targets.now dependencies.now members.now in Places p (length p.member) (length out.old) }
+    requires named { let p : Project = read (table runtime dynamic bounds.now columns.now) importers.now kinds.now targets.now dependencies.now members.now in names_in (modules p) names.now ≡ true }
+    ensures { let p : Project = read (table runtime dynamic bounds.now columns.now) importers.now kinds.now targets.now dependencies.now members.now in out.new ≡ members_read p names.now }
 {
     if names.len() == 0 {
         copy_to(members, out);

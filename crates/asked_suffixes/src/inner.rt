@@ -29,11 +29,9 @@ fn mark_entry<'a>(
     asked: &mut [u32],
     root: u32,
 )
-    ghost p: { Project }
-    requires project { read (table runtime dynamic bounds.now columns.now) importers.now kinds.now targets.now dependencies.now members.now ≡ p }
-    requires marks { PlanMarks p sensitive.now plan.now (length asked.old) }
+    requires marks { let p : Project = read (table runtime dynamic bounds.now columns.now) importers.now kinds.now targets.now dependencies.now members.now in PlanMarks p sensitive.now plan.now (length asked.old) }
     requires root { root < length asked.old }
-    ensures { Joined (InSuffix (expected_of p root) sensitive.now plan.now) asked.old asked.new }
+    ensures { let p : Project = read (table runtime dynamic bounds.now columns.now) importers.now kinds.now targets.now dependencies.now members.now in Joined (InSuffix (expected_of p root) sensitive.now plan.now) asked.old asked.new }
 {
     let n = asked.len();
     let mut marks = [0u32; MODULE_LIMIT];
@@ -71,11 +69,9 @@ fn mark_entries<'a>(
     plan: &[u32],
     asked: &mut [u32],
 )
-    ghost p: { Project }
-    requires project { read (table runtime dynamic bounds.now columns.now) importers.now kinds.now targets.now dependencies.now members.now ≡ p }
-    requires marks { PlanMarks p sensitive.now plan.now (length asked.old) }
+    requires marks { let p : Project = read (table runtime dynamic bounds.now columns.now) importers.now kinds.now targets.now dependencies.now members.now in PlanMarks p sensitive.now plan.now (length asked.old) }
     requires roots { Below (length asked.old) roots.now }
-    ensures { Joined (InSome p roots.now sensitive.now plan.now) asked.old asked.new }
+    ensures { let p : Project = read (table runtime dynamic bounds.now columns.now) importers.now kinds.now targets.now dependencies.now members.now in Joined (InSome p roots.now sensitive.now plan.now) asked.old asked.new }
 {
     for k in 0..roots.len() {
         mark_entry(
@@ -113,12 +109,10 @@ pub fn add_suffixes<'a>(
     plan: &[u32],
     copy: &mut [u32],
 ) -> bool
-    ghost p: { Project }
-    requires project { read (table runtime dynamic bounds.now columns.now) importers.now kinds.now targets.now dependencies.now members.now ≡ p }
-    requires sets { SuffixBasis p roots.now sensitive.now eligible.now }
-    requires plan { Marked p plan.now }
+    requires sets { let p : Project = read (table runtime dynamic bounds.now columns.now) importers.now kinds.now targets.now dependencies.now members.now in SuffixBasis p roots.now sensitive.now eligible.now }
+    requires plan { let p : Project = read (table runtime dynamic bounds.now columns.now) importers.now kinds.now targets.now dependencies.now members.now in Marked p plan.now }
     requires copy { copy.old ≡ plan.now }
-    ensures { SuffixesAdded p plan.now copy.new result }
+    ensures { let p : Project = read (table runtime dynamic bounds.now columns.now) importers.now kinds.now targets.now dependencies.now members.now in SuffixesAdded p plan.now copy.new result }
 {
     let n = copy.len();
     let mut asked = [0u32; MODULE_LIMIT];

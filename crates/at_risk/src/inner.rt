@@ -40,13 +40,11 @@ pub fn add_entry_order_risk<'a>(
     root: u32,
     chunk: u32,
 )
-    ghost p: { Project }
-    requires project { read (table runtime dynamic bounds.now columns.now) importers.now kinds.now targets.now dependencies.now members.now ≡ p }
-    requires prepared { Prepared p prepared.now }
-    requires sets { Sets p sensitives.now eligibles.now }
-    requires entry { Entry p root chunk }
-    requires placed { Placed p expected.now (length out.old) }
-    ensures { out.new ≡ join out.old (order_risk (sensitive p) (eligible p) expected.now (actual_of p root) (hosts_of p root)) }
+    requires prepared { let p : Project = read (table runtime dynamic bounds.now columns.now) importers.now kinds.now targets.now dependencies.now members.now in Prepared p prepared.now }
+    requires sets { let p : Project = read (table runtime dynamic bounds.now columns.now) importers.now kinds.now targets.now dependencies.now members.now in Sets p sensitives.now eligibles.now }
+    requires entry { let p : Project = read (table runtime dynamic bounds.now columns.now) importers.now kinds.now targets.now dependencies.now members.now in Entry p root chunk }
+    requires placed { let p : Project = read (table runtime dynamic bounds.now columns.now) importers.now kinds.now targets.now dependencies.now members.now in Placed p expected.now (length out.old) }
+    ensures { let p : Project = read (table runtime dynamic bounds.now columns.now) importers.now kinds.now targets.now dependencies.now members.now in out.new ≡ join out.old (order_risk (sensitive p) (eligible p) expected.now (actual_of p root) (hosts_of p root)) }
 {
     let n = out.len();
     let mut actual = [0u32; MODULE_LIMIT];
@@ -94,12 +92,10 @@ pub fn add_entry_cycle_risk<'a>(
     out: &mut [u32],
     chunk: u32,
 )
-    ghost p: { Project }
-    requires project { read (table runtime dynamic bounds.now columns.now) importers.now kinds.now targets.now dependencies.now members.now ≡ p }
-    requires labels { Reaching p labels.now chunk }
-    requires eligibles { eligibles.now ≡ eligible_marks p }
-    requires placed { Placed p expected.now (length out.old) }
-    ensures { out.new ≡ join out.old (cycle_risk (eligible p) expected.now (reaches_cycle_of p chunk)) }
+    requires labels { let p : Project = read (table runtime dynamic bounds.now columns.now) importers.now kinds.now targets.now dependencies.now members.now in Reaching p labels.now chunk }
+    requires eligibles { let p : Project = read (table runtime dynamic bounds.now columns.now) importers.now kinds.now targets.now dependencies.now members.now in eligibles.now ≡ eligible_marks p }
+    requires placed { let p : Project = read (table runtime dynamic bounds.now columns.now) importers.now kinds.now targets.now dependencies.now members.now in Placed p expected.now (length out.old) }
+    ensures { let p : Project = read (table runtime dynamic bounds.now columns.now) importers.now kinds.now targets.now dependencies.now members.now in out.new ≡ join out.old (cycle_risk (eligible p) expected.now (reaches_cycle_of p chunk)) }
 {
     let reaches_cycle = reaches_table(
         runtime,
@@ -137,13 +133,11 @@ pub fn add_entry_risk<'a>(
     root: u32,
     chunk: u32,
 )
-    ghost p: { Project }
-    requires project { read (table runtime dynamic bounds.now columns.now) importers.now kinds.now targets.now dependencies.now members.now ≡ p }
-    requires prepared { Prepared p prepared.now }
-    requires labels { labels.now ≡ labels_of p }
-    requires sets { Sets p sensitives.now eligibles.now }
-    requires entry { Entered p root chunk (length out.old) }
-    ensures { out.new ≡ join out.old (has (risk_of_entry p root)) }
+    requires prepared { let p : Project = read (table runtime dynamic bounds.now columns.now) importers.now kinds.now targets.now dependencies.now members.now in Prepared p prepared.now }
+    requires labels { let p : Project = read (table runtime dynamic bounds.now columns.now) importers.now kinds.now targets.now dependencies.now members.now in labels.now ≡ labels_of p }
+    requires sets { let p : Project = read (table runtime dynamic bounds.now columns.now) importers.now kinds.now targets.now dependencies.now members.now in Sets p sensitives.now eligibles.now }
+    requires entry { let p : Project = read (table runtime dynamic bounds.now columns.now) importers.now kinds.now targets.now dependencies.now members.now in Entered p root chunk (length out.old) }
+    ensures { let p : Project = read (table runtime dynamic bounds.now columns.now) importers.now kinds.now targets.now dependencies.now members.now in out.new ≡ join out.old (has (risk_of_entry p root)) }
 {
     let n = out.len();
     let mut marks = [0u32; MODULE_LIMIT];

@@ -64,10 +64,8 @@ pub fn label_table<'a>(
     members: &'a [u32],
     labels: &mut [u32],
 ) -> usize
-    ghost p: { Project }
-    requires project { read (table runtime dynamic bounds.now columns.now) importers.now kinds.now targets.now dependencies.now members.now ≡ p }
-    requires places { Places p (chunks p) (length labels.old) }
-    ensures { TableLabelled p labels.new result }
+    requires places { let p : Project = read (table runtime dynamic bounds.now columns.now) importers.now kinds.now targets.now dependencies.now members.now in Places p (chunks p) (length labels.old) }
+    ensures { let p : Project = read (table runtime dynamic bounds.now columns.now) importers.now kinds.now targets.now dependencies.now members.now in TableLabelled p labels.new result }
 {
     label_chunks(
         column(bounds, columns, IMPORT_CHUNK),
@@ -90,10 +88,8 @@ pub fn reaches_table<'a>(
     labels: &[u32],
     chunk: u32,
 ) -> bool
-    ghost p: { Project }
-    requires project { read (table runtime dynamic bounds.now columns.now) importers.now kinds.now targets.now dependencies.now members.now ≡ p }
-    requires labels { Reaching p labels.now chunk }
-    ensures { result ≡ reaches_cycle_of p chunk }
+    requires labels { let p : Project = read (table runtime dynamic bounds.now columns.now) importers.now kinds.now targets.now dependencies.now members.now in Reaching p labels.now chunk }
+    ensures { let p : Project = read (table runtime dynamic bounds.now columns.now) importers.now kinds.now targets.now dependencies.now members.now in result ≡ reaches_cycle_of p chunk }
 {
     reaches_cyclic(
         column(bounds, columns, IMPORT_CHUNK),

@@ -17,7 +17,7 @@ use Rattle.visit_steps.proofs.Leading.{leads-inside}
 use Rattle.module_visits.specs.inner.Visits.{Ready, executing, hosted}
 use Rattle.chunk_visits.specs.inner.Visits.{ran_members, Visitable, Ran}
 use Rattle.module_visits.proofs.Hosting.{Kept, kept-all, kept_then, turns-kept}
-use Rattle.module_visits.proofs.Lending.{Lent, lent-start, lent-marks, lent-keeps, lent-within, lent-falls, lent-leads, lent-next, lent-nearer, lent-end}
+use Rattle.module_visits.proofs.Lending.{Lent, Lending, lent-turn, lending, lent-start, lent-marks, lent-keeps, lent-within, lent-falls, lent-leads, lent-next, lent-nearer, lent-end}
 use Rattle.module_visits.proofs.ModuleVisits.{ready-still}
 use Rattle.module_visits.proofs.MemberVisits as R
 
@@ -43,9 +43,6 @@ module _ (ways starts triggers member member_starts load_starts loads : List ℕ
   Says cmarks marks order hosts c h cmarks' marks' order' hosts' r =
       Visits (leads load_starts loads) everywhere (ran_members ways starts triggers member member_starts) (record { marks = cmarks; made = executing marks order hosts h.placed }) (c ∷ []) (record { marks = cmarks'; made = executing marks' order' hosts' r.placed }) × (r.next ≡ r.placed)
 
-  abbrev pub MayEnter : List ℕ → ℕ → Type 0
-  MayEnter cmarks c = Spans load_starts (length loads) (length cmarks) × BelowOrMissing (length cmarks) loads × (c < length cmarks)
-
   abbrev pub Proceeds : List ℕ → Pending → Type 0
   Proceeds cmarks p = (p.end ≤ length loads) × BelowOrMissing (length cmarks) loads
 
@@ -53,6 +50,10 @@ module _ (ways starts triggers member member_starts load_starts loads : List ℕ
   act-kept : (s a : St Filling) (c : ℕ) → Kept s a → Kept s (act a c)
   unfolding ran_members
   act-kept s a c k = kept_then k (turns-kept (leads starts triggers) a (keep (in_way 1 ways) (part member_starts member c)))
+
+  -- what a loop over what is pending keeps
+  abbrev pub Going : List ℕ → List ℕ → List ℕ → ℕ → ActualOrderTraversal → List ℕ → Pending → Pending → ActualOrderTraversal → List ℕ → List ℕ → List ℕ → List ℕ → Type 0
+  Going marks order hosts c h marked first p t ms ks os hs = Lending load_starts loads act made (marks, order, hosts) h c marked first p t ms (ks, os, hs)
 
   module _ (cmarks marks order hosts : List ℕ) (c : ℕ) (h : ActualOrderTraversal) (within : Needs cmarks marks order hosts c h) where
     abbrev from : St Filling
@@ -72,12 +73,15 @@ module _ (ways starts triggers member member_starts load_starts loads : List ℕ
         → Ran ways starts triggers member member_starts load_starts loads c last cmarks (executing marks order hosts h.placed) cs (executing ks' os' hs' r'.placed)
     ran last cs ks os hs r d ks' os' hs' r' e = record { visited = executing ks os hs r.placed; visits = d.0; finally = e.0 }
 
-    pub enter-fits : MayEnter cmarks c
-    enter-fits = (within.spans, within.inside, within.chunk)
-
     module _ (marked : List ℕ) (first : Pending) (e : Entered load_starts loads cmarks c marked first) where
       abbrev pub Turn : Type 0
       Turn = Lent load_starts loads act made cmarks (marks, order, hosts) h c marked first e
+
+      abbrev pub turn : (p : Pending) (t : ActualOrderTraversal) (ms ks os hs : List ℕ) → Going marks order hosts c h marked first p t ms ks os hs → Turn
+      turn p t ms ks os hs g = lent-turn load_starts loads act made cmarks (marks, order, hosts) h c marked first e p t ms (ks, os, hs) g
+
+      abbrev pub going : (u : Turn) → Going marks order hosts c h marked first u.p u.t u.ms u.xs.0 u.xs.1 u.xs.2
+      going u = lending load_starts loads act made cmarks (marks, order, hosts) h c marked first e u
 
       abbrev pub start : Turn
       start = lent-start load_starts loads act made cmarks (marks, order, hosts) h c marked first e within.ready.room.equal

@@ -27,7 +27,7 @@ fn visit_actual_chunk<'a>(
     traversal: &mut ActualOrderTraversal,
 )
     requires { Visitable ways.now starts.now triggers.now member.now member_starts.now load_starts.now loads.now chunk_marks.old marks.old order.old hosts.old c traversal.old }
-    ensures { Visits (leads load_starts.now loads.now) everywhere (ran_members ways.now starts.now triggers.now member.now member_starts.now) (record { marks = chunk_marks.old; made = executing marks.entry.now order.old hosts.old traversal.old.placed }) (c ∷ []) (record { marks = chunk_marks.new; made = executing marks.exit.now order.new hosts.new traversal.new.placed }) × (traversal.new.next ≡ traversal.new.placed) }
+    ensures { Visits (leads load_starts.now loads.now) everywhere (ran_members ways.now starts.now triggers.now member.now member_starts.now) (record { marks = chunk_marks.old; made = executing marks.old order.old hosts.old traversal.old.placed }) (c ∷ []) (record { marks = chunk_marks.new; made = executing marks.new order.new hosts.new traversal.new.placed }) × (traversal.new.next ≡ traversal.new.placed) }
 {
     let mut visit = enter(load_starts, loads, chunk_marks, c);
     while visit.more {

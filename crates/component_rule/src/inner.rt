@@ -70,11 +70,9 @@ pub fn pass_members<'a>(
     eligible: &[u32],
     plan: &mut [u32],
 ) -> bool
-    ghost p: { Project }
-    requires project { read (table runtime dynamic bounds.now columns.now) importers.now kinds.now targets.now dependencies.now members.now ≡ p }
-    requires sets { ComponentSets p labels.now sensitive.now eligible.now }
-    requires plan { Marked p plan.old }
-    ensures { ComponentPassed p plan.old plan.new result }
+    requires sets { let p : Project = read (table runtime dynamic bounds.now columns.now) importers.now kinds.now targets.now dependencies.now members.now in ComponentSets p labels.now sensitive.now eligible.now }
+    requires plan { let p : Project = read (table runtime dynamic bounds.now columns.now) importers.now kinds.now targets.now dependencies.now members.now in Marked p plan.old }
+    ensures { let p : Project = read (table runtime dynamic bounds.now columns.now) importers.now kinds.now targets.now dependencies.now members.now in ComponentPassed p plan.old plan.new result }
 {
     close_cyclic_chunk_members(
         column(bounds, columns, CHUNK),

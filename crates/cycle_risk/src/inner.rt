@@ -31,12 +31,10 @@ fn add_marked_cycle_risk<'a>(
     root: u32,
     chunk: u32,
 )
-    ghost p: { Project }
-    requires project { read (table runtime dynamic bounds.now columns.now) importers.now kinds.now targets.now dependencies.now members.now ≡ p }
-    requires accepted { Accepted p }
-    requires eligibles { eligibles.now ≡ eligible_marks p }
-    requires entry { Entered p root chunk (length out.old) }
-    ensures { out.new ≡ join out.old (in_cycle_risk p root) }
+    requires accepted { let p : Project = read (table runtime dynamic bounds.now columns.now) importers.now kinds.now targets.now dependencies.now members.now in Accepted p }
+    requires eligibles { let p : Project = read (table runtime dynamic bounds.now columns.now) importers.now kinds.now targets.now dependencies.now members.now in eligibles.now ≡ eligible_marks p }
+    requires entry { let p : Project = read (table runtime dynamic bounds.now columns.now) importers.now kinds.now targets.now dependencies.now members.now in Entered p root chunk (length out.old) }
+    ensures { let p : Project = read (table runtime dynamic bounds.now columns.now) importers.now kinds.now targets.now dependencies.now members.now in out.new ≡ join out.old (in_cycle_risk p root) }
 {
     let n = out.len();
     let mut marks = [0u32; MODULE_LIMIT];
@@ -102,11 +100,9 @@ pub fn mark_cycle_risk<'a>(
     root: u32,
     chunk: u32,
 ) -> usize
-    ghost p: { Project }
-    requires project { read (table runtime dynamic bounds.now columns.now) importers.now kinds.now targets.now dependencies.now members.now ≡ p }
-    requires accepted { Accepted p }
-    requires entry { Entered p root chunk (length out.old) }
-    ensures { Marked (cycle_risk_of_entry p root) out.new result }
+    requires accepted { let p : Project = read (table runtime dynamic bounds.now columns.now) importers.now kinds.now targets.now dependencies.now members.now in Accepted p }
+    requires entry { let p : Project = read (table runtime dynamic bounds.now columns.now) importers.now kinds.now targets.now dependencies.now members.now in Entered p root chunk (length out.old) }
+    ensures { let p : Project = read (table runtime dynamic bounds.now columns.now) importers.now kinds.now targets.now dependencies.now members.now in Marked (cycle_risk_of_entry p root) out.new result }
 {
     let n = out.len();
     let mut eligibles = [0u32; MODULE_LIMIT];

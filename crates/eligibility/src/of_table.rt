@@ -22,10 +22,8 @@ pub fn mark_table_eligible<'a>(
     members: &'a [u32],
     marks: &mut [u32],
 )
-    ghost p: { Project }
-    requires project { read (table runtime dynamic bounds.now columns.now) importers.now kinds.now targets.now dependencies.now members.now ≡ p }
-    requires places { Places p (modules p) (length marks.old) }
-    ensures { marks.new ≡ eligible_marks p }
+    requires places { let p : Project = read (table runtime dynamic bounds.now columns.now) importers.now kinds.now targets.now dependencies.now members.now in Places p (modules p) (length marks.old) }
+    ensures { let p : Project = read (table runtime dynamic bounds.now columns.now) importers.now kinds.now targets.now dependencies.now members.now in marks.new ≡ eligible_marks p }
 {
     mark_eligible(
         column(bounds, columns, NORMAL),

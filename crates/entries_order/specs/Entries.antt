@@ -1,6 +1,7 @@
 -- The expected order of a list of entries, over the columns that it reads.
 -- Assumes nothing.
-use Rattle.std.specs.Prelude.{ℕ, Bool, ◌&&◌, List, length}
+use Rattle.std.specs.Prelude.{ℕ, Bool, ◌&&◌, length}
+use mathlib.Core.List.{List}
 use Rattle.lists.specs.Words.{keep}
 use Rattle.walk.specs.Walk.{everywhere, post_order}
 use Rattle.tables.specs.Readings.{is_normal, flagged}

@@ -108,10 +108,8 @@ pub fn list_entries<'a>(
     entries: &[u32],
     order: &mut [u32],
 ) -> usize
-    ghost p: { Project }
-    requires project { read (table runtime dynamic bounds.now columns.now) importers.now kinds.now targets.now dependencies.now members.now ≡ p }
-    requires entered { Entered p entries.now (length order.old) }
-    ensures { Written (expected_of_entries p entries.now) order.old order.new result }
+    requires entered { let p : Project = read (table runtime dynamic bounds.now columns.now) importers.now kinds.now targets.now dependencies.now members.now in Entered p entries.now (length order.old) }
+    ensures { let p : Project = read (table runtime dynamic bounds.now columns.now) importers.now kinds.now targets.now dependencies.now members.now in Written (expected_of_entries p entries.now) order.old order.new result }
 {
     expected_order_for_entries(
         column(bounds, columns, NORMAL),

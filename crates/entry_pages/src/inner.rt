@@ -33,10 +33,8 @@ fn list_marked_expected<'a>(
     out: &mut [u32],
     root: u32,
 ) -> usize
-    ghost p: { Project }
-    requires project { read (table runtime dynamic bounds.now columns.now) importers.now kinds.now targets.now dependencies.now members.now ≡ p }
-    requires keeping { Keeping p root (length marks.now) (length out.old) }
-    ensures { Listed (keep (has marks.now) (expected_of p root)) out.old out.new result }
+    requires keeping { let p : Project = read (table runtime dynamic bounds.now columns.now) importers.now kinds.now targets.now dependencies.now members.now in Keeping p root (length marks.now) (length out.old) }
+    ensures { let p : Project = read (table runtime dynamic bounds.now columns.now) importers.now kinds.now targets.now dependencies.now members.now in Listed (keep (has marks.now) (expected_of p root)) out.old out.new result }
 {
     let n = marks.len();
     let mut met = [0u32; MODULE_LIMIT];
@@ -74,10 +72,8 @@ fn list_marked_actual<'a>(
     root: u32,
     chunk: u32,
 ) -> usize
-    ghost p: { Project }
-    requires project { read (table runtime dynamic bounds.now columns.now) importers.now kinds.now targets.now dependencies.now members.now ≡ p }
-    requires keeping { Keeping p root (length marks.now) (length out.old) × Entry p root chunk }
-    ensures { Listed (keep (has marks.now) (actual_of p root)) out.old out.new result }
+    requires keeping { let p : Project = read (table runtime dynamic bounds.now columns.now) importers.now kinds.now targets.now dependencies.now members.now in Keeping p root (length marks.now) (length out.old) × Entry p root chunk }
+    ensures { let p : Project = read (table runtime dynamic bounds.now columns.now) importers.now kinds.now targets.now dependencies.now members.now in Listed (keep (has marks.now) (actual_of p root)) out.old out.new result }
 {
     let n = marks.len();
     let mut order = [0u32; MODULE_LIMIT];
@@ -117,11 +113,9 @@ pub fn put_entry_page<'a>(
     root: u32,
     chunk: u32,
 ) -> usize
-    ghost p: { Project }
-    requires project { read (table runtime dynamic bounds.now columns.now) importers.now kinds.now targets.now dependencies.now members.now ≡ p }
-    requires entry { Entering p root chunk (length sensitives.now) (length plan.now) }
+    requires entry { let p : Project = read (table runtime dynamic bounds.now columns.now) importers.now kinds.now targets.now dependencies.now members.now in Entering p root chunk (length sensitives.now) (length plan.now) }
     requires room { 41 * length plan.now ≤ length out.old }
-    ensures { PutAt out.old 0 (marked_page p sensitives.now plan.now root) out.new result }
+    ensures { let p : Project = read (table runtime dynamic bounds.now columns.now) importers.now kinds.now targets.now dependencies.now members.now in PutAt out.old 0 (marked_page p sensitives.now plan.now root) out.new result }
 {
     let mut expected = [0u32; MODULE_LIMIT];
     let first = list_marked_expected(
@@ -175,11 +169,9 @@ pub fn put_entry_line<'a>(
     chunk: u32,
     number: usize,
 ) -> usize
-    ghost p: { Project }
-    requires project { read (table runtime dynamic bounds.now columns.now) importers.now kinds.now targets.now dependencies.now members.now ≡ p }
-    requires entry { Entering p root chunk (length sensitives.now) (length plan.now) }
+    requires entry { let p : Project = read (table runtime dynamic bounds.now columns.now) importers.now kinds.now targets.now dependencies.now members.now in Entering p root chunk (length sensitives.now) (length plan.now) }
     requires room { 41 ≤ length out.old }
-    ensures { PutAt out.old 0 (marked_line p sensitives.now plan.now root number) out.new result }
+    ensures { let p : Project = read (table runtime dynamic bounds.now columns.now) importers.now kinds.now targets.now dependencies.now members.now in PutAt out.old 0 (marked_line p sensitives.now plan.now root number) out.new result }
 {
     let mut expected = [0u32; MODULE_LIMIT];
     let first = list_marked_expected(

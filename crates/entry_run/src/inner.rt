@@ -84,11 +84,9 @@ pub fn list_prepared<'a>(
     root: u32,
     chunk: u32,
 ) -> usize
-    ghost p: { Project }
-    requires project { read (table runtime dynamic bounds.now columns.now) importers.now kinds.now targets.now dependencies.now members.now ≡ p }
-    requires prepared { PreparedSome p prepared.now }
-    requires places { Listing p root chunk (length order.old) (length hosts.old) }
-    ensures { ListedAs p prepared.now root order.old order.new hosts.new result }
+    requires prepared { let p : Project = read (table runtime dynamic bounds.now columns.now) importers.now kinds.now targets.now dependencies.now members.now in PreparedSome p prepared.now }
+    requires places { let p : Project = read (table runtime dynamic bounds.now columns.now) importers.now kinds.now targets.now dependencies.now members.now in Listing p root chunk (length order.old) (length hosts.old) }
+    ensures { let p : Project = read (table runtime dynamic bounds.now columns.now) importers.now kinds.now targets.now dependencies.now members.now in ListedAs p prepared.now root order.old order.new hosts.new result }
 {
     let modules = hosts.len();
     let chunks = rows(bounds, columns, ORDER);
@@ -136,11 +134,9 @@ pub fn list_actual<'a>(
     root: u32,
     chunk: u32,
 ) -> usize
-    ghost p: { Project }
-    requires project { read (table runtime dynamic bounds.now columns.now) importers.now kinds.now targets.now dependencies.now members.now ≡ p }
-    requires prepared { Prepared p prepared.now }
-    requires places { Listing p root chunk (length order.old) (length hosts.old) }
-    ensures { Listed (run_of p p.wrap root) order.old order.new hosts.new result }
+    requires prepared { let p : Project = read (table runtime dynamic bounds.now columns.now) importers.now kinds.now targets.now dependencies.now members.now in Prepared p prepared.now }
+    requires places { let p : Project = read (table runtime dynamic bounds.now columns.now) importers.now kinds.now targets.now dependencies.now members.now in Listing p root chunk (length order.old) (length hosts.old) }
+    ensures { let p : Project = read (table runtime dynamic bounds.now columns.now) importers.now kinds.now targets.now dependencies.now members.now in Listed (run_of p p.wrap root) order.old order.new hosts.new result }
 {
     list_prepared(
         runtime,
@@ -227,11 +223,9 @@ pub fn arrange_and_list<'a>(
     root: u32,
     chunk: u32,
 ) -> usize
-    ghost p: { Project }
-    requires project { read (table runtime dynamic bounds.now columns.now) importers.now kinds.now targets.now dependencies.now members.now ≡ p }
-    requires names { names_in (modules p) names.now ≡ true }
-    requires places { Listing p root chunk (length order.old) (length hosts.old) }
-    ensures { Listed (run_of (named p names.now) (named p names.now).wrap root) order.old order.new hosts.new result }
+    requires names { let p : Project = read (table runtime dynamic bounds.now columns.now) importers.now kinds.now targets.now dependencies.now members.now in names_in (modules p) names.now ≡ true }
+    requires places { let p : Project = read (table runtime dynamic bounds.now columns.now) importers.now kinds.now targets.now dependencies.now members.now in Listing p root chunk (length order.old) (length hosts.old) }
+    ensures { let p : Project = read (table runtime dynamic bounds.now columns.now) importers.now kinds.now targets.now dependencies.now members.now in Listed (run_of (named p names.now) (named p names.now).wrap root) order.old order.new hosts.new result }
 {
     let rows = members.len();
     let mut arranged = [0u32; ROW_LIMIT];

@@ -66,10 +66,8 @@ pub fn list_expected<'a>(
     order: &mut [u32],
     root: u32,
 ) -> usize
-    ghost p: { Project }
-    requires project { read (table runtime dynamic bounds.now columns.now) importers.now kinds.now targets.now dependencies.now members.now ≡ p }
-    requires rooted { Rooted p root (length marks.old) (length order.old) }
-    ensures { Listed (expected_of p root) marks.old order.old marks.new order.new result }
+    requires rooted { let p : Project = read (table runtime dynamic bounds.now columns.now) importers.now kinds.now targets.now dependencies.now members.now in Rooted p root (length marks.old) (length order.old) }
+    ensures { let p : Project = read (table runtime dynamic bounds.now columns.now) importers.now kinds.now targets.now dependencies.now members.now in Listed (expected_of p root) marks.old order.old marks.new order.new result }
 {
     expected_order_for_root(
         column(bounds, columns, NORMAL),

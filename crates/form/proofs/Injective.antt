@@ -32,6 +32,14 @@ sections-once (m ∷ ns) ((c ∷ a) ∷ cs) ((d ∷ b) ∷ bs) x y n (more l r) 
     (sym (append_assoc (section m (c ∷ a)) (sections ns cs) x) ∙ q ∙ append_assoc (section m (d ∷ b)) (sections ns bs) y) in
     let i = sections-once ns cs bs x y (omega arith) r ha.1 hb.1 o.1 in
     (ap₂ (λ (h : List (List ℕ)) (t : List (List (List ℕ))). h ∷ t) o.0 i.0, i.1)
+sections-once [] [] (_ ∷ bs) x y n l ea eb q = elim l [ ]
+sections-once [] ([] ∷ cs) bs x y n l ea eb q = elim l [ ]
+sections-once [] ((c ∷ a) ∷ cs) [] x y n l ea eb q = elim l [ ]
+sections-once [] ((c ∷ a) ∷ cs) ([] ∷ bs) x y n l ea eb q = elim l [ ]
+sections-once (m ∷ ns) [] (_ ∷ bs) x y n l ea eb q = elim l [ ]
+sections-once (m ∷ ns) ([] ∷ cs) bs x y n l ea eb q = elim l [ ]
+sections-once (m ∷ ns) ((c ∷ a) ∷ cs) [] x y n l ea eb q = elim l [ ]
+sections-once (m ∷ ns) ((c ∷ a) ∷ cs) ([] ∷ bs) x y n l ea eb q = elim l [ ]
 
 -- the lists of any two projects are as many and as wide
 pub lists-alike : (p q : Project) → Alike (lists p) (lists q)

@@ -23,10 +23,8 @@ pub fn mark_grounds<'a>(
     members: &'a [u32],
     marks: &mut [u32],
 ) -> usize
-    ghost p: { Project }
-    requires project { read (table runtime dynamic bounds.now columns.now) importers.now kinds.now targets.now dependencies.now members.now ≡ p }
-    requires places { Places p (modules p) (length marks.old) }
-    ensures { (marks.new ≡ grounds_of p) × (result ≡ ones (grounds_of p)) }
+    requires places { let p : Project = read (table runtime dynamic bounds.now columns.now) importers.now kinds.now targets.now dependencies.now members.now in Places p (modules p) (length marks.old) }
+    ensures { let p : Project = read (table runtime dynamic bounds.now columns.now) importers.now kinds.now targets.now dependencies.now members.now in (marks.new ≡ grounds_of p) × (result ≡ ones (grounds_of p)) }
 {
     mark_table_sensitive(
         runtime,

@@ -24,10 +24,8 @@ pub fn list_circles<'a>(
     paths: &mut [u32],
     lengths: &mut [u32],
 ) -> Answer
-    ghost p: { Project }
-    requires project { read (table runtime dynamic bounds.now columns.now) importers.now kinds.now targets.now dependencies.now members.now ≡ p }
-    requires accepted { Accepted p }
-    ensures { Gathered (circles_of p) paths.old lengths.old result paths.new lengths.new }
+    requires accepted { let p : Project = read (table runtime dynamic bounds.now columns.now) importers.now kinds.now targets.now dependencies.now members.now in Accepted p }
+    ensures { let p : Project = read (table runtime dynamic bounds.now columns.now) importers.now kinds.now targets.now dependencies.now members.now in Gathered (circles_of p) paths.old lengths.old result paths.new lengths.new }
 {
     gather_circles(
         column(bounds, columns, NORMAL),

@@ -78,11 +78,9 @@ pub fn list_edges<'a>(
     from: &mut [u32],
     to: &mut [u32],
 ) -> usize
-    ghost p: { Project }
-    requires project { read (table runtime dynamic bounds.now columns.now) importers.now kinds.now targets.now dependencies.now members.now ≡ p }
-    requires from { Room p row_limit (length from.old) }
-    requires to { Room p row_limit (length to.old) }
-    ensures { EdgesOf p from.new to.new result }
+    requires from { let p : Project = read (table runtime dynamic bounds.now columns.now) importers.now kinds.now targets.now dependencies.now members.now in Room p row_limit (length from.old) }
+    requires to { let p : Project = read (table runtime dynamic bounds.now columns.now) importers.now kinds.now targets.now dependencies.now members.now in Room p row_limit (length to.old) }
+    ensures { let p : Project = read (table runtime dynamic bounds.now columns.now) importers.now kinds.now targets.now dependencies.now members.now in EdgesOf p from.new to.new result }
 {
     import_edges(
         column(bounds, columns, NORMAL),

@@ -57,13 +57,11 @@ pub fn pass_importers<'a>(
     leads: &mut [u32],
     plan: &mut [u32],
 ) -> bool
-    ghost p: { Project }
-    requires project { read (table runtime dynamic bounds.now columns.now) importers.now kinds.now targets.now dependencies.now members.now ≡ p }
-    requires sets { CandidateSet p candidates.now }
-    requires edges { Edged p from.now to.now heads.now nexts.now }
-    requires plan { Marked p plan.old }
-    requires leads { Leading p leads.old plan.old }
-    ensures { ImportPassed p plan.old leads.new plan.new result }
+    requires sets { let p : Project = read (table runtime dynamic bounds.now columns.now) importers.now kinds.now targets.now dependencies.now members.now in CandidateSet p candidates.now }
+    requires edges { let p : Project = read (table runtime dynamic bounds.now columns.now) importers.now kinds.now targets.now dependencies.now members.now in Edged p from.now to.now heads.now nexts.now }
+    requires plan { let p : Project = read (table runtime dynamic bounds.now columns.now) importers.now kinds.now targets.now dependencies.now members.now in Marked p plan.old }
+    requires leads { let p : Project = read (table runtime dynamic bounds.now columns.now) importers.now kinds.now targets.now dependencies.now members.now in Leading p leads.old plan.old }
+    ensures { let p : Project = read (table runtime dynamic bounds.now columns.now) importers.now kinds.now targets.now dependencies.now members.now in ImportPassed p plan.old leads.new plan.new result }
 {
     close_static_importers(
         from,

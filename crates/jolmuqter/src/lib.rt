@@ -1,4 +1,4 @@
-// The operations for C and Rust, on a project that is lent as a table. The answers are numbers, as `answer_codes` says.
+// The operations for C and Rust, on a project that is lent as a table. The answers are numbers, as `answer_codes` says. `jolmuqter_c` exports them.
 #![tactic(auto)]
 
 ghost use Rattle.std.specs.Prelude.{◌≡◌, []};
@@ -14,8 +14,7 @@ use refusal::refusal_number;
 use table::{RECORD_KIND, RECORD_MODULE, RECORD_TARGET, column};
 
 // The number of each module, and the sorted list.
-#[unsafe(no_mangle)]
-pub extern "C" fn jolmuqter_sort_modules<'a>(
+pub fn jolmuqter_sort_modules<'a>(
     runtime: u32,
     dynamic: u32,
     bounds: &'a [u32],
@@ -30,8 +29,7 @@ pub extern "C" fn jolmuqter_sort_modules<'a>(
 }
 
 // The import circles: the paths one after the other, and their lengths.
-#[unsafe(no_mangle)]
-pub extern "C" fn jolmuqter_import_circles<'a>(
+pub fn jolmuqter_import_circles<'a>(
     runtime: u32,
     dynamic: u32,
     bounds: &'a [u32],
@@ -46,8 +44,7 @@ pub extern "C" fn jolmuqter_import_circles<'a>(
 }
 
 // The expected order of any module row.
-#[unsafe(no_mangle)]
-pub extern "C" fn jolmuqter_expected_order<'a>(
+pub fn jolmuqter_expected_order<'a>(
     runtime: u32,
     dynamic: u32,
     bounds: &'a [u32],
@@ -62,8 +59,7 @@ pub extern "C" fn jolmuqter_expected_order<'a>(
 }
 
 // The expected order of any module rows, walked together.
-#[unsafe(no_mangle)]
-pub extern "C" fn jolmuqter_entries_order<'a>(
+pub fn jolmuqter_entries_order<'a>(
     runtime: u32,
     dynamic: u32,
     bounds: &'a [u32],
@@ -78,8 +74,7 @@ pub extern "C" fn jolmuqter_entries_order<'a>(
 }
 
 // The actual order of an analysed entry, and the hosts.
-#[unsafe(no_mangle)]
-pub extern "C" fn jolmuqter_actual_order<'a>(
+pub fn jolmuqter_actual_order<'a>(
     runtime: u32,
     dynamic: u32,
     bounds: &'a [u32],
@@ -95,8 +90,7 @@ pub extern "C" fn jolmuqter_actual_order<'a>(
 }
 
 // The label of each chunk.
-#[unsafe(no_mangle)]
-pub extern "C" fn jolmuqter_labels<'a>(
+pub fn jolmuqter_labels<'a>(
     runtime: u32,
     dynamic: u32,
     bounds: &'a [u32],
@@ -110,8 +104,7 @@ pub extern "C" fn jolmuqter_labels<'a>(
 }
 
 // Whether a chunk reaches a cyclic one.
-#[unsafe(no_mangle)]
-pub extern "C" fn jolmuqter_chunk_reach<'a>(
+pub fn jolmuqter_chunk_reach<'a>(
     runtime: u32,
     dynamic: u32,
     bounds: &'a [u32],
@@ -125,8 +118,7 @@ pub extern "C" fn jolmuqter_chunk_reach<'a>(
 }
 
 // The order risk of an analysed entry.
-#[unsafe(no_mangle)]
-pub extern "C" fn jolmuqter_order_risk<'a>(
+pub fn jolmuqter_order_risk<'a>(
     runtime: u32,
     dynamic: u32,
     bounds: &'a [u32],
@@ -141,8 +133,7 @@ pub extern "C" fn jolmuqter_order_risk<'a>(
 }
 
 // The cycle risk of an analysed entry.
-#[unsafe(no_mangle)]
-pub extern "C" fn jolmuqter_cycle_risk<'a>(
+pub fn jolmuqter_cycle_risk<'a>(
     runtime: u32,
     dynamic: u32,
     bounds: &'a [u32],
@@ -157,8 +148,7 @@ pub extern "C" fn jolmuqter_cycle_risk<'a>(
 }
 
 // The plan from lent seeds.
-#[unsafe(no_mangle)]
-pub extern "C" fn jolmuqter_plan_from_seeds<'a>(
+pub fn jolmuqter_plan_from_seeds<'a>(
     runtime: u32,
     dynamic: u32,
     bounds: &'a [u32],
@@ -173,8 +163,7 @@ pub extern "C" fn jolmuqter_plan_from_seeds<'a>(
 }
 
 // The same by a worklist.
-#[unsafe(no_mangle)]
-pub extern "C" fn jolmuqter_plan_by_worklist<'a>(
+pub fn jolmuqter_plan_by_worklist<'a>(
     runtime: u32,
     dynamic: u32,
     bounds: &'a [u32],
@@ -189,8 +178,7 @@ pub extern "C" fn jolmuqter_plan_by_worklist<'a>(
 }
 
 // That worklist: its modules in the order in which they are taken, and how many are listed after each number of takings.
-#[unsafe(no_mangle)]
-pub extern "C" fn jolmuqter_takings_from_seeds<'a>(
+pub fn jolmuqter_takings_from_seeds<'a>(
     runtime: u32,
     dynamic: u32,
     bounds: &'a [u32],
@@ -208,8 +196,7 @@ pub extern "C" fn jolmuqter_takings_from_seeds<'a>(
 }
 
 // Whether a plan made elsewhere is accepted with these seeds, or what it breaks first.
-#[unsafe(no_mangle)]
-pub extern "C" fn jolmuqter_check_plan<'a>(
+pub fn jolmuqter_check_plan<'a>(
     runtime: u32,
     dynamic: u32,
     bounds: &'a [u32],
@@ -224,8 +211,7 @@ pub extern "C" fn jolmuqter_check_plan<'a>(
 }
 
 // The plan of the whole analysis.
-#[unsafe(no_mangle)]
-pub extern "C" fn jolmuqter_plan<'a>(
+pub fn jolmuqter_plan<'a>(
     runtime: u32,
     dynamic: u32,
     bounds: &'a [u32],
@@ -239,8 +225,7 @@ pub extern "C" fn jolmuqter_plan<'a>(
 }
 
 // The ground of each module's sensitivity.
-#[unsafe(no_mangle)]
-pub extern "C" fn jolmuqter_grounds<'a>(
+pub fn jolmuqter_grounds<'a>(
     runtime: u32,
     dynamic: u32,
     bounds: &'a [u32],
@@ -254,8 +239,7 @@ pub extern "C" fn jolmuqter_grounds<'a>(
 }
 
 // The share of the eligible modules that are planned.
-#[unsafe(no_mangle)]
-pub extern "C" fn jolmuqter_share<'a>(
+pub fn jolmuqter_share<'a>(
     runtime: u32,
     dynamic: u32,
     bounds: &'a [u32],
@@ -269,8 +253,7 @@ pub extern "C" fn jolmuqter_share<'a>(
 }
 
 // The page of an analysed entry, by grounds and a plan that were made before.
-#[unsafe(no_mangle)]
-pub extern "C" fn jolmuqter_entry_page<'a>(
+pub fn jolmuqter_entry_page<'a>(
     runtime: u32,
     dynamic: u32,
     bounds: &'a [u32],
@@ -289,8 +272,7 @@ pub extern "C" fn jolmuqter_entry_page<'a>(
 }
 
 // One line of an analysed entry's page, by its number from 0.
-#[unsafe(no_mangle)]
-pub extern "C" fn jolmuqter_page_line<'a>(
+pub fn jolmuqter_page_line<'a>(
     runtime: u32,
     dynamic: u32,
     bounds: &'a [u32],
@@ -306,8 +288,7 @@ pub extern "C" fn jolmuqter_page_line<'a>(
 }
 
 // The members of each chunk as `sort_chunk_modules` arranges them, at the chunk's member rows.
-#[unsafe(no_mangle)]
-pub extern "C" fn jolmuqter_sort_chunk_modules<'a>(
+pub fn jolmuqter_sort_chunk_modules<'a>(
     runtime: u32,
     dynamic: u32,
     bounds: &'a [u32],
@@ -321,8 +302,7 @@ pub extern "C" fn jolmuqter_sort_chunk_modules<'a>(
 }
 
 // A step of an analysed entry's load with a plan, by its number from 0.
-#[unsafe(no_mangle)]
-pub extern "C" fn jolmuqter_load_step<'a>(
+pub fn jolmuqter_load_step<'a>(
     runtime: u32,
     dynamic: u32,
     bounds: &'a [u32],
@@ -338,8 +318,7 @@ pub extern "C" fn jolmuqter_load_step<'a>(
 }
 
 // All steps of an analysed entry's load with a plan: their modules, and their hosts.
-#[unsafe(no_mangle)]
-pub extern "C" fn jolmuqter_load_run<'a>(
+pub fn jolmuqter_load_run<'a>(
     runtime: u32,
     dynamic: u32,
     bounds: &'a [u32],
@@ -358,8 +337,7 @@ pub extern "C" fn jolmuqter_load_run<'a>(
 }
 
 // The test of the tables alone: 0 if every operation would go on.
-#[unsafe(no_mangle)]
-pub extern "C" fn jolmuqter_refusal<'a>(
+pub fn jolmuqter_refusal<'a>(
     runtime: u32,
     dynamic: u32,
     bounds: &'a [u32],

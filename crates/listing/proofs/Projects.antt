@@ -36,6 +36,11 @@ shaped-alike [] [] [] no-list no-list = form.Alike.none
 shaped-alike (w ∷ ws) ([] ∷ cs) (d ∷ ds) (a-list h l s) (a-list g m r) = absurd (omega arith)
 shaped-alike (w ∷ ws) ((c ∷ a) ∷ cs) ([] ∷ ds) (a-list h l s) (a-list g m r) = absurd (omega arith)
 shaped-alike (w ∷ ws) ((c ∷ a) ∷ cs) ((d ∷ b) ∷ ds) (a-list h l s) (a-list g m r) = let e : length a ≡ length b = omega arith in form.Alike.more e (shaped-alike ws cs ds s r)
+shaped-alike [] [] (d ∷ ds) _ never = elim never [ ]
+shaped-alike [] (_ ∷ cs) ds never _ = elim never [ ]
+shaped-alike (w ∷ ws) [] ds never _ = elim never [ ]
+shaped-alike (w ∷ ws) ([] ∷ cs) [] _ never = elim never [ ]
+shaped-alike (w ∷ ws) ((c ∷ a) ∷ cs) [] _ never = elim never [ ]
 
 lists-shaped : (p : Project) → Shaped widths (lists p)
 lists-shaped p =
@@ -62,6 +67,8 @@ shaped-positive (a-list h l s) = over h (shaped-positive s)
 shaped-count : (ws : List ℕ) (cs : List (List (List ℕ))) → Shaped ws cs → length cs ≡ length ws
 shaped-count [] [] no-list = refl
 shaped-count (w ∷ ws) (c ∷ cs) (a-list h l t) = ap suc (shaped-count ws cs t)
+shaped-count [] (c ∷ cs) never = elim never [ ]
+shaped-count (w ∷ ws) [] never = elim never [ ]
 
 -- each list spelt out: the i-th and those behind it
 abbrev spelt : ℕ → List ℕ → List (List (List ℕ)) → List (List (List ℕ))
@@ -86,6 +93,8 @@ spelt-out i (w ∷ ws) cs (d ∷ ds) (a-list h l s) e =
 
     others : ds ≡ drop (suc i) cs
     others = cc cons
+spelt-out i [] cs (d ∷ ds) never e = elim never [ ]
+spelt-out i (w ∷ ws) cs [] never e = elim never [ ]
 
 single : (x : List ℕ) → length x ≡ 1 → get_or x 0 0 ∷ [] ≡ x
 single [] l = absurd (omega arith)
@@ -103,6 +112,7 @@ lists_of cs s e one =
       where
         first : (cs : List (List (List ℕ))) → Shaped widths cs → every even cs ≡ true → (k : ℕ) → k < 2 → length (get_or (get_or cs 0 []) k []) ≡ row_count (get_or cs 0 [])
         first (c ∷ cs) (a-list h l s) e k g = column-length c (every-head even c cs e).0 k (omega arith)
+        first [] never e k g = elim never [ ]
 
 -- columns of one length
 flat-size : (n : ℕ) (c : List (List ℕ)) → ((k : ℕ) → k < length c → length (get_or c k []) ≡ n) → length (flatten c) ≡ length c * n
@@ -132,6 +142,8 @@ same_size (w ∷ ws) (c ∷ cs) (a-list h l s) e =
     ∙ ap₂ ◌+◌ one (same_size ws cs s f.1)
     ∙ sym (length-append (flatten c) (flatten (flatten cs)))
     ∙ ap length (sym (flatten-append c (flatten cs)))
+same_size [] (c ∷ cs) never e = elim never [ ]
+same_size (w ∷ ws) [] never e = elim never [ ]
 
 -- a list of two columns and one row
 settled : (c : List (List ℕ)) → length c ≡ 2 → row_count c ≡ 1 → row_values c ≡ get_or (get_or c 0 []) 0 0 ∷ get_or (get_or c 1 []) 0 0 ∷ []
@@ -164,6 +176,7 @@ behind (c ∷ cs) (a-list h l s) e one post =
       climbs = λ limit n. stops-climb 2 (map row_values cs) limit (omega arith);
       columns = cut-columns (drop 1 widths) cs 2 (x ∷ y ∷ []) post s f.1 refl;
     })
+behind [] never e one post = elim never [ ]
 
 -- a list over which as long a one is stored
 over-whole : (l xs : List ℕ) → length xs ≡ length l → sets l 0 xs ≡ xs
@@ -225,6 +238,7 @@ module _ (s d e : List ℕ) (at k : ℕ) (d' e' : List ℕ) (a : AllRead s heads
         second : (n : ℕ) (cs : List (List (List ℕ))) → Shaped (drop 1 widths) cs → every even cs ≡ true
             → get_or (stops n (map row_values cs)) 0 0 ≡ n + row_count (get_or cs 0 []) * 8
         second n (c ∷ cs) (a-list h l t) f = ap (λ (k : ℕ). n + k) (list-size 8 c l (every-head even c cs f).0)
+        second n [] never f = elim never [ ]
 
         first : (cs : List (List (List ℕ))) → Shaped widths cs → every even cs ≡ true
             → (get_or (stops 0 (map row_values cs)) 0 0 ≡ row_count (get_or cs 0 []) * 2)
@@ -233,6 +247,7 @@ module _ (s d e : List ℕ) (at k : ℕ) (d' e' : List ℕ) (a : AllRead s heads
             let g = every-head even c cs f in
             let n : 0 + length (row_values c) ≡ row_count c * 2 = omega (arith, list-size 2 c l g.0) in
             (n, second (0 + length (row_values c)) cs t g.1 ∙ ap (λ (k : ℕ). k + row_count (get_or cs 0 []) * 8) n)
+        first [] never f = elim never [ ]
 
     -- not one row of settings
     pub read-unsettled : (get_or e' 0 0 ≡ 2 → ⊥) → (p : Project) (l : NameList) → RendersNamed s p l → ⊥

@@ -125,6 +125,10 @@ all-wholes (m ∷ ns) (w ∷ ws) (c ∷ cs) n (a-list h l s) e =
     let f = every-head even c cs e in
     let i = all-wholes ns ws cs (omega arith) s f.1 in
     (specs.Wholes.more (to_whole w h c l f.0) i.0, ap₂ ◌++◌ (to-text w h m c l f.0) i.1)
+all-wholes [] [] (c ∷ cs) n never e = elim never [ ]
+all-wholes [] (w ∷ ws) [] n never e = elim never [ ]
+all-wholes (m ∷ ns) [] (c ∷ cs) n never e = elim never [ ]
+all-wholes (m ∷ ns) (w ∷ ws) [] n never e = elim never [ ]
 
 pub data Positive : List ℕ → Type 0 where
   all : Positive []
@@ -182,6 +186,8 @@ cut-columns (w ∷ ws) (c ∷ cs) p pre post (a-list h l s) e q =
         ∙ rows-stripes w (rows_of c) t p pre rest q
         ∙ ap (λ (n : ℕ). transpose n (rows_of c)) (sym l)
         ∙ even-columns c f.0
+cut-columns [] (c ∷ cs) p pre post never e q = elim never [ ]
+cut-columns (w ∷ ws) [] p pre post never e q = elim never [ ]
 
 pub stops-climb : (p : ℕ) (vss : List (List ℕ)) (limit : ℕ) → p + length (flatten vss) ≤ limit → Climbs p (stops p vss) limit
 unfolding stops flatten

@@ -36,7 +36,8 @@ pub fn read(
     let Cursor::On(at, k) = c else {
         return Reading::Refused(7);
     };
-    if ends[0] != 2 {
+    let one_row = ends[0] == 2;
+    if !one_row {
         return Reading::Refused(7);
     }
     let found = find_names(text, at, (ends[1] - 2) / 8);

@@ -7,11 +7,12 @@
 // many bytes the names have; few names are written behind it.
 #![tactic(auto)]
 
-use libc::{STDIN_FILENO, STDOUT_FILENO};
 use lines::{put_line, rising};
 use listing::{Reading, read};
 use parts::{first_of, part_of};
 use refusal::refusal_number;
+use std::io;
+use streams::read_full;
 use table::{COLUMNS, RECORD_KIND, RECORD_MODULE, RECORD_TARGET, column};
 use tables::Answer;
 
@@ -118,19 +119,20 @@ fn sum(at: usize, n: usize) -> usize {
 }
 
 // Writes the first n bytes.
-fn write_first(out: &[u8], n: usize) {
+fn write_first(rt: &impl Print, out: &[u8], n: usize) -> io::Result<()> {
     if n <= out.len() {
-        io::write_all(STDOUT_FILENO, &out[0..n]);
+        rt.write_all(&out[0..n])?;
     }
+    Ok(())
 }
 
-fn print(word: &[u8], entry: &[u32], numbers: &[u32]) {
+fn print(rt: &impl Print, word: &[u8], entry: &[u32], numbers: &[u32]) -> io::Result<()> {
     let mut out = [0u8; 256];
     let answer = put_line(&mut out, word, entry, numbers);
     let Answer::Counted(n) = answer else {
-        return;
+        return Ok(());
     };
-    write_first(&out, n);
+    write_first(rt, &out, n)
 }
 
 // The number of the project test.
@@ -156,13 +158,15 @@ fn size_of(part: &[u8]) -> u32 {
 }
 
 // Writes few names.
-fn write_names(names: &[u8]) {
+fn write_names(rt: &impl Print, names: &[u8]) -> io::Result<()> {
     if names.len() <= 256 {
-        io::write_all(STDOUT_FILENO, names);
+        rt.write_all(names)?;
     }
+    Ok(())
 }
 
 fn counted<'a>(
+    rt: &impl Print,
     case: u32,
     list: u32,
     k: usize,
@@ -170,28 +174,30 @@ fn counted<'a>(
     bounds: &'a [u32; COLUMNS + 1],
     columns: &'a [u32; 32768],
     names: &'a [u8],
-) {
+) -> io::Result<()> {
     if 32768 < k {
-        return;
+        return Ok(());
     }
     let number = tested(settings, bounds, first_of(columns, k), names);
     print(
+        rt,
         b"case",
         &[case, list],
         &[0, k as u32, number, size_of(names)],
-    );
-    write_names(names);
+    )?;
+    write_names(rt, names)
 }
 
 // Reads a text, and prints the answer.
-fn answer(case: u32, list: u32, text: &[u8]) {
+fn answer(rt: &impl Print, case: u32, list: u32, text: &[u8]) -> io::Result<()> {
     let mut settings = [0u32; 2];
     let mut bounds = [0u32; COLUMNS + 1];
     let mut columns = [0u32; 32768];
     let answer = read(text, &mut settings, &mut bounds, &mut columns);
     match answer {
-        Reading::Refused(number) => print(b"case", &[case, list], &[number]),
+        Reading::Refused(number) => print(rt, b"case", &[case, list], &[number]),
         Reading::Read(k, from, to) => counted(
+            rt,
             case,
             list,
             k,
@@ -226,73 +232,74 @@ fn put_pieces(text: &mut [u8], list: &[u8], at: usize, pieces: u32) -> Place {
 }
 
 // Reads the text that stands at `at`, and prints the answer. The place behind it.
-fn run_case(list: &[u8], at: usize) -> usize {
+fn run_case(rt: &impl Print, list: &[u8], at: usize) -> io::Result<usize> {
     let mut text = [0u8; 66000];
     let case = number(list, next_line(list, at));
     let changed = number(list, case.1);
     let pieces = number(list, changed.1);
     let done = put_pieces(&mut text, list, pieces.1, pieces.0);
-    answer(case.0, changed.0, first_bytes(&text, done.0));
-    done.1
+    answer(rt, case.0, changed.0, first_bytes(&text, done.0))?;
+    Ok(done.1)
 }
 
 // Runs all texts of the list.
-fn run_cases(list: &[u8]) {
+fn run_cases(rt: &impl Print, list: &[u8]) -> io::Result<()> {
     let many = number(list, 0);
     let mut at = many.1;
     let mut k = 0;
     while k < many.0 {
-        at = run_case(list, at);
+        at = run_case(rt, list, at)?;
         k += 1;
     }
+    Ok(())
 }
 
-fn line_answer(answer: Answer) {
+fn line_answer(rt: &impl Print, answer: Answer) -> io::Result<()> {
     match answer {
-        Answer::Refused(number) => print(b"refused", &[], &[number]),
-        Answer::Counted(_) => print(b"counted", &[], &[]),
+        Answer::Refused(number) => print(rt, b"refused", &[], &[number]),
+        Answer::Counted(_) => print(rt, b"counted", &[], &[]),
     }
 }
 
 // Prints what a line into this slice answers, and what stands there then.
-fn line_case(line: &mut [u8], numbers: &[u32]) {
-    line_answer(put_line(line, b"of", &[], numbers));
-    io::write_all(STDOUT_FILENO, line);
+fn line_case(rt: &impl Print, line: &mut [u8], numbers: &[u32]) -> io::Result<()> {
+    line_answer(rt, put_line(line, b"of", &[], numbers))?;
+    rt.write_all(line)
 }
 
 // A line of 8 bytes into slices of 8 and of 7.
-fn line_cases(numbers: &[u32]) {
+fn line_cases(rt: &impl Print, numbers: &[u32]) -> io::Result<()> {
     let mut long = [46u8; 8];
     let mut short = [46u8; 7];
-    line_case(&mut long, numbers);
-    line_case(&mut short, numbers);
-    print(b"", &[], &[]);
+    line_case(rt, &mut long, numbers)?;
+    line_case(rt, &mut short, numbers)?;
+    print(rt, b"", &[], &[])
 }
 
 // Prints what the members of a set into this slice answer, and what stands there then.
-fn rising_case(marks: &[u32], list: &mut [u32]) {
-    line_answer(rising(marks, list));
-    print(b"members", &[], list);
+fn rising_case(rt: &impl Print, marks: &[u32], list: &mut [u32]) -> io::Result<()> {
+    line_answer(rt, rising(marks, list))?;
+    print(rt, b"members", &[], list)
 }
 
 // The members of a set, with room and without.
-fn rising_cases(marks: &[u32]) {
+fn rising_cases(rt: &impl Print, marks: &[u32]) -> io::Result<()> {
     let mut list = [7u32; 4];
     let mut less = [7u32; 3];
-    rising_case(marks, &mut list);
-    rising_case(marks, &mut less);
+    rising_case(rt, marks, &mut list)?;
+    rising_case(rt, marks, &mut less)
 }
 
 // Runs the texts of the list on standard input.
-fn run_list() {
+fn run_list(rt: &(impl Input + Print)) -> io::Result<()> {
     let mut list = [0u8; 65536];
-    let n = io::read_full(STDIN_FILENO, &mut list);
-    run_cases(&list[..n]);
+    let n = read_full(&mut rt.reader(), &mut list)?;
+    run_cases(rt, &list[..n])
 }
 
-fn main() {
-    run_list();
-    line_cases(&[4294967295, 10]);
-    print(b"largest", &[4294967294], &[0, 9, 10, 99, 100]);
-    rising_cases(&[0, 1, 0, 2]);
+fn main(rt: HostRuntime) -> io::Result<()> {
+    run_list(&rt)?;
+    line_cases(&rt, &[4294967295, 10])?;
+    print(&rt, b"largest", &[4294967294], &[0, 9, 10, 99, 100])?;
+    rising_cases(&rt, &[0, 1, 0, 2])
 }

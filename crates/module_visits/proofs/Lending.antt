@@ -149,6 +149,13 @@ module _ (starts column : List ℕ) {A : Type 0} (act : A → ℕ → A) where
             (record { same = λ k z. visit-old succ everywhere act k s m (sym e.entered ∙ h) })))
             (both first.entered)
 
+-- between two visits, what a loop holds: it began with `marked` and what is pending at first, the counters h and what was made, x
+pub record Lending (starts column : List ℕ) {A X : Type 0} (act : A → ℕ → A) (mk : X → ℕ → A) (x : X) (h : ActualOrderTraversal) (m : ℕ) (marked : List ℕ) (first p : Pending) (t : ActualOrderTraversal) (ms : List ℕ) (xs : X) : Type 0 where
+  pub equal : t.next ≡ t.placed
+  pub entered : p.entered ≡ first.entered
+  pub end : p.end ≡ first.end
+  pub between : Between starts column act (record { marks = marked; made = mk x h.placed }) (cond first.entered (leads starts column m) []) (pending (named column) p) (record { marks = ms; made = mk xs t.placed })
+
 -- the visit with the counters lent: mk makes what is made of the slices and the placed count
 module _ (starts column : List ℕ) {A X : Type 0} (act : A → ℕ → A) (mk : X → ℕ → A)
     (marks : List ℕ) (x : X) (h : ActualOrderTraversal) (m : ℕ) (marked : List ℕ) (first : Pending) (e : Entered starts column marks m marked first) where
@@ -165,6 +172,12 @@ module _ (starts column : List ℕ) {A X : Type 0} (act : A → ℕ → A) (mk :
     pub entered : p.entered ≡ first.entered
     pub end : p.end ≡ first.end
     pub between : Between starts column act (record { marks = marked; made = mk x h.placed }) (cond first.entered (leads starts column m) []) (pending (named column) p) (record { marks = ms; made = mk xs t.placed })
+
+  abbrev pub lent-turn : (p : Pending) (t : ActualOrderTraversal) (ms : List ℕ) (xs : X) → Lending starts column act mk x h m marked first p t ms xs → Lent
+  lent-turn p t ms xs l = record { p = p; t = t; ms = ms; xs = xs; equal = l.equal; entered = l.entered; end = l.end; between = l.between }
+
+  abbrev pub lending : (s : Lent) → Lending starts column act mk x h m marked first s.p s.t s.ms s.xs
+  lending s = record { equal = s.equal; entered = s.entered; end = s.end; between = s.between }
 
   abbrev pub lent-start : h.next ≡ h.placed → Lent
   lent-start q = record { p = first; t = h; ms = marked; xs = x; equal = q; entered = refl; end = refl; between = between_start starts column act _ e.leads }

@@ -33,8 +33,14 @@ module _ (ways starts triggers member : List ℕ) (way : ℕ) where
   Says marks order hosts h marks' order' hosts' r =
       (foldl (hosted (leads starts triggers)) (executing marks order hosts h.placed) (keep (in_way way ways) member) ≡ executing marks' order' hosts' r.placed) × (r.next ≡ r.placed)
 
-  abbrev pub Seeks : List ℕ → ℕ → Type 0
-  Seeks marks row = (row ≤ length member) × (length ways ≡ length marks) × Below (length marks) member
+  -- between two executions, what a loop holds
+  pub record Going (marks order hosts : List ℕ) (h : ActualOrderTraversal) (p : Pending) (t : ActualOrderTraversal) (ms os hs : List ℕ) : Type 0 where
+    pub equal : t.next ≡ t.placed
+    pub end : p.end ≡ length member
+    pub row : p.row ≤ length member
+    pub done : List ℕ
+    pub parts : keep (in_way way ways) member ≡ done ++ pending (chosen way ways member) p
+    pub so_far : foldl (hosted (leads starts triggers)) (executing marks order hosts h.placed) done ≡ executing ms os hs t.placed
 
   module _ (marks order hosts : List ℕ) (h : ActualOrderTraversal) (within : Needs marks order hosts h) where
     abbrev from : St Filling
@@ -54,6 +60,12 @@ module _ (ways starts triggers member : List ℕ) (way : ℕ) where
       pub parts : keep (in_way way ways) member ≡ done ++ pending (chosen way ways member) p
       pub so_far : foldl (hosted (leads starts triggers)) (executing marks order hosts h.placed) done ≡ executing ms os hs t.placed
 
+    abbrev pub turn : (p : Pending) (t : ActualOrderTraversal) (ms os hs : List ℕ) → Going marks order hosts h p t ms os hs → Turn
+    turn p t ms os hs g = record { p = p; t = t; ms = ms; os = os; hs = hs; equal = g.equal; end = g.end; row = g.row; done = g.done; parts = g.parts; so_far = g.so_far }
+
+    abbrev pub going : (u : Turn) → Going marks order hosts h u.p u.t u.ms u.os u.hs
+    going u = record { equal = u.equal; end = u.end; row = u.row; done = u.done; parts = u.parts; so_far = u.so_far }
+
     pub all-rows : keep (in_way way ways) member ≡ flat_map (chosen way ways member) (count_from 0 (length member - 0))
     all-rows = ap (keep (in_way way ways)) (column-rows member) ∙ keep-flat (in_way way ways) (λ (row : ℕ). get_or member row 0 ∷ []) (count_from 0 (length member - 0))
 
@@ -72,9 +84,6 @@ module _ (ways starts triggers member : List ℕ) (way : ℕ) where
       so_far = met-hosts (leads starts triggers) from e.rest.over e.rest.met;
     }
 
-    pub first_fits : Seeks marks 0
-    first_fits = (omega arith, within.1, within.2)
-
     module _ (t : Turn) where
       abbrev now-at : St Filling
       now-at = executing t.ms t.os t.hs t.t.placed
@@ -90,9 +99,6 @@ module _ (ways starts triggers member : List ℕ) (way : ℕ) where
 
       pub same-hosts : length t.hs ≡ length hosts
       same-hosts = kept.hosts
-
-      pub seek-fits : (ms : List ℕ) → length ms ≡ length marks → Seeks ms t.p.row
-      seek-fits ms l = (t.row, within.1 ∙ sym l, subst (λ (n : ℕ). Below n member) (sym l) within.2)
 
       module _ (more : t.p.more ≡ true) where
         place_in : t.p.place < length marks

@@ -13,11 +13,15 @@ use Rattle.visit_steps.specs.inner.Steps.{Spans, named, leads, Filling, filling,
 use Rattle.visit_steps.proofs.Leading.{leads-inside}
 use Rattle.visit_steps.proofs.Filling.{fills-count, fills-order, fills-hosts}
 use Rattle.module_visits.specs.inner.Visits.{Ready, executing}
-use Rattle.module_visits.proofs.Lending.{Lent, lent-start, lent-marks, lent-keeps, lent-within, lent-room, lent_one, lent-falls, lent-leads, lent-next, lent-nearer, lent-end}
+use Rattle.module_visits.proofs.Lending.{Lent, Lending, lent-turn, lending, lent-start, lent-marks, lent-keeps, lent-within, lent-room, lent_one, lent-falls, lent-leads, lent-next, lent-nearer, lent-end}
 
 -- the order and the hosts, with a count
 abbrev made : List ℕ × List ℕ → ℕ → Filling
 made x n = filling x.0 x.1 n
+
+-- what a loop over what is pending keeps
+abbrev pub Going : List ℕ → List ℕ → List ℕ → List ℕ → ℕ → ℕ → ActualOrderTraversal → List ℕ → Pending → Pending → ActualOrderTraversal → List ℕ → List ℕ → List ℕ → Type 0
+Going starts triggers order hosts m host h marked first p t ms os hs = Lending starts triggers (fills host) made (order, hosts) h m marked first p t ms (os, hs)
 
 -- slices as long, and counters with room, are ready
 pub ready-still : {starts triggers marks order hosts : List ℕ} {h : ActualOrderTraversal} → Ready starts triggers marks order hosts h
@@ -39,9 +43,6 @@ module _ (starts triggers : List ℕ) where
   Says marks order hosts m host h marks' order' hosts' r =
       Visits (leads starts triggers) everywhere (fills host) (executing marks order hosts h.placed) (m ∷ []) (executing marks' order' hosts' r.placed) × (r.next ≡ r.placed)
 
-  abbrev pub MayEnter : List ℕ → ℕ → Type 0
-  MayEnter marks m = Spans starts (length triggers) (length marks) × BelowOrMissing (length marks) triggers × (m < length marks)
-
   abbrev pub Proceeds : List ℕ → Pending → Type 0
   Proceeds marks p = (p.end ≤ length triggers) × BelowOrMissing (length marks) triggers
 
@@ -52,12 +53,15 @@ module _ (starts triggers : List ℕ) where
   Leaves order hosts m host b h order' hosts' r = (filling order' hosts' r.placed ≡ cond b (fills host (filling order hosts h.placed) m) (filling order hosts h.placed)) × (r.next ≡ r.placed)
 
   module _ (marks order hosts : List ℕ) (m host : ℕ) (h : ActualOrderTraversal) (within : Needs marks order hosts m h) where
-    pub enter-fits : MayEnter marks m
-    enter-fits = (within.0.spans, within.0.inside, within.1)
-
     module _ (marked : List ℕ) (first : Pending) (e : Entered starts triggers marks m marked first) where
       abbrev pub Turn : Type 0
       Turn = Lent starts triggers (fills host) made marks (order, hosts) h m marked first e
+
+      abbrev pub turn : (p : Pending) (t : ActualOrderTraversal) (ms os hs : List ℕ) → Going starts triggers order hosts m host h marked first p t ms os hs → Turn
+      turn p t ms os hs g = lent-turn starts triggers (fills host) made marks (order, hosts) h m marked first e p t ms (os, hs) g
+
+      abbrev pub going : (u : Turn) → Going starts triggers order hosts m host h marked first u.p u.t u.ms u.xs.0 u.xs.1
+      going u = lending starts triggers (fills host) made marks (order, hosts) h m marked first e u
 
       abbrev pub start : Turn
       start = lent-start starts triggers (fills host) made marks (order, hosts) h m marked first e within.0.room.equal

@@ -40,7 +40,8 @@ pub fn find_names(text: &[u8], at: usize, modules: usize) -> Found
         return Found::Broken;
     }
     let to = text.len() - 1;
-    if text[to] != 10 {
+    let ended = text[to] == 10;
+    if !ended {
         return Found::Broken;
     }
     if names_fit(&text[from..to], modules) {

@@ -44,11 +44,9 @@ fn add_risks<'a>(
     eligibles: &'a [u32],
     out: &mut [u32],
 )
-    ghost p: { Project }
-    requires project { read (table runtime dynamic bounds.now columns.now) importers.now kinds.now targets.now dependencies.now members.now ≡ p }
-    requires roots { roots.now ≡ roots_of p }
-    requires made { Made p labels.now prepared.now sensitives.now eligibles.now (length out.old) }
-    ensures { out.new ≡ join out.old (risks_of p) }
+    requires roots { let p : Project = read (table runtime dynamic bounds.now columns.now) importers.now kinds.now targets.now dependencies.now members.now in roots.now ≡ roots_of p }
+    requires made { let p : Project = read (table runtime dynamic bounds.now columns.now) importers.now kinds.now targets.now dependencies.now members.now in Made p labels.now prepared.now sensitives.now eligibles.now (length out.old) }
+    ensures { let p : Project = read (table runtime dynamic bounds.now columns.now) importers.now kinds.now targets.now dependencies.now members.now in out.new ≡ join out.old (risks_of p) }
 {
     let count = roots.len();
     for k in 0..count {
@@ -103,10 +101,8 @@ fn mark_risks<'a>(
     eligibles: &'a [u32],
     out: &mut [u32],
 )
-    ghost p: { Project }
-    requires project { read (table runtime dynamic bounds.now columns.now) importers.now kinds.now targets.now dependencies.now members.now ≡ p }
-    requires made { Made p labels.now prepared.now sensitives.now eligibles.now (length out.old) }
-    ensures { out.new ≡ marks_of (risks_of p) (modules p) }
+    requires made { let p : Project = read (table runtime dynamic bounds.now columns.now) importers.now kinds.now targets.now dependencies.now members.now in Made p labels.now prepared.now sensitives.now eligibles.now (length out.old) }
+    ensures { let p : Project = read (table runtime dynamic bounds.now columns.now) importers.now kinds.now targets.now dependencies.now members.now in out.new ≡ marks_of (risks_of p) (modules p) }
 {
     let mut roots = [0u32; MODULE_LIMIT];
     let count = list_table_roots(
@@ -158,10 +154,8 @@ fn plan_risks<'a>(
     eligibles: &'a [u32],
     plan: &mut [u32],
 )
-    ghost p: { Project }
-    requires project { read (table runtime dynamic bounds.now columns.now) importers.now kinds.now targets.now dependencies.now members.now ≡ p }
-    requires made { Made p labels.now prepared.now sensitives.now eligibles.now (length plan.old) }
-    ensures { plan.new ≡ whole_plan p }
+    requires made { let p : Project = read (table runtime dynamic bounds.now columns.now) importers.now kinds.now targets.now dependencies.now members.now in Made p labels.now prepared.now sensitives.now eligibles.now (length plan.old) }
+    ensures { let p : Project = read (table runtime dynamic bounds.now columns.now) importers.now kinds.now targets.now dependencies.now members.now in plan.new ≡ whole_plan p }
 {
     mark_risks(
         runtime,
@@ -222,11 +216,9 @@ pub fn analyze<'a>(
     members: &'a [u32],
     plan: &mut [u32],
 ) -> usize
-    ghost p: { Project }
-    requires project { read (table runtime dynamic bounds.now columns.now) importers.now kinds.now targets.now dependencies.now members.now ≡ p }
-    requires places { Places p (modules p) (length plan.old) }
-    ensures plan { plan.new ≡ whole_plan p }
-    ensures count { result ≡ ones (whole_plan p) }
+    requires places { let p : Project = read (table runtime dynamic bounds.now columns.now) importers.now kinds.now targets.now dependencies.now members.now in Places p (modules p) (length plan.old) }
+    ensures plan { let p : Project = read (table runtime dynamic bounds.now columns.now) importers.now kinds.now targets.now dependencies.now members.now in plan.new ≡ whole_plan p }
+    ensures count { let p : Project = read (table runtime dynamic bounds.now columns.now) importers.now kinds.now targets.now dependencies.now members.now in result ≡ ones (whole_plan p) }
 {
     let n = plan.len();
     let chunks = rows(bounds, columns, ORDER);
@@ -315,12 +307,10 @@ pub fn analyze_named<'a>(
     members: &'a [u32],
     plan: &mut [u32],
 ) -> usize
-    ghost p: { Project }
-    requires project { read (table runtime dynamic bounds.now columns.now) importers.now kinds.now targets.now dependencies.now members.now ≡ p }
-    requires names { names_in (modules p) names.now ≡ true }
-    requires places { Places p (modules p) (length plan.old) }
-    ensures plan { plan.new ≡ whole_plan (named p names.now) }
-    ensures count { result ≡ ones (whole_plan (named p names.now)) }
+    requires names { let p : Project = read (table runtime dynamic bounds.now columns.now) importers.now kinds.now targets.now dependencies.now members.now in names_in (modules p) names.now ≡ true }
+    requires places { let p : Project = read (table runtime dynamic bounds.now columns.now) importers.now kinds.now targets.now dependencies.now members.now in Places p (modules p) (length plan.old) }
+    ensures plan { let p : Project = read (table runtime dynamic bounds.now columns.now) importers.now kinds.now targets.now dependencies.now members.now in plan.new ≡ whole_plan (named p names.now) }
+    ensures count { let p : Project = read (table runtime dynamic bounds.now columns.now) importers.now kinds.now targets.now dependencies.now members.now in result ≡ ones (whole_plan (named p names.now)) }
 {
     let rows = members.len();
     let mut arranged = [0u32; ROW_LIMIT];

@@ -36,11 +36,9 @@ fn add_marked_order_risk<'a>(
     root: u32,
     chunk: u32,
 )
-    ghost p: { Project }
-    requires project { read (table runtime dynamic bounds.now columns.now) importers.now kinds.now targets.now dependencies.now members.now ≡ p }
-    requires sets { Sets p sensitives.now eligibles.now }
-    requires entry { Entered p root chunk (length out.old) }
-    ensures { out.new ≡ join out.old (in_order_risk p root) }
+    requires sets { let p : Project = read (table runtime dynamic bounds.now columns.now) importers.now kinds.now targets.now dependencies.now members.now in Sets p sensitives.now eligibles.now }
+    requires entry { let p : Project = read (table runtime dynamic bounds.now columns.now) importers.now kinds.now targets.now dependencies.now members.now in Entered p root chunk (length out.old) }
+    ensures { let p : Project = read (table runtime dynamic bounds.now columns.now) importers.now kinds.now targets.now dependencies.now members.now in out.new ≡ join out.old (in_order_risk p root) }
 {
     let n = out.len();
     let mut marks = [0u32; MODULE_LIMIT];
@@ -107,11 +105,9 @@ pub fn mark_order_risk<'a>(
     root: u32,
     chunk: u32,
 ) -> usize
-    ghost p: { Project }
-    requires project { read (table runtime dynamic bounds.now columns.now) importers.now kinds.now targets.now dependencies.now members.now ≡ p }
-    requires accepted { Accepted p }
-    requires entry { Entered p root chunk (length out.old) }
-    ensures { Marked (order_risk_of_entry p root) out.new result }
+    requires accepted { let p : Project = read (table runtime dynamic bounds.now columns.now) importers.now kinds.now targets.now dependencies.now members.now in Accepted p }
+    requires entry { let p : Project = read (table runtime dynamic bounds.now columns.now) importers.now kinds.now targets.now dependencies.now members.now in Entered p root chunk (length out.old) }
+    ensures { let p : Project = read (table runtime dynamic bounds.now columns.now) importers.now kinds.now targets.now dependencies.now members.now in Marked (order_risk_of_entry p root) out.new result }
 {
     let n = out.len();
     let mut sensitives = [0u32; MODULE_LIMIT];
@@ -176,12 +172,10 @@ pub fn mark_named_order_risk<'a>(
     root: u32,
     chunk: u32,
 ) -> usize
-    ghost p: { Project }
-    requires project { read (table runtime dynamic bounds.now columns.now) importers.now kinds.now targets.now dependencies.now members.now ≡ p }
-    requires names { names_in (modules p) names.now ≡ true }
-    requires accepted { Accepted p }
-    requires entry { Entered p root chunk (length out.old) }
-    ensures { Marked (order_risk_of_entry (named p names.now) root) out.new result }
+    requires names { let p : Project = read (table runtime dynamic bounds.now columns.now) importers.now kinds.now targets.now dependencies.now members.now in names_in (modules p) names.now ≡ true }
+    requires accepted { let p : Project = read (table runtime dynamic bounds.now columns.now) importers.now kinds.now targets.now dependencies.now members.now in Accepted p }
+    requires entry { let p : Project = read (table runtime dynamic bounds.now columns.now) importers.now kinds.now targets.now dependencies.now members.now in Entered p root chunk (length out.old) }
+    ensures { let p : Project = read (table runtime dynamic bounds.now columns.now) importers.now kinds.now targets.now dependencies.now members.now in Marked (order_risk_of_entry (named p names.now) root) out.new result }
 {
     let rows = members.len();
     let mut arranged = [0u32; ROW_LIMIT];

@@ -3,11 +3,12 @@
 #![tactic(auto)]
 
 use grounds::grounds;
-use libc::{STDIN_FILENO, STDOUT_FILENO};
 use lines::put_line;
 use listing::{Reading, read};
 use order_analysis::analyze_execution_order;
 use parts::{first_of, part_of};
+use std::io;
+use streams::read_full;
 use table::{COLUMNS, ENTRY, MODULE_LIMIT, column};
 use tables::Answer;
 use wall_page::entry_page;
@@ -16,24 +17,26 @@ use wall_page::entry_page;
 const PAGE_BYTES: usize = 167936;
 
 // Writes as many bytes as were counted.
-fn write_counted(out: &[u8], answer: Answer) {
+fn write_counted(rt: &impl Print, out: &[u8], answer: Answer) -> io::Result<()> {
     let Answer::Counted(n) = answer else {
-        return;
+        return Ok(());
     };
     if n <= out.len() {
-        io::write_all(STDOUT_FILENO, &out[0..n]);
+        rt.write_all(&out[0..n])?;
     }
+    Ok(())
 }
 
 // Prints a refusal.
-fn refused(number: u32) {
+fn refused(rt: &impl Print, number: u32) -> io::Result<()> {
     let mut out = [0u8; 64];
     let answer = put_line(&mut out, b"refused", &[], &[number]);
-    write_counted(&out, answer);
+    write_counted(rt, &out, answer)
 }
 
 // Prints the page of an entry. One that isn't analysed has none.
 fn print_page<'a>(
+    rt: &impl Print,
     runtime: u32,
     dynamic: u32,
     bounds: &'a [u32],
@@ -42,16 +45,17 @@ fn print_page<'a>(
     sensitives: &'a [u32],
     plan: &'a [u32],
     root: u32,
-) {
+) -> io::Result<()> {
     let mut page = [0u8; PAGE_BYTES];
     let answer = entry_page(
         runtime, dynamic, bounds, columns, names, sensitives, plan, root, &mut page,
     );
-    write_counted(&page, answer);
+    write_counted(rt, &page, answer)
 }
 
 // Prints the page of each analysed entry, in row order.
 fn print_pages<'a>(
+    rt: &impl Print,
     runtime: u32,
     dynamic: u32,
     bounds: &'a [u32],
@@ -59,77 +63,97 @@ fn print_pages<'a>(
     names: &'a [u8],
     sensitives: &'a [u32],
     plan: &'a [u32],
-) {
+) -> io::Result<()> {
     let rows = column(bounds, columns, ENTRY);
     let mut row = 0;
     while row < rows.len() {
         print_page(
-            runtime, dynamic, bounds, columns, names, sensitives, plan, rows[row],
-        );
+            rt, runtime, dynamic, bounds, columns, names, sensitives, plan, rows[row],
+        )?;
         row += 1;
     }
+    Ok(())
 }
 
 // Prints the pages of a project whose plan is given.
 fn planned_pages<'a>(
+    rt: &impl Print,
     runtime: u32,
     dynamic: u32,
     bounds: &'a [u32],
     columns: &'a [u32],
     names: &'a [u8],
     plan: &'a [u32],
-) {
+) -> io::Result<()> {
     let mut sensitives = [0u32; MODULE_LIMIT];
     let answer = grounds(runtime, dynamic, bounds, columns, names, &mut sensitives);
     let Answer::Counted(_) = answer else {
-        return;
+        return Ok(());
     };
-    print_pages(runtime, dynamic, bounds, columns, names, &sensitives, plan);
+    print_pages(
+        rt,
+        runtime,
+        dynamic,
+        bounds,
+        columns,
+        names,
+        &sensitives,
+        plan,
+    )
 }
 
 // Prints the pages of a project, or its refusal.
-fn pages<'a>(runtime: u32, dynamic: u32, bounds: &'a [u32], columns: &'a [u32], names: &'a [u8]) {
+fn pages<'a>(
+    rt: &impl Print,
+    runtime: u32,
+    dynamic: u32,
+    bounds: &'a [u32],
+    columns: &'a [u32],
+    names: &'a [u8],
+) -> io::Result<()> {
     let mut plan = [0u32; MODULE_LIMIT];
     let answer = analyze_execution_order(runtime, dynamic, bounds, columns, names, &mut plan);
     match answer {
-        Answer::Refused(number) => refused(number),
-        Answer::Counted(_) => planned_pages(runtime, dynamic, bounds, columns, names, &plan),
+        Answer::Refused(number) => refused(rt, number),
+        Answer::Counted(_) => planned_pages(rt, runtime, dynamic, bounds, columns, names, &plan),
     }
 }
 
 // Prints the pages of a project that was read, with n values in its columns.
 fn pages_of<'a>(
+    rt: &impl Print,
     settings: [u32; 2],
     bounds: &'a [u32; COLUMNS + 1],
     columns: &'a [u32; 32768],
     n: usize,
     names: &'a [u8],
-) {
+) -> io::Result<()> {
     pages(
+        rt,
         settings[0],
         settings[1],
         bounds,
         first_of(columns, n),
         names,
-    );
+    )
 }
 
 // Prints the pages of a text.
-fn pages_of_text(text: &[u8]) {
+fn pages_of_text(rt: &impl Print, text: &[u8]) -> io::Result<()> {
     let mut settings = [0u32; 2];
     let mut bounds = [0u32; COLUMNS + 1];
     let mut columns = [0u32; 32768];
     let answer = read(text, &mut settings, &mut bounds, &mut columns);
     match answer {
-        Reading::Refused(number) => refused(number),
+        Reading::Refused(number) => refused(rt, number),
         Reading::Read(k, from, to) => {
-            pages_of(settings, &bounds, &columns, k, part_of(text, from, to))
+            pages_of(rt, settings, &bounds, &columns, k, part_of(text, from, to))
         }
     }
 }
 
-fn main() {
+fn main(rt: HostRuntime) -> io::Result<()> {
     let mut text = [0u8; 65537];
-    let n = io::read_full(STDIN_FILENO, &mut text);
-    pages_of_text(&text[..n]);
+    let n = read_full(&mut rt.reader(), &mut text)?;
+    pages_of_text(&rt, &text[..n])
 }

@@ -16,7 +16,8 @@ pub fn plan_fits(plan: &[u32], n: usize) -> bool
         return false;
     }
     for m in 0..plan.len() {
-        if 1 < plan[m] {
+        let other = 1 < plan[m];
+        if other {
             return false;
         }
     }

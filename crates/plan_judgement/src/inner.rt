@@ -50,11 +50,9 @@ fn judge_marked<'a>(
     seeds: &[u32],
     plan: &[u32],
 ) -> Judgement
-    ghost p: { Project }
-    requires project { read (table runtime dynamic bounds.now columns.now) importers.now kinds.now targets.now dependencies.now members.now ≡ p }
-    requires made { Basis p labels.now sensitive.now eligible.now }
-    requires plan { Proposed p seeds.now plan.now }
-    ensures { result ≡ judged p seeds.now plan.now }
+    requires made { let p : Project = read (table runtime dynamic bounds.now columns.now) importers.now kinds.now targets.now dependencies.now members.now in Basis p labels.now sensitive.now eligible.now }
+    requires plan { let p : Project = read (table runtime dynamic bounds.now columns.now) importers.now kinds.now targets.now dependencies.now members.now in Proposed p seeds.now plan.now }
+    ensures { let p : Project = read (table runtime dynamic bounds.now columns.now) importers.now kinds.now targets.now dependencies.now members.now in result ≡ judged p seeds.now plan.now }
 {
     let n = plan.len();
     let mut roots = [0u32; MODULE_LIMIT];
@@ -144,10 +142,8 @@ pub fn judge_plan<'a>(
     seeds: &[u32],
     plan: &[u32],
 ) -> Judgement
-    ghost p: { Project }
-    requires project { read (table runtime dynamic bounds.now columns.now) importers.now kinds.now targets.now dependencies.now members.now ≡ p }
-    requires plan { Proposed p seeds.now plan.now }
-    ensures { result ≡ judged p seeds.now plan.now }
+    requires plan { let p : Project = read (table runtime dynamic bounds.now columns.now) importers.now kinds.now targets.now dependencies.now members.now in Proposed p seeds.now plan.now }
+    ensures { let p : Project = read (table runtime dynamic bounds.now columns.now) importers.now kinds.now targets.now dependencies.now members.now in result ≡ judged p seeds.now plan.now }
 {
     let n = plan.len();
     let chunks = rows(bounds, columns, ORDER);

@@ -38,11 +38,9 @@ fn close_once<'a>(
     leads: &mut [u32],
     plan: &mut [u32],
 ) -> bool
-    ghost p: { Project }
-    requires project { read (table runtime dynamic bounds.now columns.now) importers.now kinds.now targets.now dependencies.now members.now ≡ p }
-    requires made { Made p labels.now roots.now sensitive.now eligible.now candidates.now from.now to.now heads.now nexts.now }
-    requires kept { Kept p settled.old leads.old plan.old }
-    ensures { Once p plan.old settled.new leads.new plan.new result }
+    requires made { let p : Project = read (table runtime dynamic bounds.now columns.now) importers.now kinds.now targets.now dependencies.now members.now in Made p labels.now roots.now sensitive.now eligible.now candidates.now from.now to.now heads.now nexts.now }
+    requires kept { let p : Project = read (table runtime dynamic bounds.now columns.now) importers.now kinds.now targets.now dependencies.now members.now in Kept p settled.old leads.old plan.old }
+    ensures { let p : Project = read (table runtime dynamic bounds.now columns.now) importers.now kinds.now targets.now dependencies.now members.now in Once p plan.old settled.new leads.new plan.new result }
 {
     let suffixes = pass_suffixes(
         runtime,
@@ -134,11 +132,9 @@ fn close_plan<'a>(
     leads: &mut [u32],
     plan: &mut [u32],
 )
-    ghost p: { Project }
-    requires project { read (table runtime dynamic bounds.now columns.now) importers.now kinds.now targets.now dependencies.now members.now ≡ p }
-    requires made { Made p labels.now roots.now sensitive.now eligible.now candidates.now from.now to.now heads.now nexts.now }
-    requires kept { Kept p settled.old leads.old plan.old }
-    ensures { plan.new ≡ closed p plan.old }
+    requires made { let p : Project = read (table runtime dynamic bounds.now columns.now) importers.now kinds.now targets.now dependencies.now members.now in Made p labels.now roots.now sensitive.now eligible.now candidates.now from.now to.now heads.now nexts.now }
+    requires kept { let p : Project = read (table runtime dynamic bounds.now columns.now) importers.now kinds.now targets.now dependencies.now members.now in Kept p settled.old leads.old plan.old }
+    ensures { let p : Project = read (table runtime dynamic bounds.now columns.now) importers.now kinds.now targets.now dependencies.now members.now in plan.new ≡ closed p plan.old }
 {
     let mut more = true;
     while more {
@@ -186,11 +182,9 @@ fn close_from_roots<'a>(
     eligible: &[u32],
     plan: &mut [u32],
 )
-    ghost p: { Project }
-    requires project { read (table runtime dynamic bounds.now columns.now) importers.now kinds.now targets.now dependencies.now members.now ≡ p }
-    requires made { Rooted p labels.now roots.now sensitive.now eligible.now }
-    requires plan { Marked p plan.old }
-    ensures { plan.new ≡ closed p plan.old }
+    requires made { let p : Project = read (table runtime dynamic bounds.now columns.now) importers.now kinds.now targets.now dependencies.now members.now in Rooted p labels.now roots.now sensitive.now eligible.now }
+    requires plan { let p : Project = read (table runtime dynamic bounds.now columns.now) importers.now kinds.now targets.now dependencies.now members.now in Marked p plan.old }
+    ensures { let p : Project = read (table runtime dynamic bounds.now columns.now) importers.now kinds.now targets.now dependencies.now members.now in plan.new ≡ closed p plan.old }
 {
     let n = plan.len();
     let rows = roots.len();
@@ -272,11 +266,9 @@ pub fn build_order_wrap_plan<'a>(
     eligible: &[u32],
     plan: &mut [u32],
 )
-    ghost p: { Project }
-    requires project { read (table runtime dynamic bounds.now columns.now) importers.now kinds.now targets.now dependencies.now members.now ≡ p }
-    requires made { Basis p labels.now sensitive.now eligible.now }
-    requires plan { Marked p plan.old }
-    ensures { plan.new ≡ closed p plan.old }
+    requires made { let p : Project = read (table runtime dynamic bounds.now columns.now) importers.now kinds.now targets.now dependencies.now members.now in Basis p labels.now sensitive.now eligible.now }
+    requires plan { let p : Project = read (table runtime dynamic bounds.now columns.now) importers.now kinds.now targets.now dependencies.now members.now in Marked p plan.old }
+    ensures { let p : Project = read (table runtime dynamic bounds.now columns.now) importers.now kinds.now targets.now dependencies.now members.now in plan.new ≡ closed p plan.old }
 {
     let mut roots = [0u32; MODULE_LIMIT];
     let count = list_table_roots(

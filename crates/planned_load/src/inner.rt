@@ -35,11 +35,9 @@ fn prepare_planned<'a>(
     plan: &'a [u32],
     prepared: &mut [u32],
 )
-    ghost p: { Project }
-    requires project { read (table runtime dynamic bounds.now columns.now) importers.now kinds.now targets.now dependencies.now members.now ≡ p }
-    requires plan { length plan.now ≡ modules p }
-    requires places { Places p places (length prepared.old) }
-    ensures { PreparedAs p (read_as_two plan.now p.wrap) prepared.new }
+    requires plan { let p : Project = read (table runtime dynamic bounds.now columns.now) importers.now kinds.now targets.now dependencies.now members.now in length plan.now ≡ modules p }
+    requires places { let p : Project = read (table runtime dynamic bounds.now columns.now) importers.now kinds.now targets.now dependencies.now members.now in Places p places (length prepared.old) }
+    ensures { let p : Project = read (table runtime dynamic bounds.now columns.now) importers.now kinds.now targets.now dependencies.now members.now in PreparedAs p (read_as_two plan.now p.wrap) prepared.new }
 {
     let n = plan.len();
     let mut wraps = [0u32; MODULE_LIMIT];
@@ -77,11 +75,9 @@ fn list_planned<'a>(
     root: u32,
     chunk: u32,
 ) -> usize
-    ghost p: { Project }
-    requires project { read (table runtime dynamic bounds.now columns.now) importers.now kinds.now targets.now dependencies.now members.now ≡ p }
-    requires plan { length plan.now ≡ modules p }
-    requires places { Listing p root chunk (length order.old) (length noted.old) }
-    ensures { Listed (planned_run p plan.now root) order.old order.new noted.new result }
+    requires plan { let p : Project = read (table runtime dynamic bounds.now columns.now) importers.now kinds.now targets.now dependencies.now members.now in length plan.now ≡ modules p }
+    requires places { let p : Project = read (table runtime dynamic bounds.now columns.now) importers.now kinds.now targets.now dependencies.now members.now in Listing p root chunk (length order.old) (length noted.old) }
+    ensures { let p : Project = read (table runtime dynamic bounds.now columns.now) importers.now kinds.now targets.now dependencies.now members.now in Listed (planned_run p plan.now root) order.old order.new noted.new result }
 {
     let mut prepared = [0u32; PREPARED];
     prepare_planned(
@@ -133,12 +129,10 @@ fn list_arranged<'a>(
     root: u32,
     chunk: u32,
 ) -> usize
-    ghost p: { Project }
-    requires project { read (table runtime dynamic bounds.now columns.now) importers.now kinds.now targets.now dependencies.now members.now ≡ p }
-    requires names { names_in (modules p) names.now ≡ true }
-    requires plan { length plan.now ≡ modules p }
-    requires places { Listing p root chunk (length order.old) (length noted.old) }
-    ensures { Listed (planned_run (named p names.now) plan.now root) order.old order.new noted.new result }
+    requires names { let p : Project = read (table runtime dynamic bounds.now columns.now) importers.now kinds.now targets.now dependencies.now members.now in names_in (modules p) names.now ≡ true }
+    requires plan { let p : Project = read (table runtime dynamic bounds.now columns.now) importers.now kinds.now targets.now dependencies.now members.now in length plan.now ≡ modules p }
+    requires places { let p : Project = read (table runtime dynamic bounds.now columns.now) importers.now kinds.now targets.now dependencies.now members.now in Listing p root chunk (length order.old) (length noted.old) }
+    ensures { let p : Project = read (table runtime dynamic bounds.now columns.now) importers.now kinds.now targets.now dependencies.now members.now in Listed (planned_run (named p names.now) plan.now root) order.old order.new noted.new result }
 {
     let rows = members.len();
     let mut arranged = [0u32; ROW_LIMIT];
@@ -190,11 +184,9 @@ pub fn step_planned<'a>(
     chunk: u32,
     number: u32,
 ) -> LoadStep
-    ghost p: { Project }
-    requires project { read (table runtime dynamic bounds.now columns.now) importers.now kinds.now targets.now dependencies.now members.now ≡ p }
-    requires names { names_in (modules p) names.now ≡ true }
-    requires entered { Entered p plan.now root chunk }
-    ensures { result ≡ step_of (named p names.now) plan.now root number }
+    requires names { let p : Project = read (table runtime dynamic bounds.now columns.now) importers.now kinds.now targets.now dependencies.now members.now in names_in (modules p) names.now ≡ true }
+    requires entered { let p : Project = read (table runtime dynamic bounds.now columns.now) importers.now kinds.now targets.now dependencies.now members.now in Entered p plan.now root chunk }
+    ensures { let p : Project = read (table runtime dynamic bounds.now columns.now) importers.now kinds.now targets.now dependencies.now members.now in result ≡ step_of (named p names.now) plan.now root number }
 {
     let n = plan.len();
     let mut order = [0u32; MODULE_LIMIT];
@@ -244,12 +236,10 @@ pub fn run_planned<'a>(
     root: u32,
     chunk: u32,
 ) -> usize
-    ghost p: { Project }
-    requires project { read (table runtime dynamic bounds.now columns.now) importers.now kinds.now targets.now dependencies.now members.now ≡ p }
-    requires names { names_in (modules p) names.now ≡ true }
-    requires entered { Entered p plan.now root chunk }
-    requires rooms { (modules p ≤ length steps.old) × (modules p ≤ length hosts.old) }
-    ensures { Stepped (named p names.now) plan.now root steps.old hosts.old steps.new hosts.new result }
+    requires names { let p : Project = read (table runtime dynamic bounds.now columns.now) importers.now kinds.now targets.now dependencies.now members.now in names_in (modules p) names.now ≡ true }
+    requires entered { let p : Project = read (table runtime dynamic bounds.now columns.now) importers.now kinds.now targets.now dependencies.now members.now in Entered p plan.now root chunk }
+    requires rooms { let p : Project = read (table runtime dynamic bounds.now columns.now) importers.now kinds.now targets.now dependencies.now members.now in (modules p ≤ length steps.old) × (modules p ≤ length hosts.old) }
+    ensures { let p : Project = read (table runtime dynamic bounds.now columns.now) importers.now kinds.now targets.now dependencies.now members.now in Stepped (named p names.now) plan.now root steps.old hosts.old steps.new hosts.new result }
 {
     let n = plan.len();
     let mut noted = [0u32; MODULE_LIMIT];

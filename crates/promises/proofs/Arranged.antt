@@ -6,7 +6,6 @@ use mathlib.Core.List.{List, [], ◌∷◌, Memᴰ}
 use Prim.Native.Nat.{ℕ, zero, suc, ◌<◌}
 use native.Mathlib.Omega.{arith}
 use lib.ListN.{length, get_or}
-use Rattle.tables.specs.Project.{Project}
 use Rattle.tables.specs.Readings.{chunks, entry_chunk_of}
 use Rattle.tables.proofs.Accepted.{accepted}
 use Rattle.table.specs.Table.{read}
@@ -20,7 +19,7 @@ use Rattle.at_risk.specs.Promise.{cycle_risk_of_entry}
 use Rattle.arrangement.specs.OfProject.{key_in, arranged_of, named}
 use Rattle.arrangement.proofs.Laws.{arranged-size, arranged-times, arranged-order}
 use Rattle.arrangement.proofs.OfProject.{members-fit, named_none}
-use Rattle.promises.specs.Arranged.{ChunkArranged, ChunksAreArranged, WithoutNamesNothingMoves, MembersUnread, OthersDontReadMembers}
+use Rattle.promises.specs.Arranged.{ChunksAreArranged, WithoutNamesNothingMoves, OthersDontReadMembers}
 
 at_mem : (xs : List ℕ) (i : ℕ) → i < length xs → Memᴰ (get_or xs i 0) xs
 at_mem [] i l = absurd (omega arith)

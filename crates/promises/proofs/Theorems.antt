@@ -13,13 +13,12 @@ use Rattle.lists.proofs.Laws.{any-mem, keep-mem, up_to-mem}
 use Rattle.walk.specs.Close.{Within, Closed, Bits}
 use Rattle.tables.specs.Project.{Project}
 use Rattle.tables.specs.Readings.{modules, analysed_row, is_analysed, analysed, entry_chunk_of, rows_of}
-use Rattle.tables.specs.Refusal.{refusal}
 use Rattle.tables.specs.Answers.{number_of, count_of, after}
 use Rattle.tables.specs.declared.Answer.{Answer}
 use Rattle.tables.specs.Accepted.{Accepted}
 use Rattle.tables.proofs.Accepted.{accepted}
 use Rattle.tables.proofs.OwnerRows.{mem-rows}
-use Rattle.table.specs.Table.{Lent, answer}
+use Rattle.table.specs.Table.{answer}
 use Rattle.chunk_cycles.specs.Cycles.{labels_of, reaches_cycle_of}
 use Rattle.chunk_cycles.specs.Paths.{MoreImports}
 use Rattle.chunk_cycles.proofs.OverTable.{accepted-fit}

@@ -1,7 +1,7 @@
 -- The risk of an entry is its order risk and its cycle risk, joined; of definitions, and of the two calls.
 -- Each statement is a type; `proofs/` inhabits it under the same name in small letters.
 -- Assumes nothing.
-use Rattle.std.specs.Prelude.{◌≡◌, Bool, ◌||◌, List, ℕ, ◌<◌}
+use Rattle.std.specs.Prelude.{◌≡◌, Bool, ◌||◌, List, ℕ}
 use Rattle.lists.specs.Words.{has, marks_of}
 use Rattle.tables.specs.Project.{Project}
 use Rattle.tables.specs.Readings.{modules}

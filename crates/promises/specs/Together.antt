@@ -1,6 +1,6 @@
 -- C-12: what is told of many entries walked together, of every project and every list of entries.
 -- Assumes nothing.
-use Rattle.std.specs.Prelude.{◌≡◌, Bool, true, false, not, ◌&&◌, List, [], ◌∷◌, ◌++◌, ℕ}
+use Rattle.std.specs.Prelude.{◌≡◌, true, false, not, ◌&&◌, List, [], ◌∷◌, ◌++◌, ℕ}
 use Rattle.lists.specs.Words.{keep, elem, Distinct}
 use Rattle.tables.specs.Project.{Project}
 use Rattle.tables.specs.Readings.{is_normal, flagged}

@@ -105,10 +105,8 @@ pub fn list_table_roots<'a>(
     members: &'a [u32],
     list: &mut [u32],
 ) -> usize
-    ghost p: { Project }
-    requires project { read (table runtime dynamic bounds.now columns.now) importers.now kinds.now targets.now dependencies.now members.now ≡ p }
-    requires room { Room p module_limit (length list.old) }
-    ensures { Written (roots_of p) list.old list.new result }
+    requires room { let p : Project = read (table runtime dynamic bounds.now columns.now) importers.now kinds.now targets.now dependencies.now members.now in Room p module_limit (length list.old) }
+    ensures { let p : Project = read (table runtime dynamic bounds.now columns.now) importers.now kinds.now targets.now dependencies.now members.now in Written (roots_of p) list.old list.new result }
 {
     list_roots(
         column(bounds, columns, INCLUDED),
@@ -135,10 +133,8 @@ pub fn choose_candidates<'a>(
     eligible: &[u32],
     candidates: &mut [u32],
 )
-    ghost p: { Project }
-    requires project { read (table runtime dynamic bounds.now columns.now) importers.now kinds.now targets.now dependencies.now members.now ≡ p }
-    requires choosing { Choosing p from.now to.now roots.now eligible.now candidates.old }
-    ensures { candidates.new ≡ candidate_marks p }
+    requires choosing { let p : Project = read (table runtime dynamic bounds.now columns.now) importers.now kinds.now targets.now dependencies.now members.now in Choosing p from.now to.now roots.now eligible.now candidates.old }
+    ensures { let p : Project = read (table runtime dynamic bounds.now columns.now) importers.now kinds.now targets.now dependencies.now members.now in candidates.new ≡ candidate_marks p }
 {
     mark_candidates(
         column(bounds, columns, INCLUDED),

@@ -201,11 +201,9 @@ pub fn pass_readers<'a>(
     candidates: &[u32],
     plan: &mut [u32],
 ) -> bool
-    ghost p: { Project }
-    requires project { read (table runtime dynamic bounds.now columns.now) importers.now kinds.now targets.now dependencies.now members.now ≡ p }
-    requires sets { CandidateSet p candidates.now }
-    requires plan { Marked p plan.old }
-    ensures { ReadPassed p plan.old plan.new result }
+    requires sets { let p : Project = read (table runtime dynamic bounds.now columns.now) importers.now kinds.now targets.now dependencies.now members.now in CandidateSet p candidates.now }
+    requires plan { let p : Project = read (table runtime dynamic bounds.now columns.now) importers.now kinds.now targets.now dependencies.now members.now in Marked p plan.old }
+    ensures { let p : Project = read (table runtime dynamic bounds.now columns.now) importers.now kinds.now targets.now dependencies.now members.now in ReadPassed p plan.old plan.new result }
 {
     close_top_level_readers(
         column(bounds, columns, READS),

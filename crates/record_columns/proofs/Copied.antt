@@ -1,16 +1,13 @@
 -- What holds of the columns of a list of records: within the limit they are the records' columns, from place 0, and over it the project's number is 1.
 -- Assumes nothing.
-use Rattle.std.specs.Prelude.{◌≡◌, ℕ, ◌<◌, ◌≤◌, Bool, leb, List, map, length, take, drop, replicate}
-use mathlib.Core.Path.{refl, sym, ap, subst, ◌∙◌}
+use Rattle.std.specs.Prelude.{◌≡◌, ℕ, zero, suc, ◌+◌, ◌<◌, ◌≤◌, Bool, leb, List, [], ◌∷◌, ◌++◌, map, length, get_or, take, drop, set, replicate}
+use mathlib.Core.Path.{refl, ap, subst, ◌∙◌}
 use mathlib.Core.Logic.{⊎_elim}
 use native.Mathlib.Omega.{arith}
 use lib.ListN.{length-map, length-append, length-drop, length-replicate}
 use lib.Seq.{length-take-le, take_all, take_at}
 use borrow.Author.Tests.{leb-true, leb-false, le-leb, lt-leb}
-use borrow.Author.Rules.{length_unmapped}
-use mir.Val.{Val}
-use denote.Laws.{Is}
-use Rattle.lists.proofs.Laws.{both}
+use Rattle.lists.proofs.Laws.{both, front-more, take_more}
 use Rattle.tables.specs.Project.{Project}
 use Rattle.tables.specs.Readings.{modules}
 use Rattle.tables.specs.Refusal.{row_limit, sizes_fit, refusal}
@@ -22,7 +19,6 @@ use Rattle.table.proofs.Laws.{number-unfit, number-fit}
 use Rattle.record_columns.specs.declared.Record.{Record}
 use Rattle.record_columns.specs.declared.inner.Columns.{Columns}
 use Rattle.record_columns.specs.Rows.{importer_column, kind_column, target_column, copied, padded, columns_of}
-use Rattle.record_columns.specs.contracts.inner.Columns as Cols
 
 pub copied_all : (n : ℕ) → n ≤ row_limit → copied n ≡ n
 unfolding copied
@@ -44,7 +40,7 @@ padded-long i column l k =
     ∙ omega (arith, length-take-le i column l, length-drop {A = ℕ} i (replicate row_limit 0), length-replicate {A = ℕ} row_limit 0)
 
 -- a column that is copied whole
-whole : (f : Record → ℕ) (records : List Record) → length records ≤ row_limit → take (length records) (padded (copied (length records)) (map f records)) ≡ map f records
+pub whole : (f : Record → ℕ) (records : List Record) → length records ≤ row_limit → take (length records) (padded (copied (length records)) (map f records)) ≡ map f records
 whole f records h =
     let n : ℕ = length records in
     let l : length (map f records) ≡ n = length-map records f in
@@ -52,13 +48,23 @@ whole f records h =
     ∙ take_at (take n (map f records)) (drop n (replicate row_limit 0)) n (length-take-le n (map f records) (omega (arith, l)))
     ∙ take_all n (map f records) (omega (arith, l))
 
--- what holds of the first rows of the columns holds of the records' columns
-pub as-columns : (P : List ℕ → List ℕ → List ℕ → Type 0) (c : Columns) (records : List Record) → c ≡ columns_of records → c.rows ≤ row_limit
-    → P (take c.rows c.importers) (take c.rows c.kinds) (take c.rows c.targets) → P (importer_column records) (kind_column records) (target_column records)
-as-columns P c records is = subst (λ (d : Columns). d.rows ≤ row_limit → P (take d.rows d.importers) (take d.rows d.kinds) (take d.rows d.targets) → P (importer_column records) (kind_column records) (target_column records)) (sym is)
-    (λ h p. subst (λ (t : List ℕ). P (importer_column records) (kind_column records) t) (whole (λ (r : Record). r.target) records h)
-    (subst (λ (k : List ℕ). P (importer_column records) k (take (length records) (padded (copied (length records)) (target_column records)))) (whole (λ (r : Record). r.kind) records h)
-    (subst (λ (i : List ℕ). P i (take (length records) (padded (copied (length records)) (kind_column records))) (take (length records) (padded (copied (length records)) (target_column records)))) (whole (λ (r : Record). r.importer) records h) p)))
+-- one row more of a column stands in its array
+pub stored : {X : Type 0} (f : X → ℕ) (ys : List X) (i : ℕ) (d : X) → i < length ys → i < row_limit → set (padded i (map f ys)) i (f (get_or ys i d)) ≡ padded (i + 1) (map f ys)
+stored f ys i d l k =
+    let n : length (map f ys) ≡ length ys = length-map ys f in
+    let z : length {A = ℕ} (replicate row_limit 0) ≡ row_limit = length-replicate {A = ℕ} row_limit 0 in
+    ap (λ (v : ℕ). set (padded i (map f ys)) i v) (at f ys i d l)
+    ∙ front-more (take i (map f ys)) (replicate row_limit 0) i (get_or (map f ys) i 0) (length-take-le i (map f ys) (omega (arith, n))) (omega (arith, z))
+    ∙ ap (λ (t : List ℕ). t ++ drop (i + 1) (replicate row_limit 0)) (take_more (map f ys) i (omega (arith, n)))
+  where
+    at : {X : Type 0} (f : X → ℕ) (ys : List X) (i : ℕ) (d : X) → i < length ys → f (get_or ys i d) ≡ get_or (map f ys) i 0
+    at f (y ∷ ys) zero d l = refl
+    at f (y ∷ ys) (suc i) d l = at f ys i d (omega (arith, l))
+    at f [] i d l = absurd (omega (arith, l))
+
+-- the same of an array and a number that are equal to them
+pub stored_too : {X : Type 0} (f : X → ℕ) (ys : List X) (i : ℕ) (d : X) (xs : List ℕ) (x : ℕ) → i < length ys → i < row_limit → xs ≡ padded i (map f ys) → x ≡ f (get_or ys i d) → set xs i x ≡ padded (i + 1) (map f ys)
+stored_too f ys i d xs x l k e g = ap (λ (v : ℕ). set xs i v) g ∙ ap (λ (us : List ℕ). set us i (f (get_or ys i d))) e ∙ stored f ys i d l k
 
 -- "a list is over its limit"
 over : (p : Project) → row_limit < length p.record_module → 1 ≡ refusal p
@@ -76,14 +82,3 @@ too_many c records is h runtime dynamic bounds columns names =
     let e : 1 ≡ refusal p = over p (omega (arith, h, ap (λ (d : Columns). d.rows) is, length-map records (λ (r : Record). r.importer))) in
     stays (table_number bounds columns p) (names_sized names) (names_in (modules p) names)
     (⊎_elim (λ f. e ∙ number-fit bounds columns p f) (λ f. number-unfit bounds columns p f) (both (bounds_fit bounds columns)))
-
--- the rows lie within the three arrays
-abbrev pub Within : Columns → Type 0
-Within c = (c.rows ≤ length c.importers) × (c.rows ≤ length c.kinds) × (c.rows ≤ length c.targets)
-
-pub within : (c : Columns) (vs : List Val) → Is Cols.the_row c vs → c.rows ≤ row_limit → Within c
-within c vs g h = (
-  omega (arith, length_unmapped ℕ c.importers row_limit g.1.1.1.0.1.0.1),
-  omega (arith, length_unmapped ℕ c.kinds row_limit g.1.1.1.1.0.1.0.1),
-  omega (arith, length_unmapped ℕ c.targets row_limit g.1.1.1.1.1.0.1.0.1),
-)

@@ -1,8 +1,6 @@
 // Document 01's listing, its two import records lent as a slice of records to each record form. The table's own record columns hold what no project may: they aren't read.
 #![tactic(auto)]
 
-use io::print_decimal;
-use libc::STDOUT_FILENO;
 use plan_conditions::Judgement;
 use planned_load::LoadStep;
 use record_analysis::{analyze_records, share_records};
@@ -14,6 +12,7 @@ use record_orders::{arrangement_records, circle_records, sort_records};
 use record_pages::{entry_page_records, page_line_records};
 use record_plans::{check_records, plan_records, takings_records, worklist_records};
 use record_risks::{cycle_risk_records, ground_records, order_risk_records};
+use std::io;
 use tables::Answer;
 
 // Module numbers and sorted list, of rows that are lent.
@@ -336,25 +335,11 @@ fn entry_page_of<'a>(
     )
 }
 
-fn wide(x: u32) -> u64 {
-    x as u64
-}
-
-// Prints a space and a number.
-fn print(number: u64) {
-    io::write_all(STDOUT_FILENO, b" ");
-    print_decimal(STDOUT_FILENO, number);
-}
-
 // Prints a word and an answer.
-fn print_answer(word: &[u8], answer: Answer) {
-    io::write_all(STDOUT_FILENO, word);
+fn print_answer(rt: &impl Print, word: &str, answer: Answer) -> io::Result<()> {
     match answer {
-        Answer::Counted(count) => print(count as u64),
-        Answer::Refused(number) => {
-            io::write_all(STDOUT_FILENO, b" refused");
-            print(wide(number));
-        }
+        Answer::Counted(count) => print!(rt; "{word} {count}"),
+        Answer::Refused(number) => print!(rt; "{word} refused {number}"),
     }
 }
 
@@ -370,47 +355,40 @@ fn said(judgement: Judgement) -> Answer {
 }
 
 // Prints four numbers and ends the line.
-fn print_numbers(numbers: [u32; 4]) {
-    print(wide(numbers[0]));
-    print(wide(numbers[1]));
-    print(wide(numbers[2]));
-    print(wide(numbers[3]));
-    io::write_all(STDOUT_FILENO, b"\n");
+fn print_numbers(rt: &impl Print, numbers: [u32; 4]) -> io::Result<()> {
+    let [first, second, third, fourth] = numbers;
+    println!(rt; " {first} {second} {third} {fourth}")
 }
 
 // Prints a word and an answer, a line by themselves.
-fn end_line(word: &[u8], answer: Answer) {
-    print_answer(word, answer);
-    io::write_all(STDOUT_FILENO, b"\n");
+fn end_line(rt: &impl Print, word: &str, answer: Answer) -> io::Result<()> {
+    print_answer(rt, word, answer)?;
+    println!(rt)
 }
 
 // Prints a word, an answer and what a slice holds, a line.
-fn show(word: &[u8], answer: Answer, numbers: [u32; 4]) {
-    print_answer(word, answer);
-    print_numbers(numbers);
+fn show(rt: &impl Print, word: &str, answer: Answer, numbers: [u32; 4]) -> io::Result<()> {
+    print_answer(rt, word, answer)?;
+    print_numbers(rt, numbers)
 }
 
 // Prints a step, a line.
-fn print_step(step: LoadStep) {
-    io::write_all(STDOUT_FILENO, b"step");
+fn print_step(rt: &impl Print, step: LoadStep) -> io::Result<()> {
     match step {
-        LoadStep::Step(module, host) => {
-            print(wide(module));
-            print(wide(host));
-        }
-        LoadStep::Done => {
-            io::write_all(STDOUT_FILENO, b" done");
-        }
-        LoadStep::Refused(number) => {
-            io::write_all(STDOUT_FILENO, b" refused");
-            print(wide(number));
-        }
+        LoadStep::Step(module, host) => println!(rt; "step {module} {host}"),
+        LoadStep::Done => println!(rt; "step done"),
+        LoadStep::Refused(number) => println!(rt; "step refused {number}"),
     }
-    io::write_all(STDOUT_FILENO, b"\n");
 }
 
 // The sort.
-fn show_sort<'a>(bounds: &'a [u32], columns: &'a [u32], names: &'a [u8], rows: [Record; 2]) {
+fn show_sort<'a>(
+    rt: &impl Print,
+    bounds: &'a [u32],
+    columns: &'a [u32],
+    names: &'a [u8],
+    rows: [Record; 2],
+) -> io::Result<()> {
     let mut numbers = [7u32; 4];
     let mut sorted = [7u32; 4];
     let answer = sort_of(
@@ -423,89 +401,155 @@ fn show_sort<'a>(bounds: &'a [u32], columns: &'a [u32], names: &'a [u8], rows: [
         &mut numbers,
         &mut sorted,
     );
-    show(b"sort", answer, numbers);
-    show(b"sorted", answer, sorted);
+    show(rt, "sort", answer, numbers)?;
+    show(rt, "sorted", answer, sorted)
 }
 
 // The expected order of entry 1.
-fn show_expected<'a>(bounds: &'a [u32], columns: &'a [u32], names: &'a [u8], rows: [Record; 2]) {
+fn show_expected<'a>(
+    rt: &impl Print,
+    bounds: &'a [u32],
+    columns: &'a [u32],
+    names: &'a [u8],
+    rows: [Record; 2],
+) -> io::Result<()> {
     let mut expected = [7u32; 4];
     let answer = expected_of(0, 0, bounds, columns, names, rows, 1, &mut expected);
-    show(b"expected", answer, expected);
+    show(rt, "expected", answer, expected)
 }
 
 // Entries 3 and 1 walked together.
-fn show_entries<'a>(bounds: &'a [u32], columns: &'a [u32], names: &'a [u8], rows: [Record; 2]) {
+fn show_entries<'a>(
+    rt: &impl Print,
+    bounds: &'a [u32],
+    columns: &'a [u32],
+    names: &'a [u8],
+    rows: [Record; 2],
+) -> io::Result<()> {
     let entries = [3u32, 1];
     let mut together = [7u32; 4];
     let answer = entries_of(0, 0, bounds, columns, names, rows, &entries, &mut together);
-    show(b"entries", answer, together);
+    show(rt, "entries", answer, together)
 }
 
 // The actual order of entry 1, and its hosts.
-fn show_actual<'a>(bounds: &'a [u32], columns: &'a [u32], names: &'a [u8], rows: [Record; 2]) {
+fn show_actual<'a>(
+    rt: &impl Print,
+    bounds: &'a [u32],
+    columns: &'a [u32],
+    names: &'a [u8],
+    rows: [Record; 2],
+) -> io::Result<()> {
     let mut order = [7u32; 4];
     let mut hosts = [7u32; 4];
     let answer = actual_of(
         0, 0, bounds, columns, names, rows, 1, &mut order, &mut hosts,
     );
-    show(b"actual", answer, order);
-    show(b"hosts", answer, hosts);
+    show(rt, "actual", answer, order)?;
+    show(rt, "hosts", answer, hosts)
 }
 
 // The import circles.
-fn show_circles<'a>(bounds: &'a [u32], columns: &'a [u32], names: &'a [u8], rows: [Record; 2]) {
+fn show_circles<'a>(
+    rt: &impl Print,
+    bounds: &'a [u32],
+    columns: &'a [u32],
+    names: &'a [u8],
+    rows: [Record; 2],
+) -> io::Result<()> {
     let mut paths = [7u32; 4];
     let mut lengths = [7u32; 4];
     let answer = circle_of(0, 0, bounds, columns, names, rows, &mut paths, &mut lengths);
-    show(b"circles", answer, paths);
-    show(b"lengths", answer, lengths);
+    show(rt, "circles", answer, paths)?;
+    show(rt, "lengths", answer, lengths)
 }
 
 // The labels of the chunks.
-fn show_labels<'a>(bounds: &'a [u32], columns: &'a [u32], names: &'a [u8], rows: [Record; 2]) {
+fn show_labels<'a>(
+    rt: &impl Print,
+    bounds: &'a [u32],
+    columns: &'a [u32],
+    names: &'a [u8],
+    rows: [Record; 2],
+) -> io::Result<()> {
     let mut labels = [7u32; 4];
     let answer = label_of(0, 0, bounds, columns, names, rows, &mut labels);
-    show(b"labels", answer, labels);
+    show(rt, "labels", answer, labels)
 }
 
 // Whether chunk 0 reaches a cyclic one.
-fn show_reach<'a>(bounds: &'a [u32], columns: &'a [u32], names: &'a [u8], rows: [Record; 2]) {
-    end_line(b"reach", reach_of(0, 0, bounds, columns, names, rows, 0));
+fn show_reach<'a>(
+    rt: &impl Print,
+    bounds: &'a [u32],
+    columns: &'a [u32],
+    names: &'a [u8],
+    rows: [Record; 2],
+) -> io::Result<()> {
+    end_line(rt, "reach", reach_of(0, 0, bounds, columns, names, rows, 0))
 }
 
 // The order risk of entry 1.
-fn show_early<'a>(bounds: &'a [u32], columns: &'a [u32], names: &'a [u8], rows: [Record; 2]) {
+fn show_early<'a>(
+    rt: &impl Print,
+    bounds: &'a [u32],
+    columns: &'a [u32],
+    names: &'a [u8],
+    rows: [Record; 2],
+) -> io::Result<()> {
     let mut early = [7u32; 4];
     let answer = order_risk_of(0, 0, bounds, columns, names, rows, 1, &mut early);
-    show(b"early", answer, early);
+    show(rt, "early", answer, early)
 }
 
 // The cycle risk of entry 1.
-fn show_cycle<'a>(bounds: &'a [u32], columns: &'a [u32], names: &'a [u8], rows: [Record; 2]) {
+fn show_cycle<'a>(
+    rt: &impl Print,
+    bounds: &'a [u32],
+    columns: &'a [u32],
+    names: &'a [u8],
+    rows: [Record; 2],
+) -> io::Result<()> {
     let mut cycle = [7u32; 4];
     let answer = cycle_risk_of(0, 0, bounds, columns, names, rows, 1, &mut cycle);
-    show(b"cycle", answer, cycle);
+    show(rt, "cycle", answer, cycle)
 }
 
 // The plan from module 2.
-fn show_plan<'a>(bounds: &'a [u32], columns: &'a [u32], names: &'a [u8], rows: [Record; 2]) {
+fn show_plan<'a>(
+    rt: &impl Print,
+    bounds: &'a [u32],
+    columns: &'a [u32],
+    names: &'a [u8],
+    rows: [Record; 2],
+) -> io::Result<()> {
     let seeds = [2u32];
     let mut plan = [7u32; 4];
     let answer = plan_of(0, 0, bounds, columns, names, rows, &seeds, &mut plan);
-    show(b"plan", answer, plan);
+    show(rt, "plan", answer, plan)
 }
 
 // The plan from module 2 by a worklist.
-fn show_worklist<'a>(bounds: &'a [u32], columns: &'a [u32], names: &'a [u8], rows: [Record; 2]) {
+fn show_worklist<'a>(
+    rt: &impl Print,
+    bounds: &'a [u32],
+    columns: &'a [u32],
+    names: &'a [u8],
+    rows: [Record; 2],
+) -> io::Result<()> {
     let seeds = [2u32];
     let mut plan = [7u32; 4];
     let answer = worklist_of(0, 0, bounds, columns, names, rows, &seeds, &mut plan);
-    show(b"worklist", answer, plan);
+    show(rt, "worklist", answer, plan)
 }
 
 // The worklist from module 2, and its lengths.
-fn show_takings<'a>(bounds: &'a [u32], columns: &'a [u32], names: &'a [u8], rows: [Record; 2]) {
+fn show_takings<'a>(
+    rt: &impl Print,
+    bounds: &'a [u32],
+    columns: &'a [u32],
+    names: &'a [u8],
+    rows: [Record; 2],
+) -> io::Result<()> {
     let seeds = [2u32];
     let mut list = [7u32; 4];
     let mut lengths = [7u32; 4];
@@ -520,107 +564,152 @@ fn show_takings<'a>(bounds: &'a [u32], columns: &'a [u32], names: &'a [u8], rows
         &mut list,
         &mut lengths,
     );
-    show(b"list", answer, list);
-    show(b"takings", answer, lengths);
+    show(rt, "list", answer, list)?;
+    show(rt, "takings", answer, lengths)
 }
 
 // What is said of a plan from module 2.
 fn show_check<'a>(
+    rt: &impl Print,
     bounds: &'a [u32],
     columns: &'a [u32],
     names: &'a [u8],
     rows: [Record; 2],
     plan: [u32; 4],
-) {
+) -> io::Result<()> {
     let seeds = [2u32];
     end_line(
-        b"check",
+        rt,
+        "check",
         said(check_of(0, 0, bounds, columns, names, rows, &seeds, &plan)),
-    );
+    )
 }
 
 // The whole analysis.
-fn show_analysis<'a>(bounds: &'a [u32], columns: &'a [u32], names: &'a [u8], rows: [Record; 2]) {
+fn show_analysis<'a>(
+    rt: &impl Print,
+    bounds: &'a [u32],
+    columns: &'a [u32],
+    names: &'a [u8],
+    rows: [Record; 2],
+) -> io::Result<()> {
     let mut whole = [7u32; 4];
     let answer = analyze_of(0, 0, bounds, columns, names, rows, &mut whole);
-    show(b"analysis", answer, whole);
+    show(rt, "analysis", answer, whole)
 }
 
 // The grounds of the modules.
-fn show_grounds<'a>(bounds: &'a [u32], columns: &'a [u32], names: &'a [u8], rows: [Record; 2]) {
+fn show_grounds<'a>(
+    rt: &impl Print,
+    bounds: &'a [u32],
+    columns: &'a [u32],
+    names: &'a [u8],
+    rows: [Record; 2],
+) -> io::Result<()> {
     let mut grounds = [7u32; 4];
     let answer = ground_of(0, 0, bounds, columns, names, rows, &mut grounds);
-    show(b"grounds", answer, grounds);
+    show(rt, "grounds", answer, grounds)
 }
 
 // The share.
-fn show_share<'a>(bounds: &'a [u32], columns: &'a [u32], names: &'a [u8], rows: [Record; 2]) {
+fn show_share<'a>(
+    rt: &impl Print,
+    bounds: &'a [u32],
+    columns: &'a [u32],
+    names: &'a [u8],
+    rows: [Record; 2],
+) -> io::Result<()> {
     let mut share = [7u32; 4];
     let answer = share_of(0, 0, bounds, columns, names, rows, &mut share);
-    show(b"share", answer, share);
+    show(rt, "share", answer, share)
 }
 
 // The members of the chunks, arranged.
-fn show_arranged<'a>(bounds: &'a [u32], columns: &'a [u32], names: &'a [u8], rows: [Record; 2]) {
+fn show_arranged<'a>(
+    rt: &impl Print,
+    bounds: &'a [u32],
+    columns: &'a [u32],
+    names: &'a [u8],
+    rows: [Record; 2],
+) -> io::Result<()> {
     let mut members = [7u32; 4];
     let answer = arrangement_of(0, 0, bounds, columns, names, rows, &mut members);
-    show(b"arranged", answer, members);
+    show(rt, "arranged", answer, members)
 }
 
 // The load of entry 1 with modules 1 and 3 planned, and its hosts.
-fn show_run<'a>(bounds: &'a [u32], columns: &'a [u32], names: &'a [u8], rows: [Record; 2]) {
+fn show_run<'a>(
+    rt: &impl Print,
+    bounds: &'a [u32],
+    columns: &'a [u32],
+    names: &'a [u8],
+    rows: [Record; 2],
+) -> io::Result<()> {
     let plan = [0u32, 1, 0, 1];
     let mut steps = [7u32; 4];
     let mut hosts = [7u32; 4];
     let answer = load_run_of(
         0, 0, bounds, columns, names, rows, 1, &plan, &mut steps, &mut hosts,
     );
-    show(b"steps", answer, steps);
-    show(b"by", answer, hosts);
+    show(rt, "steps", answer, steps)?;
+    show(rt, "by", answer, hosts)
 }
 
 // A step of that load.
 fn show_step<'a>(
+    rt: &impl Print,
     bounds: &'a [u32],
     columns: &'a [u32],
     names: &'a [u8],
     rows: [Record; 2],
     number: u32,
-) {
+) -> io::Result<()> {
     let plan = [0u32, 1, 0, 1];
-    print_step(load_step_of(0, 0, bounds, columns, names, rows, 1, &plan, number));
+    print_step(
+        rt,
+        load_step_of(0, 0, bounds, columns, names, rows, 1, &plan, number),
+    )
 }
 
 // A line of entry 1's page.
 fn show_line<'a>(
+    rt: &impl Print,
     bounds: &'a [u32],
     columns: &'a [u32],
     names: &'a [u8],
     rows: [Record; 2],
     number: u32,
-) {
+) -> io::Result<()> {
     let mut line = [46u8; 41];
     end_line(
-        b"line",
+        rt,
+        "line",
         page_line_of(0, 0, bounds, columns, names, rows, 1, number, &mut line),
-    );
-    io::write_all(STDOUT_FILENO, &line);
-    io::write_all(STDOUT_FILENO, b"\n");
+    )?;
+    rt.write_all(&line)?;
+    println!(rt)
 }
 
 // Entry 1's page, by the grounds and the plan of the listing.
-fn show_page<'a>(bounds: &'a [u32], columns: &'a [u32], names: &'a [u8], rows: [Record; 2]) {
+fn show_page<'a>(
+    rt: &impl Print,
+    bounds: &'a [u32],
+    columns: &'a [u32],
+    names: &'a [u8],
+    rows: [Record; 2],
+) -> io::Result<()> {
     let grounds = [0u32, 1, 1, 1];
     let plan = [0u32, 1, 0, 1];
     let mut page = [46u8; 164];
     end_line(
-        b"page",
+        rt,
+        "page",
         entry_page_of(
             0, 0, bounds, columns, names, rows, &grounds, &plan, 1, &mut page,
         ),
-    );
-    io::write_all(STDOUT_FILENO, &page);
-    io::write_all(STDOUT_FILENO, b"\n");
+    )?;
+    rt.write_all(&page)?;
+    println!(rt)
 }
 
 // The listing's bounds.
@@ -662,94 +751,119 @@ fn two_records(
 }
 
 // The sort, the two orders of entry 1, and entries 3 and 1 walked together.
-fn show_orders<'a>(bounds: &'a [u32], columns: &'a [u32], names: &'a [u8], rows: [Record; 2]) {
-    show_sort(bounds, columns, names, rows);
-    show_expected(bounds, columns, names, rows);
-    show_entries(bounds, columns, names, rows);
-    show_actual(bounds, columns, names, rows);
+fn show_orders<'a>(
+    rt: &impl Print,
+    bounds: &'a [u32],
+    columns: &'a [u32],
+    names: &'a [u8],
+    rows: [Record; 2],
+) -> io::Result<()> {
+    show_sort(rt, bounds, columns, names, rows)?;
+    show_expected(rt, bounds, columns, names, rows)?;
+    show_entries(rt, bounds, columns, names, rows)?;
+    show_actual(rt, bounds, columns, names, rows)
 }
 
 // Labels and reach.
-fn show_cycles<'a>(bounds: &'a [u32], columns: &'a [u32], names: &'a [u8], rows: [Record; 2]) {
-    show_labels(bounds, columns, names, rows);
-    show_reach(bounds, columns, names, rows);
+fn show_cycles<'a>(
+    rt: &impl Print,
+    bounds: &'a [u32],
+    columns: &'a [u32],
+    names: &'a [u8],
+    rows: [Record; 2],
+) -> io::Result<()> {
+    show_labels(rt, bounds, columns, names, rows)?;
+    show_reach(rt, bounds, columns, names, rows)
 }
 
 // Both risks, the plans, what is said of two of them, the whole analysis, and the grounds.
-fn show_plans<'a>(bounds: &'a [u32], columns: &'a [u32], names: &'a [u8], rows: [Record; 2]) {
-    show_early(bounds, columns, names, rows);
-    show_cycle(bounds, columns, names, rows);
-    show_plan(bounds, columns, names, rows);
-    show_worklist(bounds, columns, names, rows);
-    show_takings(bounds, columns, names, rows);
-    show_check(bounds, columns, names, rows, [0, 1, 1, 1]);
+fn show_plans<'a>(
+    rt: &impl Print,
+    bounds: &'a [u32],
+    columns: &'a [u32],
+    names: &'a [u8],
+    rows: [Record; 2],
+) -> io::Result<()> {
+    show_early(rt, bounds, columns, names, rows)?;
+    show_cycle(rt, bounds, columns, names, rows)?;
+    show_plan(rt, bounds, columns, names, rows)?;
+    show_worklist(rt, bounds, columns, names, rows)?;
+    show_takings(rt, bounds, columns, names, rows)?;
+    show_check(rt, bounds, columns, names, rows, [0, 1, 1, 1])?;
     // what rule (i) asks for lacks
-    show_check(bounds, columns, names, rows, [0, 0, 1, 0]);
-    show_analysis(bounds, columns, names, rows);
-    show_grounds(bounds, columns, names, rows);
+    show_check(rt, bounds, columns, names, rows, [0, 0, 1, 0])?;
+    show_analysis(rt, bounds, columns, names, rows)?;
+    show_grounds(rt, bounds, columns, names, rows)
 }
 
 // A tried load, its first step and the one past its last, the first line of a page and the one past its last, and the page.
-fn show_pages<'a>(bounds: &'a [u32], columns: &'a [u32], names: &'a [u8], rows: [Record; 2]) {
-    show_run(bounds, columns, names, rows);
-    show_step(bounds, columns, names, rows, 0);
-    show_step(bounds, columns, names, rows, 4);
-    show_line(bounds, columns, names, rows, 0);
-    show_line(bounds, columns, names, rows, 4);
-    show_page(bounds, columns, names, rows);
+fn show_pages<'a>(
+    rt: &impl Print,
+    bounds: &'a [u32],
+    columns: &'a [u32],
+    names: &'a [u8],
+    rows: [Record; 2],
+) -> io::Result<()> {
+    show_run(rt, bounds, columns, names, rows)?;
+    show_step(rt, bounds, columns, names, rows, 0)?;
+    show_step(rt, bounds, columns, names, rows, 4)?;
+    show_line(rt, bounds, columns, names, rows, 0)?;
+    show_line(rt, bounds, columns, names, rows, 4)?;
+    show_page(rt, bounds, columns, names, rows)
 }
 
 // What is shown with these names and records.
 fn show_part<'a>(
+    rt: &impl Print,
     bounds: &'a [u32],
     columns: &'a [u32],
     names: &'a [u8],
     rows: [Record; 2],
     part: u32,
-) {
+) -> io::Result<()> {
     match part {
         0 => {
-            show_orders(bounds, columns, names, rows);
-            show_circles(bounds, columns, names, rows);
-            show_cycles(bounds, columns, names, rows);
-            show_plans(bounds, columns, names, rows);
+            show_orders(rt, bounds, columns, names, rows)?;
+            show_circles(rt, bounds, columns, names, rows)?;
+            show_cycles(rt, bounds, columns, names, rows)?;
+            show_plans(rt, bounds, columns, names, rows)
         }
-        1 => show_circles(bounds, columns, names, rows),
+        1 => show_circles(rt, bounds, columns, names, rows),
         2 => {
-            show_share(bounds, columns, names, rows);
-            show_pages(bounds, columns, names, rows);
+            show_share(rt, bounds, columns, names, rows)?;
+            show_pages(rt, bounds, columns, names, rows)
         }
         3 => {
-            show_orders(bounds, columns, names, rows);
-            show_circles(bounds, columns, names, rows);
+            show_orders(rt, bounds, columns, names, rows)?;
+            show_circles(rt, bounds, columns, names, rows)
         }
         4 => {
-            show_orders(bounds, columns, names, rows);
-            show_arranged(bounds, columns, names, rows);
+            show_orders(rt, bounds, columns, names, rows)?;
+            show_arranged(rt, bounds, columns, names, rows)
         }
-        5 => show_arranged(bounds, columns, names, rows),
-        _ => show_cycles(bounds, columns, names, rows),
+        5 => show_arranged(rt, bounds, columns, names, rows),
+        _ => show_cycles(rt, bounds, columns, names, rows),
     }
 }
 
 // A part of the listing.
-fn show_listing(names: &[u8], rows: [Record; 2], part: u32) {
+fn show_listing(rt: &impl Print, names: &[u8], rows: [Record; 2], part: u32) -> io::Result<()> {
     let bounds = listing_bounds();
     let columns = listing_columns();
-    show_part(&bounds, &columns, names, rows, part);
+    show_part(rt, &bounds, &columns, names, rows, part)
 }
 
-fn main() {
+fn main(rt: HostRuntime) -> io::Result<()> {
     let rows = two_records(1, 2, 1, 3);
-    show_listing(b"", rows, 0);
+    show_listing(&rt, b"", rows, 0)?;
     // two modules that import each other
-    show_listing(b"", two_records(1, 2, 2, 1), 1);
-    show_listing(b"", rows, 2);
+    show_listing(&rt, b"", two_records(1, 2, 2, 1), 1)?;
+    show_listing(&rt, b"", rows, 2)?;
     // a first column that falls is 3
-    show_listing(b"", two_records(2, 3, 1, 2), 3);
+    show_listing(&rt, b"", two_records(2, 3, 1, 2), 3)?;
     // the second member of each chunk has a name that comes first
-    show_listing(b"a\nrolldown:b\nc\n~rolldown/d\n", rows, 4);
+    show_listing(&rt, b"a\nrolldown:b\nc\n~rolldown/d\n", rows, 4)?;
     // no names, and fewer names than modules, are 2
-    show_listing(b"", rows, 5);
-    show_listing(b"a\n", rows, 6);
+    show_listing(&rt, b"", rows, 5)?;
+    show_listing(&rt, b"a\n", rows, 6)
 }

@@ -7,11 +7,11 @@ ghost use Rattle.import_circles.specs.Promise.{ImportCircles};
 ghost use Rattle.record_columns.specs.Rows.{importer_column, kind_column, target_column};
 ghost use Rattle.sort_chunk_modules.specs.Promise.{SortChunkModules};
 
-mod arrangement;
+mod arranged;
 mod circle;
 mod sort;
 
-use arrangement::arrangement_columns;
+use arranged::arrangement_columns;
 use circle::circle_columns;
 use record_columns::Record;
 use record_columns::inner::columns_of;

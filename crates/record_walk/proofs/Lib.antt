@@ -1,4 +1,2 @@
--- `Frame`: the locals of a function. `Forms`: the walk of a record form. `Shapes`: the own parameters that forms have.
-pub mod Frame
+-- What the record forms share.
 pub mod Forms
-pub mod Shapes

@@ -1,2 +1,2 @@
-// No code: the walk by hand that proves every record form.
+// No code: what the proofs of the record forms share.
 #![tactic(auto)]

@@ -8,8 +8,9 @@
 // 8 8 9 9 10 10; and `5.` for the five values that stand there in the case before. Without names a case has a 0 for them.
 #![tactic(auto)]
 
-use libc::{STDIN_FILENO, STDOUT_FILENO};
 use plan_conditions::Judgement;
+use std::io;
+use streams::read_full;
 use table::{RECORD_KIND, RECORD_MODULE, RECORD_TARGET, column};
 use tables::Answer;
 
@@ -291,15 +292,6 @@ fn differs(a: &[u32], b: &[u32]) -> usize {
         i += 1;
     }
     i
-}
-
-fn wide(x: u32) -> u64 {
-    x as u64
-}
-
-fn print(word: &[u8], value: u64) {
-    io::write_all(STDOUT_FILENO, word);
-    io::print_decimal(STDOUT_FILENO, value);
 }
 
 // The part of a slice from place 0 on that has this length, or all of it.
@@ -657,19 +649,24 @@ fn agrees(answer: Answer, refused: u32, number: u32) -> bool {
     }
 }
 
-fn print_answer(answer: Answer) {
+fn print_answer(rt: &impl Print, answer: Answer) -> io::Result<()> {
     match answer {
-        Answer::Counted(n) => print(b" gives count ", n as u64),
-        Answer::Refused(number) => print(b" gives refusal ", number as u64),
+        Answer::Counted(n) => print!(rt; " gives count {n}"),
+        Answer::Refused(number) => print!(rt; " gives refusal {number}"),
     }
 }
 
 // Says what a call that differs has given, and where each output differs first.
-fn report(call: u64, answer: Answer, first: usize, second: usize) {
-    print(b"\ncall ", call);
-    print_answer(answer);
-    print(b", differs in the first output at ", first as u64);
-    print(b", in the second at ", second as u64);
+fn report(
+    rt: &impl Print,
+    call: u64,
+    answer: Answer,
+    first: usize,
+    second: usize,
+) -> io::Result<()> {
+    print!(rt; "\ncall {call}")?;
+    print_answer(rt, answer)?;
+    print!(rt; ", differs in the first output at {first}, in the second at {second}")
 }
 
 // Where an output differs from what the list says of it: what is written, and else the filler.
@@ -761,6 +758,7 @@ fn answer_of<'a>(
 
 // Compares what a call has given.
 fn compare(
+    rt: &impl Print,
     text: &[u8],
     done: Done,
     filler: u32,
@@ -768,10 +766,11 @@ fn compare(
     answer: Answer,
     first: &[u32],
     second: &[u32],
-) -> Done {
+) -> io::Result<Done> {
     let one = check(text, done.2, first, filler);
     let two = check(text, one.1, second, filler);
     judged(
+        rt,
         Done(done.0, done.1, two.1),
         agrees(answer, head[2], head[3]),
         answer,
@@ -782,6 +781,7 @@ fn compare(
 
 // Makes a call, and compares what it gives.
 fn judge<'a>(
+    rt: &impl Print,
     text: &[u8],
     done: Done,
     settings: [u32; 4],
@@ -790,7 +790,7 @@ fn judge<'a>(
     names: &'a [u8],
     seeds: &'a [u32],
     head: [u32; 6],
-) -> Done {
+) -> io::Result<Done> {
     let filler = settings[2];
     let mut first = [filler; 16392];
     let mut second = [filler; 16392];
@@ -804,23 +804,25 @@ fn judge<'a>(
         &mut second,
         head,
     );
-    compare(text, done, filler, head, answer, &first, &second)
+    compare(rt, text, done, filler, head, answer, &first, &second)
 }
 
 // One call: what the list asks for, and what it says of the answer.
 fn call_of<'a>(
+    rt: &impl Print,
     text: &[u8],
     done: Done,
     settings: [u32; 4],
     bounds: &'a [u32],
     columns: &'a [u32],
     names: &'a [u8],
-) -> Done {
+) -> io::Result<Done> {
     let mut head = [0u32; 6];
     let mut seeds = [0u32; 16385];
     let at = fill(text, done.2, &mut head, 6);
     let some = read_list(text, at, &mut seeds);
     judge(
+        rt,
         text,
         Done(done.0, done.1, some.1),
         settings,
@@ -832,21 +834,29 @@ fn call_of<'a>(
     )
 }
 
-fn judged(done: Done, same: bool, answer: Answer, in_first: usize, in_second: usize) -> Done {
+fn judged(
+    rt: &impl Print,
+    done: Done,
+    same: bool,
+    answer: Answer,
+    in_first: usize,
+    in_second: usize,
+) -> io::Result<Done> {
     let all = std::num::wrapping_add_u64(done.1, 1);
     if same {
         if in_first == 16392 {
             if in_second == 16392 {
-                return Done(std::num::wrapping_add_u64(done.0, 1), all, done.2);
+                return Ok(Done(std::num::wrapping_add_u64(done.0, 1), all, done.2));
             }
         }
     }
-    report(all, answer, in_first, in_second);
-    Done(done.0, all, done.2)
+    report(rt, all, answer, in_first, in_second)?;
+    Ok(Done(done.0, all, done.2))
 }
 
 // The calls of a case. `settings` has the project's two, what outputs hold before a call, and how many calls there are.
 fn calls_of<'a>(
+    rt: &impl Print,
     text: &[u8],
     at: usize,
     settings: [u32; 4],
@@ -854,45 +864,43 @@ fn calls_of<'a>(
     columns: &'a [u32],
     names: &'a [u8],
     calls: u32,
-) -> Done {
+) -> io::Result<Done> {
     let mut done = Done(0, 0, at);
     let mut k = 0;
     while k < calls {
-        done = call_of(text, done, settings, bounds, columns, names);
+        done = call_of(rt, text, done, settings, bounds, columns, names)?;
         k += 1;
     }
-    done
+    Ok(done)
 }
 
-fn print_agreed(calls: u64) {
-    print(b": ok, ", calls);
-    io::write_all(STDOUT_FILENO, b" calls\n");
+fn print_agreed(rt: &impl Print, calls: u64) -> io::Result<()> {
+    println!(rt; ": ok, {calls} calls")
 }
 
-fn print_differs(done: Done) {
-    print(b"\nDIFFERS, agree ", done.0);
-    print(b" of ", done.1);
-    io::write_all(STDOUT_FILENO, b"\n");
+fn print_differs(rt: &impl Print, done: Done) -> io::Result<()> {
+    let Done(agree, all, _) = done;
+    println!(rt; "\nDIFFERS, agree {agree} of {all}")
 }
 
 // Prints `ok`, or how many calls agreed.
-fn print_done(done: Done) {
+fn print_done(rt: &impl Print, done: Done) -> io::Result<()> {
     if done.0 == done.1 {
-        return print_agreed(done.1);
+        return print_agreed(rt, done.1);
     }
-    print_differs(done)
+    print_differs(rt, done)
 }
 
 // Prints the line that begins next, and says where it ends.
-fn print_name(text: &[u8], at: usize) -> usize {
+fn print_name(rt: &impl Print, text: &[u8], at: usize) -> io::Result<usize> {
     let from = skip(text, at);
     let to = line_end(text, from);
     if to <= text.len() {
         if from <= to {
-            io::write_all(STDOUT_FILENO, &text[from..to]);
+            rt.write_all(&text[from..to])?;
         }
     }
-    to
+    Ok(to)
 }
 
 // Reads a list over what stood in its place, and says how long it is.
@@ -911,42 +919,61 @@ fn read_bytes(text: &[u8], at: usize, out: &mut [u8]) -> Word {
 
 // The calls of a case on these columns, with these names.
 fn case_on<'a>(
+    rt: &impl Print,
     text: &[u8],
     at: usize,
     bounds: &'a [u32],
     columns: &'a [u32],
     names: &'a [u8],
-) -> Done {
+) -> io::Result<Done> {
     let mut settings = [0u32; 4];
     let next = fill(text, at, &mut settings, 4);
-    let done = calls_of(text, next, settings, bounds, columns, names, settings[3]);
-    print_done(done);
-    done
+    let done = calls_of(
+        rt,
+        text,
+        next,
+        settings,
+        bounds,
+        columns,
+        names,
+        settings[3],
+    )?;
+    print_done(rt, done)?;
+    Ok(done)
 }
 
 // Prints a case's name, and reads its bounds, columns and names over those of the case before.
 fn read_case(
+    rt: &impl Print,
     text: &[u8],
     at: usize,
     bounds: &mut [u32],
     columns: &mut [u32],
     names: &mut [u8],
-) -> Sizes {
-    let some = read_list(text, print_name(text, at), bounds);
+) -> io::Result<Sizes> {
+    let some = read_list(text, print_name(rt, text, at)?, bounds);
     let all = read_list(text, some.1, columns);
     let lines = read_bytes(text, all.1, names);
-    Sizes {
+    Ok(Sizes {
         bounds: some.0,
         columns: all.0,
         names: lines.0,
         at: lines.1,
-    }
+    })
 }
 
 // A case: its bounds, columns and names stay in these slices for the next.
-fn case(text: &[u8], at: usize, bounds: &mut [u32], columns: &mut [u32], names: &mut [u8]) -> Done {
-    let sizes = read_case(text, at, bounds, columns, names);
+fn case(
+    rt: &impl Print,
+    text: &[u8],
+    at: usize,
+    bounds: &mut [u32],
+    columns: &mut [u32],
+    names: &mut [u8],
+) -> io::Result<Done> {
+    let sizes = read_case(rt, text, at, bounds, columns, names)?;
     case_on(
+        rt,
         text,
         sizes.at,
         first_of(bounds, sizes.bounds),
@@ -965,45 +992,54 @@ fn together(all: Done, one: Done) -> Done {
 }
 
 fn cases(
+    rt: &impl Print,
     text: &[u8],
     at: usize,
     bounds: &mut [u32],
     columns: &mut [u32],
     names: &mut [u8],
     many: u32,
-) -> Done {
+) -> io::Result<Done> {
     let mut all = Done(0, 0, at);
     let mut k = 0;
     while k < many {
-        all = together(all, case(text, all.2, bounds, columns, names));
+        all = together(all, case(rt, text, all.2, bounds, columns, names)?);
         k += 1;
     }
-    all
+    Ok(all)
 }
 
 // Says how many cases and calls there were, and how many calls agreed.
-fn print_all(many: u32, all: Done) {
-    print(b"cases ", wide(many));
-    print(b", calls ", all.1);
-    print(b", agree ", all.0);
-    io::write_all(STDOUT_FILENO, b"\n");
+fn print_all(rt: &impl Print, many: u32, all: Done) -> io::Result<()> {
+    let Done(agree, calls, _) = all;
+    println!(rt; "cases {many}, calls {calls}, agree {agree}")
 }
 
-fn replay(text: &[u8], bounds: &mut [u32], columns: &mut [u32], names: &mut [u8]) {
+fn replay(
+    rt: &impl Print,
+    text: &[u8],
+    bounds: &mut [u32],
+    columns: &mut [u32],
+    names: &mut [u8],
+) -> io::Result<()> {
     let many = number(text, 0);
-    print_all(many.0, cases(text, many.1, bounds, columns, names, many.0));
+    print_all(
+        rt,
+        many.0,
+        cases(rt, text, many.1, bounds, columns, names, many.0)?,
+    )
 }
 
 // The list's cases, with the room that they share.
-fn run_cases(text: &[u8]) {
+fn run_cases(rt: &impl Print, text: &[u8]) -> io::Result<()> {
     let mut bounds = [0u32; 64];
     let mut columns = [0u32; 131072];
     let mut names = [0u8; 266240];
-    replay(text, &mut bounds, &mut columns, &mut names);
+    replay(rt, text, &mut bounds, &mut columns, &mut names)
 }
 
-fn main() {
+fn main(rt: HostRuntime) -> io::Result<()> {
     let mut text = [0u8; 524288];
-    let n = io::read_full(STDIN_FILENO, &mut text);
-    run_cases(&text[..n]);
+    let n = read_full(&mut rt.reader(), &mut text)?;
+    run_cases(&rt, &text[..n])
 }

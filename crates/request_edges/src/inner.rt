@@ -71,7 +71,8 @@ pub fn add_edges(
             continue;
         }
         let target = targets[row];
-        if ROW_LIMIT <= target as usize {
+        let marked = ROW_LIMIT <= target as usize;
+        if marked {
             continue;
         }
         from[end] = source + a;

@@ -100,11 +100,9 @@ fn add_chain_edges<'a>(
     to: &mut [u32],
     count: usize,
 ) -> usize
-    ghost p: { Project }
-    requires project { table 0 0 bounds.now columns.now ≡ p }
-    requires room { SymbolRoom p 32768 from.old to.old count }
-    requires symbols { Symbols p symbols.now }
-    ensures { Adds (ChainEdge p symbols.now) 32768 from.old to.old count from.new to.new result }
+    requires room { let p : Project = table 0 0 bounds.now columns.now in SymbolRoom p 32768 from.old to.old count }
+    requires symbols { let p : Project = table 0 0 bounds.now columns.now in Symbols p symbols.now }
+    ensures { let p : Project = table 0 0 bounds.now columns.now in Adds (ChainEdge p symbols.now) 32768 from.old to.old count from.new to.new result }
 {
     let owner = column(bounds, columns, OWNER);
     let own = add_edges(owner, symbols, from, to, count, 0, CHAIN);
@@ -122,10 +120,8 @@ fn add_chain_edges<'a>(
 
 // Writes each reference's module, where that is a candidate that reads at the top level, else the mark.
 fn find_readers<'a>(bounds: &'a [u32], columns: &'a [u32], candidates: &[u32], readers: &mut [u32])
-    ghost p: { Project }
-    requires project { table 0 0 bounds.now columns.now ≡ p }
-    requires places { References p candidates.now (length readers.old) }
-    ensures { readers.new ≡ readers_of p candidates.now }
+    requires places { let p : Project = table 0 0 bounds.now columns.now in References p candidates.now (length readers.old) }
+    ensures { let p : Project = table 0 0 bounds.now columns.now in readers.new ≡ readers_of p candidates.now }
 {
     let n = candidates.len();
     let mut reading = [0u32; MODULE_LIMIT];
@@ -159,11 +155,9 @@ fn add_read_edges<'a>(
     to: &mut [u32],
     count: usize,
 ) -> usize
-    ghost p: { Project }
-    requires project { table 0 0 bounds.now columns.now ≡ p }
-    requires room { SymbolRoom p 65536 from.old to.old count }
-    requires readers { length readers.now ≡ length p.reference_statement }
-    ensures { Adds (ReadEdge p readers.now) 65536 from.old to.old count from.new to.new result }
+    requires room { let p : Project = table 0 0 bounds.now columns.now in SymbolRoom p 65536 from.old to.old count }
+    requires readers { let p : Project = table 0 0 bounds.now columns.now in length readers.now ≡ length p.reference_statement }
+    ensures { let p : Project = table 0 0 bounds.now columns.now in Adds (ReadEdge p readers.now) 65536 from.old to.old count from.new to.new result }
 {
     let symbols = column(bounds, columns, REFERENCE_SYMBOL);
     let canonical = column(bounds, columns, CANONICAL);
@@ -188,11 +182,9 @@ fn add_symbol_edges<'a>(
     to: &mut [u32],
     count: usize,
 ) -> usize
-    ghost p: { Project }
-    requires project { table 0 0 bounds.now columns.now ≡ p }
-    requires room { SymbolRoom p 98304 from.old to.old count }
-    requires candidates { length candidates.now ≡ modules p }
-    ensures { Adds (SymbolEdge p candidates.now) 98304 from.old to.old count from.new to.new result }
+    requires room { let p : Project = table 0 0 bounds.now columns.now in SymbolRoom p 98304 from.old to.old count }
+    requires candidates { let p : Project = table 0 0 bounds.now columns.now in length candidates.now ≡ modules p }
+    ensures { let p : Project = table 0 0 bounds.now columns.now in Adds (SymbolEdge p candidates.now) 98304 from.old to.old count from.new to.new result }
 {
     let symbols = rows(bounds, columns, OWNER);
     let mut names = [0u32; ROW_LIMIT];
@@ -224,12 +216,10 @@ pub fn request_edges<'a>(
     from: &mut [u32],
     to: &mut [u32],
 ) -> usize
-    ghost p: { Project }
-    requires project { read (table runtime dynamic bounds.now columns.now) importers.now kinds.now targets.now dependencies.now members.now ≡ p }
-    requires room { EdgeRoom p 155648 from.old to.old 0 }
-    requires edges { ImportRows p edge_from.now edge_to.now }
-    requires made { Basis p labels.now sensitive.now eligible.now candidates.now }
-    ensures { Requests p from.old to.old from.new to.new result }
+    requires room { let p : Project = read (table runtime dynamic bounds.now columns.now) importers.now kinds.now targets.now dependencies.now members.now in EdgeRoom p 155648 from.old to.old 0 }
+    requires edges { let p : Project = read (table runtime dynamic bounds.now columns.now) importers.now kinds.now targets.now dependencies.now members.now in ImportRows p edge_from.now edge_to.now }
+    requires made { let p : Project = read (table runtime dynamic bounds.now columns.now) importers.now kinds.now targets.now dependencies.now members.now in Basis p labels.now sensitive.now eligible.now candidates.now }
+    ensures { let p : Project = read (table runtime dynamic bounds.now columns.now) importers.now kinds.now targets.now dependencies.now members.now in Requests p from.old to.old from.new to.new result }
 {
     let n = candidates.len();
     let mut numbers = [0u32; MODULE_LIMIT];

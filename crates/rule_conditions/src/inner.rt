@@ -46,12 +46,10 @@ pub fn lacking_suffix<'a>(
     plan: &[u32],
     copy: &mut [u32],
 ) -> u32
-    ghost p: { Project }
-    requires project { read (table runtime dynamic bounds.now columns.now) importers.now kinds.now targets.now dependencies.now members.now ≡ p }
-    requires sets { SuffixBasis p roots.now sensitive.now eligible.now }
-    requires plan { Marked p plan.now }
+    requires sets { let p : Project = read (table runtime dynamic bounds.now columns.now) importers.now kinds.now targets.now dependencies.now members.now in SuffixBasis p roots.now sensitive.now eligible.now }
+    requires plan { let p : Project = read (table runtime dynamic bounds.now columns.now) importers.now kinds.now targets.now dependencies.now members.now in Marked p plan.now }
     requires copy { length copy.old ≡ length plan.now }
-    ensures { result ≡ lowest (broken p [] plan.now (closed_under suffix_rule)) (modules p) }
+    ensures { let p : Project = read (table runtime dynamic bounds.now columns.now) importers.now kinds.now targets.now dependencies.now members.now in result ≡ lowest (broken p [] plan.now (closed_under suffix_rule)) (modules p) }
 {
     copy_to(plan, copy);
     add_suffixes(
@@ -90,12 +88,10 @@ pub fn lacking_member<'a>(
     plan: &[u32],
     copy: &mut [u32],
 ) -> u32
-    ghost p: { Project }
-    requires project { read (table runtime dynamic bounds.now columns.now) importers.now kinds.now targets.now dependencies.now members.now ≡ p }
-    requires sets { ComponentSets p labels.now sensitive.now eligible.now }
-    requires plan { Marked p plan.now }
+    requires sets { let p : Project = read (table runtime dynamic bounds.now columns.now) importers.now kinds.now targets.now dependencies.now members.now in ComponentSets p labels.now sensitive.now eligible.now }
+    requires plan { let p : Project = read (table runtime dynamic bounds.now columns.now) importers.now kinds.now targets.now dependencies.now members.now in Marked p plan.now }
     requires copy { length copy.old ≡ length plan.now }
-    ensures { result ≡ lowest (broken p [] plan.now (closed_under component_rule)) (modules p) }
+    ensures { let p : Project = read (table runtime dynamic bounds.now columns.now) importers.now kinds.now targets.now dependencies.now members.now in result ≡ lowest (broken p [] plan.now (closed_under component_rule)) (modules p) }
 {
     copy_to(plan, copy);
     pass_members(
@@ -136,14 +132,12 @@ fn lacking_importer<'a>(
     leads: &mut [u32],
     copy: &mut [u32],
 ) -> u32
-    ghost p: { Project }
-    requires project { read (table runtime dynamic bounds.now columns.now) importers.now kinds.now targets.now dependencies.now members.now ≡ p }
-    requires sets { CandidateSet p candidates.now }
-    requires edges { Edged p from.now to.now heads.now nexts.now }
-    requires plan { Marked p plan.now }
-    requires leads { Leading p leads.old plan.now }
+    requires sets { let p : Project = read (table runtime dynamic bounds.now columns.now) importers.now kinds.now targets.now dependencies.now members.now in CandidateSet p candidates.now }
+    requires edges { let p : Project = read (table runtime dynamic bounds.now columns.now) importers.now kinds.now targets.now dependencies.now members.now in Edged p from.now to.now heads.now nexts.now }
+    requires plan { let p : Project = read (table runtime dynamic bounds.now columns.now) importers.now kinds.now targets.now dependencies.now members.now in Marked p plan.now }
+    requires leads { let p : Project = read (table runtime dynamic bounds.now columns.now) importers.now kinds.now targets.now dependencies.now members.now in Leading p leads.old plan.now }
     requires copy { length copy.old ≡ length plan.now }
-    ensures { result ≡ lowest (broken p [] plan.now (closed_under import_rule)) (modules p) }
+    ensures { let p : Project = read (table runtime dynamic bounds.now columns.now) importers.now kinds.now targets.now dependencies.now members.now in result ≡ lowest (broken p [] plan.now (closed_under import_rule)) (modules p) }
 {
     copy_to(plan, copy);
     pass_importers(
@@ -182,12 +176,10 @@ fn lacking_reader<'a>(
     plan: &[u32],
     copy: &mut [u32],
 ) -> u32
-    ghost p: { Project }
-    requires project { read (table runtime dynamic bounds.now columns.now) importers.now kinds.now targets.now dependencies.now members.now ≡ p }
-    requires sets { CandidateSet p candidates.now }
-    requires plan { Marked p plan.now }
+    requires sets { let p : Project = read (table runtime dynamic bounds.now columns.now) importers.now kinds.now targets.now dependencies.now members.now in CandidateSet p candidates.now }
+    requires plan { let p : Project = read (table runtime dynamic bounds.now columns.now) importers.now kinds.now targets.now dependencies.now members.now in Marked p plan.now }
     requires copy { length copy.old ≡ length plan.now }
-    ensures { result ≡ lowest (broken p [] plan.now (closed_under read_rule)) (modules p) }
+    ensures { let p : Project = read (table runtime dynamic bounds.now columns.now) importers.now kinds.now targets.now dependencies.now members.now in result ≡ lowest (broken p [] plan.now (closed_under read_rule)) (modules p) }
 {
     copy_to(plan, copy);
     pass_readers(
@@ -226,14 +218,12 @@ fn lacking_led<'a>(
     leads: &mut [u32],
     copy: &mut [u32],
 ) -> Lacking
-    ghost p: { Project }
-    requires project { read (table runtime dynamic bounds.now columns.now) importers.now kinds.now targets.now dependencies.now members.now ≡ p }
-    requires sets { CandidateSet p candidates.now }
-    requires edges { Edged p from.now to.now heads.now nexts.now }
-    requires plan { Marked p plan.now }
-    requires leads { Leading p leads.old plan.now }
+    requires sets { let p : Project = read (table runtime dynamic bounds.now columns.now) importers.now kinds.now targets.now dependencies.now members.now in CandidateSet p candidates.now }
+    requires edges { let p : Project = read (table runtime dynamic bounds.now columns.now) importers.now kinds.now targets.now dependencies.now members.now in Edged p from.now to.now heads.now nexts.now }
+    requires plan { let p : Project = read (table runtime dynamic bounds.now columns.now) importers.now kinds.now targets.now dependencies.now members.now in Marked p plan.now }
+    requires leads { let p : Project = read (table runtime dynamic bounds.now columns.now) importers.now kinds.now targets.now dependencies.now members.now in Leading p leads.old plan.now }
     requires copy { length copy.old ≡ length plan.now }
-    ensures { LackingReached p plan.now result.importer result.reader }
+    ensures { let p : Project = read (table runtime dynamic bounds.now columns.now) importers.now kinds.now targets.now dependencies.now members.now in LackingReached p plan.now result.importer result.reader }
 {
     let importer = lacking_importer(
         runtime,
@@ -290,12 +280,10 @@ pub fn lacking_reached<'a>(
     plan: &[u32],
     copy: &mut [u32],
 ) -> Lacking
-    ghost p: { Project }
-    requires project { read (table runtime dynamic bounds.now columns.now) importers.now kinds.now targets.now dependencies.now members.now ≡ p }
-    requires sets { ReachedBasis p roots.now eligible.now }
-    requires plan { Marked p plan.now }
+    requires sets { let p : Project = read (table runtime dynamic bounds.now columns.now) importers.now kinds.now targets.now dependencies.now members.now in ReachedBasis p roots.now eligible.now }
+    requires plan { let p : Project = read (table runtime dynamic bounds.now columns.now) importers.now kinds.now targets.now dependencies.now members.now in Marked p plan.now }
     requires copy { length copy.old ≡ length plan.now }
-    ensures { LackingReached p plan.now result.importer result.reader }
+    ensures { let p : Project = read (table runtime dynamic bounds.now columns.now) importers.now kinds.now targets.now dependencies.now members.now in LackingReached p plan.now result.importer result.reader }
 {
     let n = plan.len();
     let mut from = [0u32; ROW_LIMIT];

@@ -1,18 +1,21 @@
 // Reads the names of projects' files from standard input, a name a line, and prints each project's share as it is made, then the totals.
 #![tactic(auto)]
 
-ghost use Rattle.std.specs.Prelude.{◌≡◌, ◌-◌, ◌≤◌, length};
+ghost use Rattle.std.specs.Prelude.{◌≡◌, ℕ, ◌-◌, ◌≤◌, length, IfOk};
 ghost use Rattle.share_totals.specs.Sums.{added};
 ghost use Rattle.share_totals.specs.Within.{Fits, Within};
 ghost use Rattle.season.specs.Sound.{Sound, Room, Acted, Fewer};
 
 use file_names::{NAME_BYTES, Names, Turn, begin, finish, take_byte};
-use libc::{STDIN_FILENO, STDOUT_FILENO};
 use report_lines::inner::put_totals;
 use report_lines::put_outcome;
 use share_text::share_of_text;
 use share_totals::inner::{add, no_project};
 use share_totals::{Outcome, Totals};
+use std::fs::File;
+use std::io::Read;
+use std::rt::Files;
+use std::{io, str};
 use tables::Answer;
 
 // How many bytes of a file are read: one more than a text may have.
@@ -40,10 +43,11 @@ pub enum Got {
 }
 
 // Writes the first n bytes.
-fn write_first(out: &[u8], n: usize) {
+fn write_first(rt: &impl Print, out: &[u8], n: usize) -> io::Result<()> {
     if n <= out.len() {
-        io::write_all(STDOUT_FILENO, &out[0..n]);
+        rt.write_all(&out[0..n])?;
     }
+    Ok(())
 }
 
 // The first n bytes.
@@ -55,51 +59,50 @@ fn first_of(bytes: &[u8], n: usize) -> &[u8] {
 }
 
 // Prints the line of an outcome.
-fn print_outcome(outcome: Outcome) {
+fn print_outcome(rt: &impl Print, outcome: Outcome) -> io::Result<()> {
     let mut out = [0u8; 64];
     let answer = put_outcome(&mut out, outcome);
     let Answer::Counted(n) = answer else {
-        return;
+        return Ok(());
     };
-    write_first(&out, n);
+    write_first(rt, &out, n)
 }
 
 // Prints the closing line.
-fn print_totals(totals: Totals)
+fn print_totals(rt: &impl Print, totals: Totals) -> io::Result<()>
     requires { totals.planned ≤ totals.eligible }
 {
     let mut out = [0u8; 64];
     let answer = put_totals(&mut out, totals);
     let Answer::Counted(n) = answer else {
-        return;
+        return Ok(());
     };
-    write_first(&out, n);
+    write_first(rt, &out, n)
 }
 
 // Reads once.
-fn read_some(fd: i32, part: &mut [u8]) -> Got
+fn read_some(input: &mut impl Read, part: &mut [u8]) -> Got
     ensures { Fewer (length part.old) result }
 {
-    let got = libc::read(fd, part);
-    if got < 0 {
-        return Got::Failed;
+    match input.read(part) {
+        Ok(n) => Got::Bytes(n),
+        Err(_) => Got::Failed,
     }
-    Got::Bytes(io::count(got, part))
 }
 
 // Reads once, behind the first n bytes.
-fn read_behind(fd: i32, text: &mut [u8], n: usize) -> Got
+fn read_behind(input: &mut impl Read, text: &mut [u8], n: usize) -> Got
     requires { n ≤ length text.old }
     ensures { Fewer (length text.old - n) result }
 {
-    read_some(fd, &mut text[n..])
+    read_some(input, &mut text[n..])
 }
 
 // Reads until `text` is full, the file ends or a read fails.
-fn read_text(fd: i32, text: &mut [u8]) -> Got {
+fn read_text(input: &mut impl Read, text: &mut [u8]) -> Got {
     let mut n = 0;
     while n < text.len() {
-        let got = read_behind(fd, text, n);
+        let got = read_behind(input, text, n);
         let Got::Bytes(more) = got else {
             return Got::Failed;
         };
@@ -112,140 +115,171 @@ fn read_text(fd: i32, text: &mut [u8]) -> Got {
 }
 
 // The outcome of an open file.
-fn share_of_descriptor(fd: i32) -> Outcome
+fn share_of_descriptor(file: &mut impl Read) -> Outcome
     ensures { Fits result }
 {
     let mut text = [0u8; TEXT_BYTES];
-    let got = read_text(fd, &mut text);
+    let got = read_text(file, &mut text);
     let Got::Bytes(n) = got else {
         return Outcome::Refused(7);
     };
     share_of_text(first_of(&text, n))
 }
 
-// The outcome of the file of a name.
-fn share_of_file(name: &[u8]) -> Outcome
+// The outcome of the file of a name. One that isn't text names no file.
+fn share_of_file(rt: &impl Files, name: &[u8]) -> Outcome
     ensures { Fits result }
 {
-    let fd = os::open_read(name);
-    if fd < 0 {
+    let Ok(path) = str::from_utf8(name) else {
         return Outcome::Refused(7);
+    };
+    match File::open(rt, path) {
+        Ok(mut file) => share_of_descriptor(&mut file),
+        Err(_) => Outcome::Refused(7),
     }
-    let outcome = share_of_descriptor(fd);
-    libc::close(fd);
-    outcome
 }
 
 // Prints an outcome and adds it to the totals.
-fn count_outcome(totals: Totals, outcome: Outcome) -> Totals
+fn count_outcome(rt: &impl Print, totals: Totals, outcome: Outcome) -> io::Result<Totals>
     requires within { Within 10000 totals }
     requires fits { Fits outcome }
-    ensures { result ≡ added totals outcome }
+    ensures { IfOk result (λ t. t ≡ added totals outcome) }
 {
-    print_outcome(outcome);
-    add(totals, outcome)
+    print_outcome(rt, outcome)?;
+    Ok(add(totals, outcome))
 }
 
 // Does what is due.
-fn act(totals: Totals, turn: Turn, name: &[u8]) -> Totals
+fn act(rt: &(impl Files + Print), totals: Totals, turn: Turn, name: &[u8]) -> io::Result<Totals>
     requires { Room turn totals }
-    ensures { Acted turn totals result }
+    ensures { IfOk result (λ t. Acted turn totals t) }
 {
     match turn {
-        Turn::Nothing => totals,
-        Turn::File(n) => count_outcome(totals, share_of_file(first_of(name, n))),
-        Turn::Refused(number) => count_outcome(totals, Outcome::Refused(number)),
+        Turn::Nothing => Ok(totals),
+        Turn::File(n) => count_outcome(rt, totals, share_of_file(rt, first_of(name, n))),
+        Turn::Refused(number) => count_outcome(rt, totals, Outcome::Refused(number)),
     }
 }
 
 // Takes a byte of the input.
-fn take(season: Season, name: &mut [u8; NAME_BYTES], b: u8) -> Season
+fn take(
+    rt: &(impl Files + Print),
+    season: Season,
+    name: &mut [u8; NAME_BYTES],
+    b: u8,
+) -> io::Result<Season>
     requires { Sound season.names season.totals }
-    ensures { Sound result.names result.totals }
+    ensures { IfOk result (λ s. Sound s.names s.totals) }
 {
     let names = season.names;
     let totals = season.totals;
     let step = take_byte(names, name, b);
     let next = step.names;
     let turn = step.turn;
-    Season {
+    Ok(Season {
         names: next,
-        totals: act(totals, turn, name),
-    }
+        totals: act(rt, totals, turn, name)?,
+    })
 }
 
 // Takes a piece of the input.
-fn take_piece(season: Season, name: &mut [u8; NAME_BYTES], piece: &[u8]) -> Season
+fn take_piece(
+    rt: &(impl Files + Print),
+    season: Season,
+    name: &mut [u8; NAME_BYTES],
+    piece: &[u8],
+) -> io::Result<Season>
     requires { Sound season.names season.totals }
-    ensures { Sound result.names result.totals }
+    ensures { IfOk result (λ s. Sound s.names s.totals) }
 {
     let mut now = season;
     let mut i = 0;
     while i < piece.len() {
-        now = take(now, name, piece[i]);
+        now = take(rt, now, name, piece[i])?;
         i += 1;
     }
-    now
+    Ok(now)
+}
+
+// How many bytes a piece of the input has: a failed read has none.
+fn count_of(got: Got) -> usize
+    ensures { (n : ℕ) → Fewer n got → result ≤ n }
+{
+    match got {
+        Got::Bytes(n) => n,
+        Got::Failed => 0,
+    }
 }
 
 // Reads a piece of the input and takes it. A failed read ends the input, and so does the refusal of the project after the last.
-fn take_some(season: Season, name: &mut [u8; NAME_BYTES]) -> Taken
+fn take_some(
+    rt: &(impl Files + Print),
+    input: &mut impl Read,
+    season: Season,
+    name: &mut [u8; NAME_BYTES],
+) -> io::Result<Taken>
     requires { Sound season.names season.totals }
-    ensures { Sound result.season.names result.season.totals }
+    ensures { IfOk result (λ t. Sound t.season.names t.season.totals) }
 {
-    let mut piece = io::buffer();
-    let got = libc::read(STDIN_FILENO, &mut piece);
-    let n = io::count(got, &piece);
-    let next = take_piece(season, name, &piece[..n]);
+    let mut piece = [0u8; 4096];
+    let n = count_of(read_some(input, &mut piece));
+    let next = take_piece(rt, season, name, &piece[..n])?;
     let names = next.names;
-    Taken {
+    Ok(Taken {
         season: next,
         more: 0 < n && !names.over,
-    }
+    })
 }
 
 // Takes the whole input. A proved loop has to end, so it counts its turns down, from a number that no run uses up.
-fn take_all(season: Season, name: &mut [u8; NAME_BYTES]) -> Season
+fn take_all(
+    rt: &(impl Files + Print),
+    input: &mut impl Read,
+    season: Season,
+    name: &mut [u8; NAME_BYTES],
+) -> io::Result<Season>
     requires { Sound season.names season.totals }
-    ensures { Sound result.names result.totals }
+    ensures { IfOk result (λ s. Sound s.names s.totals) }
 {
     let mut now = season;
     let mut turns = u64::MAX;
     while turns > 0 {
-        let taken = take_some(now, name);
+        let taken = take_some(rt, input, now, name)?;
         let next = taken.season;
         let more = taken.more;
         now = next;
         if !more {
-            return now;
+            return Ok(now);
         }
         turns -= 1;
     }
-    now
+    Ok(now)
 }
 
 // Does what is due at the end of the input.
-fn end(season: Season, name: &[u8; NAME_BYTES]) -> Totals
+fn end(rt: &(impl Files + Print), season: Season, name: &[u8; NAME_BYTES]) -> io::Result<Totals>
     requires { Sound season.names season.totals }
-    ensures { result.planned ≤ result.eligible }
+    ensures { IfOk result (λ t. t.planned ≤ t.eligible) }
 {
     let names = season.names;
     let totals = season.totals;
     if names.over {
-        return totals;
+        return Ok(totals);
     }
     let turn = finish(names);
-    act(totals, turn, name)
+    act(rt, totals, turn, name)
 }
 
-fn main() {
+fn main(rt: HostRuntime) -> io::Result<()> {
     let mut name = [0u8; NAME_BYTES];
     let season = take_all(
+        &rt,
+        &mut rt.reader(),
         Season {
             names: begin(),
             totals: no_project(),
         },
         &mut name,
-    );
-    print_totals(end(season, &name));
+    )?;
+    print_totals(&rt, end(&rt, season, &name)?)
 }

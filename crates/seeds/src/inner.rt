@@ -49,11 +49,9 @@ pub fn mark_table_seeds<'a>(
     eligible: &[u32],
     plan: &mut [u32],
 )
-    ghost p: { Project }
-    requires project { read (table runtime dynamic bounds.now columns.now) importers.now kinds.now targets.now dependencies.now members.now ≡ p }
-    requires eligible { Places p (modules p) (length eligible.now) }
-    requires plan { Places p (modules p) (length plan.old) }
-    ensures { Owners p.seed (looked 0 eligible.now p.seed) (length p.seed) plan.old plan.new }
+    requires eligible { let p : Project = read (table runtime dynamic bounds.now columns.now) importers.now kinds.now targets.now dependencies.now members.now in Places p (modules p) (length eligible.now) }
+    requires plan { let p : Project = read (table runtime dynamic bounds.now columns.now) importers.now kinds.now targets.now dependencies.now members.now in Places p (modules p) (length plan.old) }
+    ensures { let p : Project = read (table runtime dynamic bounds.now columns.now) importers.now kinds.now targets.now dependencies.now members.now in Owners p.seed (looked 0 eligible.now p.seed) (length p.seed) plan.old plan.new }
 {
     mark_seeds(column(bounds, columns, SEED), eligible, plan);
 }

@@ -294,10 +294,8 @@ pub fn mark_table_sensitive<'a>(
     members: &'a [u32],
     marks: &mut [u32],
 )
-    ghost p: { Project }
-    requires project { read (table runtime dynamic bounds.now columns.now) importers.now kinds.now targets.now dependencies.now members.now ≡ p }
-    requires places { Places p (modules p) (length marks.old) }
-    ensures { marks.new ≡ sensitive_marks p }
+    requires places { let p : Project = read (table runtime dynamic bounds.now columns.now) importers.now kinds.now targets.now dependencies.now members.now in Places p (modules p) (length marks.old) }
+    ensures { let p : Project = read (table runtime dynamic bounds.now columns.now) importers.now kinds.now targets.now dependencies.now members.now in marks.new ≡ sensitive_marks p }
 {
     mark_sensitive(
         column(bounds, columns, NORMAL),

@@ -69,10 +69,8 @@ pub fn sort_table<'a>(
     numbers: &mut [u32],
     sorted: &mut [u32],
 ) -> usize
-    ghost p: { Project }
-    requires project { read (table runtime dynamic bounds.now columns.now) importers.now kinds.now targets.now dependencies.now members.now ≡ p }
-    requires places { Sortable p (length marks.old) (length numbers.old) (length sorted.old) }
-    ensures { Sorted (numbers_of p) (sorted_of p) marks.old sorted.old marks.new numbers.new sorted.new result }
+    requires places { let p : Project = read (table runtime dynamic bounds.now columns.now) importers.now kinds.now targets.now dependencies.now members.now in Sortable p (length marks.old) (length numbers.old) (length sorted.old) }
+    ensures { let p : Project = read (table runtime dynamic bounds.now columns.now) importers.now kinds.now targets.now dependencies.now members.now in Sorted (numbers_of p) (sorted_of p) marks.old sorted.old marks.new numbers.new sorted.new result }
 {
     sort(
         column(bounds, columns, NORMAL),

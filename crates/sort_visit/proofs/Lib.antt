@@ -1,2 +1,4 @@
 -- What visits keep.
 mod Carried
+-- A visit, turn by turn.
+mod Turns

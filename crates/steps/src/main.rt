@@ -2,23 +2,18 @@
 // analysis' plan, a line each: place, module, host.
 #![tactic(auto)]
 
-use io::print_decimal;
-use libc::{STDIN_FILENO, STDOUT_FILENO};
 use listing::{Reading, read};
 use load_trial::load_run;
 use order_analysis::analyze_execution_order;
 use parts::{first_of, part_of};
+use std::io;
+use std::rt::Env;
+use streams::read_full;
 use table::{COLUMNS, MODULE_LIMIT, NORMAL, rows};
 use tables::{Answer, ModuleIdx};
 
-fn wide(x: u32) -> u64 {
-    x as u64
-}
-
-fn refused(number: u32) {
-    io::write_all(STDOUT_FILENO, b"refused ");
-    print_decimal(STDOUT_FILENO, wide(number));
-    io::write_all(STDOUT_FILENO, b"\n");
+fn refused(rt: &impl Print, number: u32) -> io::Result<()> {
+    println!(rt; "refused {number}")
 }
 
 // The number with a digit more; the mark where it is too large.
@@ -50,41 +45,38 @@ fn number_of(text: &[u8]) -> u32 {
 }
 
 // The entry that the argument names.
-fn read_entry() -> u32 {
+fn read_entry(rt: &impl Env) -> u32 {
     let mut text = [0u8; 64];
-    let n = os::arg(1, &mut text);
+    let n = rt.arg(1, &mut text).unwrap_or(0);
     number_of(&text[..n])
 }
 
 // A step's line.
-fn print_step(place: u64, module: u32, host: u32) {
-    print_decimal(STDOUT_FILENO, place);
-    io::write_all(STDOUT_FILENO, b" ");
-    print_decimal(STDOUT_FILENO, wide(module));
-    io::write_all(STDOUT_FILENO, b" ");
-    print_decimal(STDOUT_FILENO, wide(host));
-    io::write_all(STDOUT_FILENO, b"\n");
+fn print_step(rt: &impl Print, place: u64, module: u32, host: u32) -> io::Result<()> {
+    println!(rt; "{place} {module} {host}")
 }
 
 // The first steps, as many as there are modules and hosts of them.
-fn print_steps(modules: &[u32], hosts: &[u32]) {
+fn print_steps(rt: &impl Print, modules: &[u32], hosts: &[u32]) -> io::Result<()> {
     for place in 0..modules.len() {
         if hosts.len() <= place {
-            return;
+            return Ok(());
         }
-        print_step(place as u64, modules[place], hosts[place]);
+        print_step(rt, place as u64, modules[place], hosts[place])?;
     }
+    Ok(())
 }
 
 // The steps of an entry's load with a plan.
 fn try_plan<'a>(
+    rt: &(impl Env + Print),
     runtime: u32,
     dynamic: u32,
     bounds: &'a [u32],
     columns: &'a [u32],
     names: &'a [u8],
     plan: &'a [u32],
-) {
+) -> io::Result<()> {
     let mut steps = [0u32; MODULE_LIMIT];
     let mut hosts = [0u32; MODULE_LIMIT];
     let answer = load_run(
@@ -93,31 +85,33 @@ fn try_plan<'a>(
         bounds,
         columns,
         names,
-        read_entry(),
+        read_entry(rt),
         plan,
         &mut steps,
         &mut hosts,
     );
     match answer {
-        Answer::Refused(number) => refused(number),
-        Answer::Counted(count) => print_steps(first_of(&steps, count), &hosts),
+        Answer::Refused(number) => refused(rt, number),
+        Answer::Counted(count) => print_steps(rt, first_of(&steps, count), &hosts),
     }
 }
 
 // The steps with the whole analysis' plan.
 fn try_load<'a>(
+    rt: &(impl Env + Print),
     runtime: u32,
     dynamic: u32,
     bounds: &'a [u32],
     columns: &'a [u32],
     names: &'a [u8],
-) {
+) -> io::Result<()> {
     let n = rows(bounds, columns, NORMAL);
     let mut plan = [0u32; MODULE_LIMIT];
     let answer = analyze_execution_order(runtime, dynamic, bounds, columns, names, &mut plan);
     match answer {
-        Answer::Refused(number) => refused(number),
+        Answer::Refused(number) => refused(rt, number),
         Answer::Counted(_) => try_plan(
+            rt,
             runtime,
             dynamic,
             bounds,
@@ -130,32 +124,41 @@ fn try_load<'a>(
 
 // The steps for a project that was read, with n values in its columns.
 fn try_read<'a>(
+    rt: &(impl Env + Print),
     settings: [u32; 2],
     bounds: &'a [u32; COLUMNS + 1],
     columns: &'a [u32; 32768],
     n: usize,
     names: &'a [u8],
-) {
+) -> io::Result<()> {
     try_load(
+        rt,
         settings[0],
         settings[1],
         bounds,
         first_of(columns, n),
         names,
-    );
+    )
 }
 
-fn main() {
+fn main(rt: HostRuntime) -> io::Result<()> {
     let mut text = [0u8; 65537];
     let mut settings = [0u32; 2];
     let mut bounds = [0u32; COLUMNS + 1];
     let mut columns = [0u32; 32768];
-    let n = io::read_full(STDIN_FILENO, &mut text);
+    let n = read_full(&mut rt.reader(), &mut text)?;
     let answer = read(&text[..n], &mut settings, &mut bounds, &mut columns);
     match answer {
-        Reading::Refused(number) => refused(number),
+        Reading::Refused(number) => refused(&rt, number),
         Reading::Read(k, from, to) => {
-            try_read(settings, &bounds, &columns, k, part_of(&text, from, to))
+            try_read(
+                &rt,
+                settings,
+                &bounds,
+                &columns,
+                k,
+                part_of(&text, from, to),
+            )
         }
     }
 }

@@ -84,13 +84,11 @@ fn lower_entry<'a>(
     asked: &mut [u32],
     root: u32,
 ) -> bool
-    ghost p: { Project }
-    requires project { read (table runtime dynamic bounds.now columns.now) importers.now kinds.now targets.now dependencies.now members.now ≡ p }
-    requires marks { Markings p sensitive.now eligible.now (length asked.old) }
+    requires marks { let p : Project = read (table runtime dynamic bounds.now columns.now) importers.now kinds.now targets.now dependencies.now members.now in Markings p sensitive.now eligible.now (length asked.old) }
     requires placed { length placed.now ≡ length asked.old }
     requires small { Small asked.old }
     requires root { root < length asked.old }
-    ensures { LoweredEntry (expected_of p root) sensitive.now eligible.now placed.now asked.old asked.new result }
+    ensures { let p : Project = read (table runtime dynamic bounds.now columns.now) importers.now kinds.now targets.now dependencies.now members.now in LoweredEntry (expected_of p root) sensitive.now eligible.now placed.now asked.old asked.new result }
 {
     let n = asked.len();
     let mut marks = [0u32; MODULE_LIMIT];
@@ -131,15 +129,13 @@ pub fn lower_entries<'a>(
     settled: &mut [u32],
     asked: &mut [u32],
 )
-    ghost p: { Project }
-    requires project { read (table runtime dynamic bounds.now columns.now) importers.now kinds.now targets.now dependencies.now members.now ≡ p }
-    requires marks { Markings p sensitive.now eligible.now (length asked.old) }
+    requires marks { let p : Project = read (table runtime dynamic bounds.now columns.now) importers.now kinds.now targets.now dependencies.now members.now in Markings p sensitive.now eligible.now (length asked.old) }
     requires placed { length placed.now ≡ length asked.old }
     requires small { Small asked.old }
     requires roots { Below (length asked.old) roots.now }
     requires size { length settled.old ≡ length roots.now }
-    requires settled { Settled p roots.now sensitive.now eligible.now settled.old placed.now }
-    ensures { Lowest p roots.now sensitive.now eligible.now placed.now asked.old settled.new asked.new }
+    requires settled { let p : Project = read (table runtime dynamic bounds.now columns.now) importers.now kinds.now targets.now dependencies.now members.now in Settled p roots.now sensitive.now eligible.now settled.old placed.now }
+    ensures { let p : Project = read (table runtime dynamic bounds.now columns.now) importers.now kinds.now targets.now dependencies.now members.now in Lowest p roots.now sensitive.now eligible.now placed.now asked.old settled.new asked.new }
 {
     for k in 0..roots.len() {
         if settled[k] != 0 {

@@ -115,12 +115,10 @@ fn extend_entry<'a>(
     root: u32,
     k: usize,
 ) -> bool
-    ghost p: { Project }
-    requires project { read (table runtime dynamic bounds.now columns.now) importers.now kinds.now targets.now dependencies.now members.now ≡ p }
-    requires marks { Markings p sensitive.now eligible.now (length plan.old) }
+    requires marks { let p : Project = read (table runtime dynamic bounds.now columns.now) importers.now kinds.now targets.now dependencies.now members.now in Markings p sensitive.now eligible.now (length plan.old) }
     requires root { root < length plan.old }
     requires entry { k < length settled.old }
-    ensures { Extended (expected_of p root) sensitive.now eligible.now k settled.old settled.new plan.old plan.new result }
+    ensures { let p : Project = read (table runtime dynamic bounds.now columns.now) importers.now kinds.now targets.now dependencies.now members.now in Extended (expected_of p root) sensitive.now eligible.now k settled.old settled.new plan.old plan.new result }
 {
     let n = plan.len();
     let mut marks = [0u32; MODULE_LIMIT];
@@ -159,15 +157,13 @@ fn extend_entries<'a>(
     settled: &mut [u32],
     plan: &mut [u32],
 ) -> bool
-    ghost p: { Project }
-    requires project { read (table runtime dynamic bounds.now columns.now) importers.now kinds.now targets.now dependencies.now members.now ≡ p }
-    requires marks { Markings p sensitive.now eligible.now (length plan.old) }
+    requires marks { let p : Project = read (table runtime dynamic bounds.now columns.now) importers.now kinds.now targets.now dependencies.now members.now in Markings p sensitive.now eligible.now (length plan.old) }
     requires roots { Below (length plan.old) roots.now }
     requires size { length settled.old ≡ length roots.now }
-    requires settled { Settled p roots.now sensitive.now eligible.now settled.old plan.old }
+    requires settled { let p : Project = read (table runtime dynamic bounds.now columns.now) importers.now kinds.now targets.now dependencies.now members.now in Settled p roots.now sensitive.now eligible.now settled.old plan.old }
     requires bits { Bits plan.old }
-    ensures settled { Settled p roots.now sensitive.now eligible.now settled.new plan.new }
-    ensures plan { Passed (suffix_asks (has eligible.now) (sensitive_orders p sensitive.now roots.now)) plan.old plan.new result }
+    ensures settled { let p : Project = read (table runtime dynamic bounds.now columns.now) importers.now kinds.now targets.now dependencies.now members.now in Settled p roots.now sensitive.now eligible.now settled.new plan.new }
+    ensures plan { let p : Project = read (table runtime dynamic bounds.now columns.now) importers.now kinds.now targets.now dependencies.now members.now in Passed (suffix_asks (has eligible.now) (sensitive_orders p sensitive.now roots.now)) plan.old plan.new result }
 {
     let mut changed = false;
     for k in 0..roots.len() {
@@ -217,12 +213,10 @@ pub fn pass_suffixes<'a>(
     settled: &mut [u32],
     plan: &mut [u32],
 ) -> bool
-    ghost p: { Project }
-    requires project { read (table runtime dynamic bounds.now columns.now) importers.now kinds.now targets.now dependencies.now members.now ≡ p }
-    requires sets { SuffixSets p roots.now sensitive.now eligible.now candidates.now }
-    requires plan { Marked p plan.old }
-    requires settled { Settling p settled.old plan.old }
-    ensures { SuffixPassed p plan.old settled.new plan.new result }
+    requires sets { let p : Project = read (table runtime dynamic bounds.now columns.now) importers.now kinds.now targets.now dependencies.now members.now in SuffixSets p roots.now sensitive.now eligible.now candidates.now }
+    requires plan { let p : Project = read (table runtime dynamic bounds.now columns.now) importers.now kinds.now targets.now dependencies.now members.now in Marked p plan.old }
+    requires settled { let p : Project = read (table runtime dynamic bounds.now columns.now) importers.now kinds.now targets.now dependencies.now members.now in Settling p settled.old plan.old }
+    ensures { let p : Project = read (table runtime dynamic bounds.now columns.now) importers.now kinds.now targets.now dependencies.now members.now in SuffixPassed p plan.old settled.new plan.new result }
 {
     if count_marked(settled) == settled.len() {
         return false;

@@ -30,10 +30,8 @@ fn count_eligible<'a>(
     members: &'a [u32],
     marks: &mut [u32],
 ) -> usize
-    ghost p: { Project }
-    requires project { read (table runtime dynamic bounds.now columns.now) importers.now kinds.now targets.now dependencies.now members.now ≡ p }
-    requires places { Places p (modules p) (length marks.old) }
-    ensures { result ≡ eligible_count p }
+    requires places { let p : Project = read (table runtime dynamic bounds.now columns.now) importers.now kinds.now targets.now dependencies.now members.now in Places p (modules p) (length marks.old) }
+    ensures { let p : Project = read (table runtime dynamic bounds.now columns.now) importers.now kinds.now targets.now dependencies.now members.now in result ≡ eligible_count p }
 {
     mark_table_eligible(
         runtime,
@@ -63,10 +61,8 @@ pub fn share_of_table<'a>(
     members: &'a [u32],
     marks: &mut [u32],
 ) -> Outcome
-    ghost p: { Project }
-    requires project { read (table runtime dynamic bounds.now columns.now) importers.now kinds.now targets.now dependencies.now members.now ≡ p }
-    requires places { Places p (modules p) (length marks.old) }
-    ensures { result ≡ share_of (eligible_count p) (planned_count p) }
+    requires places { let p : Project = read (table runtime dynamic bounds.now columns.now) importers.now kinds.now targets.now dependencies.now members.now in Places p (modules p) (length marks.old) }
+    ensures { let p : Project = read (table runtime dynamic bounds.now columns.now) importers.now kinds.now targets.now dependencies.now members.now in result ≡ share_of (eligible_count p) (planned_count p) }
 {
     let eligible = count_eligible(
         runtime,
@@ -109,11 +105,9 @@ pub fn share_of_named<'a>(
     members: &'a [u32],
     marks: &mut [u32],
 ) -> Outcome
-    ghost p: { Project }
-    requires project { read (table runtime dynamic bounds.now columns.now) importers.now kinds.now targets.now dependencies.now members.now ≡ p }
-    requires names { names_in (modules p) names.now ≡ true }
-    requires places { Places p (modules p) (length marks.old) }
-    ensures { result ≡ share_of (eligible_count (named p names.now)) (planned_count (named p names.now)) }
+    requires names { let p : Project = read (table runtime dynamic bounds.now columns.now) importers.now kinds.now targets.now dependencies.now members.now in names_in (modules p) names.now ≡ true }
+    requires places { let p : Project = read (table runtime dynamic bounds.now columns.now) importers.now kinds.now targets.now dependencies.now members.now in Places p (modules p) (length marks.old) }
+    ensures { let p : Project = read (table runtime dynamic bounds.now columns.now) importers.now kinds.now targets.now dependencies.now members.now in result ≡ share_of (eligible_count (named p names.now)) (planned_count (named p names.now)) }
 {
     let rows = members.len();
     let mut arranged = [0u32; ROW_LIMIT];

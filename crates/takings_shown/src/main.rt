@@ -2,10 +2,13 @@
 // the waiting ones.
 #![tactic(auto)]
 
-use io::print_decimal;
-use libc::STDOUT_FILENO;
 use listing::{Reading, read};
 use parts::{first_of, part_of};
+use std::env::FillError;
+use std::fs::File;
+use std::rt::{Env, Files};
+use std::{io, str};
+use streams::read_full;
 use table::{COLUMNS, MODULE_LIMIT, SEED, column};
 use tables::Answer;
 use takings_from_seeds::takings_from_seeds;
@@ -13,14 +16,8 @@ use takings_from_seeds::takings_from_seeds;
 // How many bytes of a file are read: one more than a text may have.
 const TEXT_BYTES: usize = 65537;
 
-fn wide(x: u32) -> u64 {
-    x as u64
-}
-
-fn refused(number: u32) {
-    io::write_all(STDOUT_FILENO, b"refused ");
-    print_decimal(STDOUT_FILENO, wide(number));
-    io::write_all(STDOUT_FILENO, b"\n");
+fn refused(rt: &impl Print, number: u32) -> io::Result<()> {
+    println!(rt; "refused {number}")
 }
 
 // The values from place k on.
@@ -32,56 +29,60 @@ fn rest_of(values: &[u32], k: usize) -> &[u32] {
 }
 
 // Prints a module, a space before it.
-fn print_module(m: u32) {
-    io::write_all(STDOUT_FILENO, b" ");
-    print_decimal(STDOUT_FILENO, wide(m));
+fn print_module(rt: &impl Print, m: u32) -> io::Result<()> {
+    print!(rt; " {m}")
 }
 
-fn print_modules(modules: &[u32]) {
+fn print_modules(rt: &impl Print, modules: &[u32]) -> io::Result<()> {
     for i in 0..modules.len() {
-        print_module(modules[i]);
+        print_module(rt, modules[i])?;
     }
+    Ok(())
 }
 
 // Prints a list of which the first k are taken.
-fn print_list(list: &[u32], k: usize) {
-    print_decimal(STDOUT_FILENO, k as u64);
-    io::write_all(STDOUT_FILENO, b":");
-    print_modules(first_of(list, k));
-    io::write_all(STDOUT_FILENO, b" |");
-    print_modules(rest_of(list, k));
-    io::write_all(STDOUT_FILENO, b"\n");
+fn print_list(rt: &impl Print, list: &[u32], k: usize) -> io::Result<()> {
+    print!(rt; "{k}:")?;
+    print_modules(rt, first_of(list, k))?;
+    print!(rt; " |")?;
+    print_modules(rt, rest_of(list, k))?;
+    println!(rt)
 }
 
 // Prints the first n of a list, of which the first k are taken.
-fn print_front(list: &[u32], n: u32, k: usize) {
-    print_list(first_of(list, n as usize), k);
+fn print_front(rt: &impl Print, list: &[u32], n: u32, k: usize) -> io::Result<()> {
+    print_list(rt, first_of(list, n as usize), k)
 }
 
 // Prints the list after each number of takings.
-fn print_takings(list: &[u32], lengths: &[u32]) {
+fn print_takings(rt: &impl Print, list: &[u32], lengths: &[u32]) -> io::Result<()> {
     for k in 0..lengths.len() {
-        print_front(list, lengths[k], k);
+        print_front(rt, list, lengths[k], k)?;
     }
-    print_list(list, list.len());
+    print_list(rt, list, list.len())
 }
 
 // Shows a worklist that was written, or the refusal.
-fn show_written(list: &[u32], lengths: &[u32], answer: Answer) {
+fn show_written(rt: &impl Print, list: &[u32], lengths: &[u32], answer: Answer) -> io::Result<()> {
     match answer {
-        Answer::Refused(number) => refused(number),
-        Answer::Counted(count) => print_takings(first_of(list, count), first_of(lengths, count)),
+        Answer::Refused(number) => refused(rt, number),
+        Answer::Counted(count) => print_takings(
+            rt,
+            first_of(list, count),
+            first_of(lengths, count),
+        ),
     }
 }
 
 // Shows the worklist of a table.
 fn show_table<'a>(
+    rt: &impl Print,
     runtime: u32,
     dynamic: u32,
     bounds: &'a [u32],
     columns: &'a [u32],
     names: &'a [u8],
-) {
+) -> io::Result<()> {
     let mut list = [0u32; MODULE_LIMIT];
     let mut lengths = [0u32; MODULE_LIMIT];
     let answer = takings_from_seeds(
@@ -94,69 +95,77 @@ fn show_table<'a>(
         &mut list,
         &mut lengths,
     );
-    show_written(&list, &lengths, answer);
+    show_written(rt, &list, &lengths, answer)
 }
 
 // Shows that of a project that was read, with n values in its columns.
 fn show_read<'a>(
+    rt: &impl Print,
     settings: [u32; 2],
     bounds: &'a [u32; COLUMNS + 1],
     columns: &'a [u32; 32768],
     n: usize,
     names: &'a [u8],
-) {
+) -> io::Result<()> {
     show_table(
+        rt,
         settings[0],
         settings[1],
         bounds,
         first_of(columns, n),
         names,
-    );
+    )
 }
 
 // Shows that of a text.
-fn show_text(text: &[u8]) {
+fn show_text(rt: &impl Print, text: &[u8]) -> io::Result<()> {
     let mut settings = [0u32; 2];
     let mut bounds = [0u32; COLUMNS + 1];
     let mut columns = [0u32; 32768];
     let answer = read(text, &mut settings, &mut bounds, &mut columns);
     match answer {
-        Reading::Refused(number) => refused(number),
+        Reading::Refused(number) => refused(rt, number),
         Reading::Read(k, from, to) => {
-            show_read(settings, &bounds, &columns, k, part_of(text, from, to))
+            show_read(rt, settings, &bounds, &columns, k, part_of(text, from, to))
         }
     }
 }
 
 // Shows that of an open file.
-fn show_open(fd: i32) {
+fn show_open<R: Files + Print>(rt: &R, file: &mut R::File) -> io::Result<()> {
     let mut text = [0u8; TEXT_BYTES];
-    let n = io::read_full(fd, &mut text);
-    show_text(&text[..n]);
+    match read_full(file, &mut text) {
+        Ok(n) => show_text(rt, &text[..n]),
+        Err(_) => refused(rt, 7),
+    }
 }
 
 // Shows that of the file of a name.
-fn show_file(name: &[u8]) {
-    let fd = os::open_read(name);
-    if fd < 0 {
-        return refused(7);
+fn show_file(rt: &(impl Files + Print), name: &[u8]) -> io::Result<()> {
+    let Ok(path) = str::from_utf8(name) else {
+        return refused(rt, 7);
+    };
+    match File::open(rt, path) {
+        Ok(mut file) => show_open(rt, &mut file),
+        Err(_) => refused(rt, 7),
     }
-    show_open(fd);
-    libc::close(fd);
 }
 
-// Shows that of an argument, below its name.
-fn show_argument(i: usize) {
-    let mut name = io::buffer();
-    let n = os::arg(i, &mut name);
-    io::write_all(STDOUT_FILENO, &name[..n]);
-    io::write_all(STDOUT_FILENO, b"\n");
-    show_file(&name[..n]);
+// Shows that of an argument, below its name. One that is too long for a path has none.
+fn show_argument(rt: &(impl Files + Print), name: &[u8]) -> io::Result<()> {
+    rt.write_all(name)?;
+    println!(rt)?;
+    show_file(rt, name)
 }
 
-fn main() {
-    let count = os::arg_count();
-    for i in 1..count {
-        show_argument(i);
+fn main(rt: HostRuntime) -> io::Result<()> {
+    for i in 1..usize::MAX {
+        let mut name = [0u8; 4096];
+        match rt.arg(i, &mut name) {
+            Ok(n) => show_argument(&rt, &name[..n])?,
+            Err(FillError::TooLong) => show_argument(&rt, b"")?,
+            Err(FillError::NotPresent) => return Ok(()),
+        }
     }
+    Ok(())
 }

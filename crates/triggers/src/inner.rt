@@ -49,14 +49,16 @@ fn trigger_of<'a>(
     requires modules { (length included.now ≡ length normal.now) × (length wrap.now ≡ length normal.now) }
     ensures { result ≡ row_trigger normal.now included.now wrap.now record_kind.now record_target.now row }
 {
-    if 1 < record_kind[row] {
+    let inert = 1 < record_kind[row];
+    if inert {
         return ModuleIdx::MISSING;
     }
     let found = resolve(normal, record_target, row);
     let Target::Normal(t) = found else {
         return ModuleIdx::MISSING;
     };
-    if way_of(normal, included, wrap, t as usize) != 2 {
+    let triggered = way_of(normal, included, wrap, t as usize) == 2;
+    if !triggered {
         return ModuleIdx::MISSING;
     }
     t

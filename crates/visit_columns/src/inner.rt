@@ -100,11 +100,9 @@ pub fn prepare_wrapped<'a>(
     wraps: &'a [u32],
     prepared: &mut [u32],
 )
-    ghost p: { Project }
-    requires project { read (table runtime dynamic bounds.now columns.now) importers.now kinds.now targets.now dependencies.now members.now ≡ p }
-    requires wraps { length wraps.now ≡ modules p }
-    requires places { Places p places (length prepared.old) }
-    ensures { PreparedAs p wraps.now prepared.new }
+    requires wraps { let p : Project = read (table runtime dynamic bounds.now columns.now) importers.now kinds.now targets.now dependencies.now members.now in length wraps.now ≡ modules p }
+    requires places { let p : Project = read (table runtime dynamic bounds.now columns.now) importers.now kinds.now targets.now dependencies.now members.now in Places p places (length prepared.old) }
+    ensures { let p : Project = read (table runtime dynamic bounds.now columns.now) importers.now kinds.now targets.now dependencies.now members.now in PreparedAs p wraps.now prepared.new }
 {
     prepare(
         column(bounds, columns, NORMAL),
@@ -134,10 +132,8 @@ pub fn prepare_table<'a>(
     members: &'a [u32],
     prepared: &mut [u32],
 )
-    ghost p: { Project }
-    requires project { read (table runtime dynamic bounds.now columns.now) importers.now kinds.now targets.now dependencies.now members.now ≡ p }
-    requires places { Places p places (length prepared.old) }
-    ensures { Prepared p prepared.new }
+    requires places { let p : Project = read (table runtime dynamic bounds.now columns.now) importers.now kinds.now targets.now dependencies.now members.now in Places p places (length prepared.old) }
+    ensures { let p : Project = read (table runtime dynamic bounds.now columns.now) importers.now kinds.now targets.now dependencies.now members.now in Prepared p prepared.new }
 {
     prepare_wrapped(
         runtime,

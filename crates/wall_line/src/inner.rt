@@ -32,11 +32,9 @@ pub fn put_whole_line<'a>(
     chunk: u32,
     number: usize,
 ) -> usize
-    ghost p: { Project }
-    requires project { read (table runtime dynamic bounds.now columns.now) importers.now kinds.now targets.now dependencies.now members.now ≡ p }
-    requires entry { Accepted p × Entry p root chunk }
+    requires entry { let p : Project = read (table runtime dynamic bounds.now columns.now) importers.now kinds.now targets.now dependencies.now members.now in Accepted p × Entry p root chunk }
     requires room { 41 ≤ length out.old }
-    ensures { PutAt out.old 0 (page_line_of p root number) out.new result }
+    ensures { let p : Project = read (table runtime dynamic bounds.now columns.now) importers.now kinds.now targets.now dependencies.now members.now in PutAt out.old 0 (page_line_of p root number) out.new result }
 {
     let n = rows(bounds, columns, NORMAL);
     let mut plan = [0u32; MODULE_LIMIT];
@@ -101,12 +99,10 @@ pub fn put_named_line<'a>(
     chunk: u32,
     number: usize,
 ) -> usize
-    ghost p: { Project }
-    requires project { read (table runtime dynamic bounds.now columns.now) importers.now kinds.now targets.now dependencies.now members.now ≡ p }
-    requires names { names_in (modules p) names.now ≡ true }
-    requires entry { Accepted p × Entry p root chunk }
+    requires names { let p : Project = read (table runtime dynamic bounds.now columns.now) importers.now kinds.now targets.now dependencies.now members.now in names_in (modules p) names.now ≡ true }
+    requires entry { let p : Project = read (table runtime dynamic bounds.now columns.now) importers.now kinds.now targets.now dependencies.now members.now in Accepted p × Entry p root chunk }
     requires room { 41 ≤ length out.old }
-    ensures { PutAt out.old 0 (page_line_of (named p names.now) root number) out.new result }
+    ensures { let p : Project = read (table runtime dynamic bounds.now columns.now) importers.now kinds.now targets.now dependencies.now members.now in PutAt out.old 0 (page_line_of (named p names.now) root number) out.new result }
 {
     let rows = members.len();
     let mut arranged = [0u32; ROW_LIMIT];

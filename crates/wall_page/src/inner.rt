@@ -31,12 +31,10 @@ pub fn put_named_page<'a>(
     root: u32,
     chunk: u32,
 ) -> usize
-    ghost p: { Project }
-    requires project { read (table runtime dynamic bounds.now columns.now) importers.now kinds.now targets.now dependencies.now members.now ≡ p }
-    requires names { names_in (modules p) names.now ≡ true }
-    requires entry { Entering p root chunk (length sensitives.now) (length plan.now) }
+    requires names { let p : Project = read (table runtime dynamic bounds.now columns.now) importers.now kinds.now targets.now dependencies.now members.now in names_in (modules p) names.now ≡ true }
+    requires entry { let p : Project = read (table runtime dynamic bounds.now columns.now) importers.now kinds.now targets.now dependencies.now members.now in Entering p root chunk (length sensitives.now) (length plan.now) }
     requires room { 41 * length plan.now ≤ length out.old }
-    ensures { PutAt out.old 0 (marked_page (named p names.now) sensitives.now plan.now root) out.new result }
+    ensures { let p : Project = read (table runtime dynamic bounds.now columns.now) importers.now kinds.now targets.now dependencies.now members.now in PutAt out.old 0 (marked_page (named p names.now) sensitives.now plan.now root) out.new result }
 {
     let rows = members.len();
     let mut arranged = [0u32; ROW_LIMIT];

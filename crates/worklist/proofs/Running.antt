@@ -1,10 +1,9 @@
 -- The run of a worklist: where it starts, and one taking more.
 -- Assumes nothing.
-use Rattle.std.specs.Prelude.{◌≡◌, ℕ, suc, ◌+◌, ◌<◌, ◌≤◌, Bool, true, ◌||◌, ◌⊎◌, List, length, get_or, take, set}
+use Rattle.std.specs.Prelude.{◌≡◌, ℕ, ◌+◌, ◌<◌, ◌≤◌, true, ◌||◌, List, length, get_or, take, set}
 use mathlib.Core.Path.{refl, sym, ap, subst, ◌∙◌}
-use mathlib.Core.Logic.{inl, inr, ⊎_elim}
+use mathlib.Core.Logic.{⊎_elim}
 use mathlib.Core.List.Memᴰ
-use mathlib.Core.List.{Memᴰ}
 use native.Mathlib.Numerals.{add-one}
 use native.Mathlib.Omega.{arith}
 use native.Mathlib.Decide.{ℕ_discrete}
@@ -13,13 +12,11 @@ use lib.Seq.{get_or-take, get_or-set_same, get_or-set_other, length-take-le, ext
 use Rattle.lists.specs.Words.{elem, has}
 use Rattle.lists.proofs.Laws.{or_parts, or_left, iff-eq, has_in, elem_mem, mem-elem, has-marks_of, length-marks_of}
 use Rattle.lists.proofs.Members.{mem-at}
-use Rattle.walk.specs.Reach.{Reach⁺}
 use Rattle.tables.specs.Project.{Project}
 use Rattle.tables.specs.Readings.{modules, values_of}
 use Rattle.tables.specs.Accepted.{Accepted}
 use Rattle.chunk_cycles.specs.Cycles.{labels_of}
 use Rattle.eligibility.specs.Eligible.{eligible, eligible_marks}
-use Rattle.wrap_rules.specs.Rules.{import_asks}
 use Rattle.wrap_rules.specs.Plan.{Rule, suffix_rule, component_rule, import_rule, read_rule, orders_of, asks}
 use Rattle.wrap_rules.proofs.Monotone.{asked-asks}
 use Rattle.wrap_rules.proofs.Plans.{start-length, start_has, has-start}
@@ -28,7 +25,7 @@ use Rattle.wrap_rules.proofs.Sets.{eligible-has}
 use Rattle.wrap_rules.specs.Plan.{reached}
 use Rattle.wrap_rules.specs.inner.Passes.{candidate_marks}
 use Rattle.wrap_rules.proofs.Sets.{length-candidates}
-use Rattle.takings.specs.Taking.{set_of, Taking, Takes, start, next}
+use Rattle.takings.specs.Taking.{Taking, Takes, start, next}
 use Rattle.strong_connection.specs.inner.Graph.{Linked}
 use Rattle.suffix_rule.specs.inner.Suffix.{AllPlanned, Settled, Settling}
 use Rattle.request_queue.specs.inner.Growing.{Listed, Grew, Along}

@@ -42,14 +42,12 @@ pub fn take_all<'a>(
     asked_nexts: &mut [u32],
     lengths: &mut [u32],
 ) -> usize
-    ghost p: { Project }
-    requires project { read (table runtime dynamic bounds.now columns.now) importers.now kinds.now targets.now dependencies.now members.now ≡ p }
-    requires sets { SuffixSets p roots.now sensitive.now eligible.now candidates.now }
-    requires graph { GraphOf p from.now to.now heads.now nexts.now }
+    requires sets { let p : Project = read (table runtime dynamic bounds.now columns.now) importers.now kinds.now targets.now dependencies.now members.now in SuffixSets p roots.now sensitive.now eligible.now candidates.now }
+    requires graph { let p : Project = read (table runtime dynamic bounds.now columns.now) importers.now kinds.now targets.now dependencies.now members.now in GraphOf p from.now to.now heads.now nexts.now }
     requires seeds { Below (length placed.old) seeds.now }
-    requires fresh { Fresh p marks.old queue.old placed.old list.old settled.old asked.old asked_heads.old asked_nexts.old }
+    requires fresh { let p : Project = read (table runtime dynamic bounds.now columns.now) importers.now kinds.now targets.now dependencies.now members.now in Fresh p marks.old queue.old placed.old list.old settled.old asked.old asked_heads.old asked_nexts.old }
     requires room { length placed.old ≤ length lengths.old }
-    ensures { TakenAll p seeds.now placed.new list.new lengths.old lengths.new result }
+    ensures { let p : Project = read (table runtime dynamic bounds.now columns.now) importers.now kinds.now targets.now dependencies.now members.now in TakenAll p seeds.now placed.new list.new lengths.old lengths.new result }
 {
     let mut listed = list_seeds(seeds, eligible, placed, list);
     let mut met = 0;

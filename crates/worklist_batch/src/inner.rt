@@ -45,10 +45,8 @@ fn note_asked<'a>(
     heads: &mut [u32],
     nexts: &mut [u32],
 )
-    ghost p: { Project }
-    requires project { read (table runtime dynamic bounds.now columns.now) importers.now kinds.now targets.now dependencies.now members.now ≡ p }
-    requires noting { Noting p roots.now sensitive.now eligible.now placed.now settled.old asked.old heads.old nexts.old }
-    ensures { Noted p placed.now settled.new asked.new heads.new nexts.new }
+    requires noting { let p : Project = read (table runtime dynamic bounds.now columns.now) importers.now kinds.now targets.now dependencies.now members.now in Noting p roots.now sensitive.now eligible.now placed.now settled.old asked.old heads.old nexts.old }
+    ensures { let p : Project = read (table runtime dynamic bounds.now columns.now) importers.now kinds.now targets.now dependencies.now members.now in Noted p placed.now settled.new asked.new heads.new nexts.new }
 {
     fill(asked, NEVER);
     lower_entries(
@@ -97,11 +95,9 @@ pub fn advance<'a>(
     k: usize,
     end: usize,
 ) -> usize
-    ghost p: { Project }
-    requires project { read (table runtime dynamic bounds.now columns.now) importers.now kinds.now targets.now dependencies.now members.now ≡ p }
-    requires sets { SuffixSets p roots.now sensitive.now eligible.now candidates.now }
-    requires batch { Batching p placed.now list.now settled.old asked.old heads.old nexts.old count k end }
-    ensures { Advanced p placed.now count k settled.new asked.new heads.new nexts.new result }
+    requires sets { let p : Project = read (table runtime dynamic bounds.now columns.now) importers.now kinds.now targets.now dependencies.now members.now in SuffixSets p roots.now sensitive.now eligible.now candidates.now }
+    requires batch { let p : Project = read (table runtime dynamic bounds.now columns.now) importers.now kinds.now targets.now dependencies.now members.now in Batching p placed.now list.now settled.old asked.old heads.old nexts.old count k end }
+    ensures { let p : Project = read (table runtime dynamic bounds.now columns.now) importers.now kinds.now targets.now dependencies.now members.now in Advanced p placed.now count k settled.new asked.new heads.new nexts.new result }
 {
     if k < end {
         return end;

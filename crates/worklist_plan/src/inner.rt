@@ -48,12 +48,10 @@ fn run_edged<'a>(
     placed: &mut [u32],
     lengths: &mut [u32],
 ) -> usize
-    ghost p: { Project }
-    requires project { read (table runtime dynamic bounds.now columns.now) importers.now kinds.now targets.now dependencies.now members.now ≡ p }
-    requires made { Edged p labels.now roots.now sensitive.now eligible.now candidates.now edge_from.now edge_to.now }
-    requires seeds { Seeds p seeds.now (length placed.old) }
+    requires made { let p : Project = read (table runtime dynamic bounds.now columns.now) importers.now kinds.now targets.now dependencies.now members.now in Edged p labels.now roots.now sensitive.now eligible.now candidates.now edge_from.now edge_to.now }
+    requires seeds { let p : Project = read (table runtime dynamic bounds.now columns.now) importers.now kinds.now targets.now dependencies.now members.now in Seeds p seeds.now (length placed.old) }
     requires room { length placed.old ≤ length lengths.old }
-    ensures { Ran p seeds.now placed.new lengths.old lengths.new result }
+    ensures { let p : Project = read (table runtime dynamic bounds.now columns.now) importers.now kinds.now targets.now dependencies.now members.now in Ran p seeds.now placed.new lengths.old lengths.new result }
 {
     let mut from = [0u32; EDGES];
     let mut to = [0u32; EDGES];
@@ -122,12 +120,10 @@ fn run_rooted<'a>(
     placed: &mut [u32],
     lengths: &mut [u32],
 ) -> usize
-    ghost p: { Project }
-    requires project { read (table runtime dynamic bounds.now columns.now) importers.now kinds.now targets.now dependencies.now members.now ≡ p }
-    requires made { Rooted p labels.now roots.now sensitive.now eligible.now }
-    requires seeds { Seeds p seeds.now (length placed.old) }
+    requires made { let p : Project = read (table runtime dynamic bounds.now columns.now) importers.now kinds.now targets.now dependencies.now members.now in Rooted p labels.now roots.now sensitive.now eligible.now }
+    requires seeds { let p : Project = read (table runtime dynamic bounds.now columns.now) importers.now kinds.now targets.now dependencies.now members.now in Seeds p seeds.now (length placed.old) }
     requires room { length placed.old ≤ length lengths.old }
-    ensures { Ran p seeds.now placed.new lengths.old lengths.new result }
+    ensures { let p : Project = read (table runtime dynamic bounds.now columns.now) importers.now kinds.now targets.now dependencies.now members.now in Ran p seeds.now placed.new lengths.old lengths.new result }
 {
     let n = placed.len();
     let mut from = [0u32; ROW_LIMIT];
@@ -203,12 +199,10 @@ fn run_marked<'a>(
     placed: &mut [u32],
     lengths: &mut [u32],
 ) -> usize
-    ghost p: { Project }
-    requires project { read (table runtime dynamic bounds.now columns.now) importers.now kinds.now targets.now dependencies.now members.now ≡ p }
-    requires made { Basis p labels.now sensitive.now eligible.now }
-    requires seeds { Seeds p seeds.now (length placed.old) }
+    requires made { let p : Project = read (table runtime dynamic bounds.now columns.now) importers.now kinds.now targets.now dependencies.now members.now in Basis p labels.now sensitive.now eligible.now }
+    requires seeds { let p : Project = read (table runtime dynamic bounds.now columns.now) importers.now kinds.now targets.now dependencies.now members.now in Seeds p seeds.now (length placed.old) }
     requires room { length placed.old ≤ length lengths.old }
-    ensures { Ran p seeds.now placed.new lengths.old lengths.new result }
+    ensures { let p : Project = read (table runtime dynamic bounds.now columns.now) importers.now kinds.now targets.now dependencies.now members.now in Ran p seeds.now placed.new lengths.old lengths.new result }
 {
     let mut roots = [0u32; MODULE_LIMIT];
     let count = list_table_roots(
@@ -258,11 +252,9 @@ fn run_table<'a>(
     placed: &mut [u32],
     lengths: &mut [u32],
 ) -> usize
-    ghost p: { Project }
-    requires project { read (table runtime dynamic bounds.now columns.now) importers.now kinds.now targets.now dependencies.now members.now ≡ p }
-    requires seeds { Seeds p seeds.now (length placed.old) }
+    requires seeds { let p : Project = read (table runtime dynamic bounds.now columns.now) importers.now kinds.now targets.now dependencies.now members.now in Seeds p seeds.now (length placed.old) }
     requires room { length placed.old ≤ length lengths.old }
-    ensures { Ran p seeds.now placed.new lengths.old lengths.new result }
+    ensures { let p : Project = read (table runtime dynamic bounds.now columns.now) importers.now kinds.now targets.now dependencies.now members.now in Ran p seeds.now placed.new lengths.old lengths.new result }
 {
     let n = placed.len();
     let chunks = rows(bounds, columns, ORDER);
@@ -338,11 +330,9 @@ pub fn plan_by_takings<'a>(
     seeds: &[u32],
     plan: &mut [u32],
 ) -> usize
-    ghost p: { Project }
-    requires project { read (table runtime dynamic bounds.now columns.now) importers.now kinds.now targets.now dependencies.now members.now ≡ p }
-    requires seeds { Seeds p seeds.now (length plan.old) }
-    ensures plan { plan.new ≡ plan_of p seeds.now }
-    ensures count { result ≡ ones (plan_of p seeds.now) }
+    requires seeds { let p : Project = read (table runtime dynamic bounds.now columns.now) importers.now kinds.now targets.now dependencies.now members.now in Seeds p seeds.now (length plan.old) }
+    ensures plan { let p : Project = read (table runtime dynamic bounds.now columns.now) importers.now kinds.now targets.now dependencies.now members.now in plan.new ≡ plan_of p seeds.now }
+    ensures count { let p : Project = read (table runtime dynamic bounds.now columns.now) importers.now kinds.now targets.now dependencies.now members.now in result ≡ ones (plan_of p seeds.now) }
 {
     let mut lengths = [0u32; MODULE_LIMIT];
     run_table(
@@ -378,12 +368,10 @@ pub fn list_takings<'a>(
     list: &mut [u32],
     lengths: &mut [u32],
 ) -> usize
-    ghost p: { Project }
-    requires project { read (table runtime dynamic bounds.now columns.now) importers.now kinds.now targets.now dependencies.now members.now ≡ p }
-    requires seeds { Seeds p seeds.now (modules p) }
-    requires list { modules p ≤ length list.old }
-    requires lengths { modules p ≤ length lengths.old }
-    ensures { RunWritten p seeds.now list.old lengths.old list.new lengths.new result }
+    requires seeds { let p : Project = read (table runtime dynamic bounds.now columns.now) importers.now kinds.now targets.now dependencies.now members.now in Seeds p seeds.now (modules p) }
+    requires list { let p : Project = read (table runtime dynamic bounds.now columns.now) importers.now kinds.now targets.now dependencies.now members.now in modules p ≤ length list.old }
+    requires lengths { let p : Project = read (table runtime dynamic bounds.now columns.now) importers.now kinds.now targets.now dependencies.now members.now in modules p ≤ length lengths.old }
+    ensures { let p : Project = read (table runtime dynamic bounds.now columns.now) importers.now kinds.now targets.now dependencies.now members.now in RunWritten p seeds.now list.old lengths.old list.new lengths.new result }
 {
     let n = rows(bounds, columns, NORMAL);
     let mut placed = [0u32; MODULE_LIMIT];

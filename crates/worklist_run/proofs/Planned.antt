@@ -1,7 +1,7 @@
 -- A complete chain of takings is the plan.
 -- Assumes nothing.
-use Rattle.std.specs.Prelude.{◌≡◌, ℕ, ◌<◌, true, List, length, take}
-use mathlib.Core.Path.{refl, sym, ap, subst, ◌∙◌}
+use Rattle.std.specs.Prelude.{◌≡◌, ℕ, List, length, take}
+use mathlib.Core.Path.{sym, ap, subst, ◌∙◌}
 use Rattle.lists.specs.Words.{elem, has, marks_of}
 use Rattle.lists.proofs.Laws.{iff-eq, marks_of-cong}
 use Rattle.tables.specs.Project.{Project}

@@ -1,7 +1,7 @@
 -- Where a run starts: nothing is listed, met, settled or noted.
 -- Assumes nothing.
-use Rattle.std.specs.Prelude.{◌≡◌, ℕ, zero, suc, ◌+◌, ◌<◌, ◌≤◌, true, List, [], ◌∷◌, length, get_or, replicate}
-use mathlib.Core.Path.{refl, sym, ap, subst, ◌∙◌}
+use Rattle.std.specs.Prelude.{◌≡◌, ℕ, zero, suc, ◌+◌, true, List, [], ◌∷◌, length, get_or, replicate}
+use mathlib.Core.Path.{refl, sym, ap, ◌∙◌}
 use native.Mathlib.Omega.{arith}
 use lib.ListN.{get_or-replicate, length-replicate}
 use Rattle.lists.specs.Words.{has, ones}
@@ -9,7 +9,7 @@ use Rattle.tables.specs.Project.{Project}
 use Rattle.tables.specs.Readings.{modules}
 use Rattle.tables.specs.Threads.{Threads}
 use Rattle.wrap_rules.specs.Plan.{roots}
-use Rattle.suffix_rule.specs.inner.Suffix.{Settled, Settling}
+use Rattle.suffix_rule.specs.inner.Suffix.{Settled}
 use Rattle.request_queue.specs.inner.Growing.{Listed}
 use Rattle.suffix_places.specs.inner.Places.{never}
 use Rattle.worklist_step.specs.inner.Step.{nodes}

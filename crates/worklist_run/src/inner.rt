@@ -52,13 +52,11 @@ pub fn run_linked<'a>(
     placed: &mut [u32],
     lengths: &mut [u32],
 ) -> usize
-    ghost p: { Project }
-    requires project { read (table runtime dynamic bounds.now columns.now) importers.now kinds.now targets.now dependencies.now members.now ≡ p }
-    requires sets { SuffixSets p roots.now sensitive.now eligible.now candidates.now }
-    requires graph { GraphOf p from.now to.now heads.now nexts.now }
-    requires seeds { Seeds p seeds.now (length placed.old) }
+    requires sets { let p : Project = read (table runtime dynamic bounds.now columns.now) importers.now kinds.now targets.now dependencies.now members.now in SuffixSets p roots.now sensitive.now eligible.now candidates.now }
+    requires graph { let p : Project = read (table runtime dynamic bounds.now columns.now) importers.now kinds.now targets.now dependencies.now members.now in GraphOf p from.now to.now heads.now nexts.now }
+    requires seeds { let p : Project = read (table runtime dynamic bounds.now columns.now) importers.now kinds.now targets.now dependencies.now members.now in Seeds p seeds.now (length placed.old) }
     requires room { length placed.old ≤ length lengths.old }
-    ensures { Ran p seeds.now placed.new lengths.old lengths.new result }
+    ensures { let p : Project = read (table runtime dynamic bounds.now columns.now) importers.now kinds.now targets.now dependencies.now members.now in Ran p seeds.now placed.new lengths.old lengths.new result }
 {
     let n = placed.len();
     let rows = roots.len();

@@ -1,20 +1,18 @@
 -- The taken ones by their places, and one taking more.
 -- Assumes nothing.
-use mathlib.Core.Path.{◌≡◌, refl, sym, ap, subst, ◌∙◌}
-use mathlib.Core.Logic.{◌⊎◌, inl, inr, ⊎_elim}
-use mathlib.Core.Bool.{Bool, true, not}
+use mathlib.Core.Path.{◌≡◌, sym, ap, subst, ◌∙◌}
+use mathlib.Core.Bool.{true}
 use mathlib.Core.List.{List, [], ◌∷◌, Memᴰ}
-use Prim.Native.Nat.{ℕ, zero, suc, ◌+◌, ◌≤◌, ◌<◌}
+use Prim.Native.Nat.{ℕ, suc, ◌+◌, ◌≤◌, ◌<◌}
 use native.Mathlib.Omega.{arith}
-use native.Mathlib.Decide.{ℕ_discrete}
 use lib.ListN.{length, get_or, take}
 use lib.Seq.{get_or-take, length-take-le, ext_get_or}
-use Rattle.lists.specs.Words.{is_zero, elem, has, marks_of, Distinct}
+use Rattle.lists.specs.Words.{elem, has, Distinct}
 use Rattle.lists.proofs.Laws.{elem_mem, mem-elem, has_in, mark-in, has-marks_of, length-marks_of}
 use Rattle.lists.proofs.Members.{mem-at, get_d-mem}
 use Rattle.takings.specs.Taking.{set_of}
 use Rattle.request_queue.specs.inner.Growing.{Listed, Grew}
-use Rattle.request_queue.proofs.Growing.{count_fits, grew-has}
+use Rattle.request_queue.proofs.Growing.{count_fits}
 
 -- a list whose members have places of their own has each once
 distinct-places : (xs : List ℕ) → ((i j : ℕ) → i < length xs → j < length xs → get_or xs i 0 ≡ get_or xs j 0 → i ≡ j) → Distinct xs

@@ -1,16 +1,16 @@
 -- Rule (i) by two places of an expected order.
 -- Assumes nothing.
 use mathlib.Core.Path.{◌≡◌, refl, sym, ap, subst, ◌∙◌}
-use mathlib.Core.Bool.{Bool, true, ◌&&◌}
+use mathlib.Core.Bool.{Bool, true}
 use mathlib.Core.List.Memᴰ
 use mathlib.Core.List.{List, [], ◌∷◌, map, Memᴰ}
 use Prim.Native.Nat.{ℕ}
-use lib.ListN.{length, get_or}
-use Rattle.lists.specs.Words.{keep, any, elem, has}
+use lib.ListN.{get_or}
+use Rattle.lists.specs.Words.{keep, elem, has}
 use Rattle.lists.proofs.Laws.{and_parts, and-join, any-mem, mem-any}
 use Rattle.tables.specs.Project.{Project}
 use Rattle.expected_order.specs.OfProject.{expected_of}
-use Rattle.sensitivity.specs.Marks.{sensitive, sensitive_marks}
+use Rattle.sensitivity.specs.Marks.{sensitive_marks}
 use Rattle.eligibility.specs.Eligible.{eligible, eligible_marks}
 use Rattle.sensitivity.proofs.Marks.{sensitive-marks}
 use Rattle.wrap_rules.specs.Rules.{from_first, suffix_asks}

@@ -2,31 +2,29 @@
 -- Assumes nothing.
 use mathlib.Core.Path.{◌≡◌, refl, sym, ap, subst, ◌∙◌}
 use mathlib.Core.Logic.{◌⊎◌, inl, inr, ⊎_elim}
-use mathlib.Core.Bool.{Bool, true, ◌||◌}
-use mathlib.Core.List.{List, Memᴰ}
+use mathlib.Core.Bool.{true, ◌||◌}
+use mathlib.Core.List.{List}
 use Prim.Native.Nat.{ℕ, ◌+◌, ◌≤◌, ◌<◌}
 use native.Mathlib.Omega.{arith}
 use native.Mathlib.Decide.{dec_lt}
 use lib.ListN.{length, get_or, take}
-use Rattle.lists.specs.Words.{any, elem, has, marks_of}
-use Rattle.lists.proofs.Laws.{both, or_parts, or_left, or_right, and-join, and_parts, iff-eq, has_in, mem-any, any-mem, mark-in, length-marks_of}
+use Rattle.lists.specs.Words.{any, elem, has}
+use Rattle.lists.proofs.Laws.{or_parts, or_left, or_right, and-join, and_parts, iff-eq, has_in, mem-any, any-mem, mark-in, length-marks_of}
 use Rattle.walk.specs.Reach.{Reach, here, step, Reach⁺}
 use Rattle.walk.specs.Close.{Monotone, Within}
 use Rattle.tables.specs.Project.{Project}
 use Rattle.tables.specs.Readings.{modules, values_of}
 use Rattle.tables.specs.Accepted.{Accepted}
 use Rattle.chunk_cycles.specs.Cycles.{labels_of}
-use Rattle.sensitivity.specs.Marks.{sensitive, sensitive_marks}
+use Rattle.sensitivity.specs.Marks.{sensitive}
 use Rattle.eligibility.specs.Eligible.{eligible, eligible_marks}
 use Rattle.eligibility.proofs.Eligible.{eligible-in}
 use Rattle.wrap_rules.specs.Rules.{imports_of, leads, component_asks, read_asks, suffix_asks, import_asks}
-use Rattle.wrap_rules.specs.Plan.{Rule, suffix_rule, component_rule, import_rule, read_rule, roots, reached, orders_of, asks}
+use Rattle.wrap_rules.specs.Plan.{Rule, suffix_rule, component_rule, import_rule, read_rule, reached, orders_of, asks}
 use Rattle.wrap_rules.specs.inner.Passes.{candidate_marks}
 use Rattle.wrap_rules.proofs.Monotone.{asked-monotone, asks-asked, asked-asks}
-use Rattle.wrap_rules.proofs.Plans.{start-length, asks-eligible}
+use Rattle.wrap_rules.proofs.Plans.{start-length}
 use Rattle.wrap_rules.proofs.Sets.{eligible-has, candidate-parts, parts-candidate, length-candidates}
-use Rattle.takings.specs.Taking.{set_of, Taking}
-use Rattle.request_queue.specs.inner.Growing.{Listed, Grew, Reached}
 use Rattle.request_queue.proofs.Growing.{grew-has, count_fits}
 use Rattle.request_graph.specs.inner.Requests.{at_request, at_lead, at_dependent}
 use Rattle.request_meaning.proofs.Leading.{import-in, leads-reach, reach_leads}

@@ -32,11 +32,9 @@ fn plan_marked<'a>(
     seeds: &[u32],
     plan: &mut [u32],
 )
-    ghost p: { Project }
-    requires project { read (table runtime dynamic bounds.now columns.now) importers.now kinds.now targets.now dependencies.now members.now ≡ p }
-    requires made { Basis p labels.now sensitive.now eligible.now }
-    requires seeds { Seeds p seeds.now (length plan.old) }
-    ensures { plan.new ≡ plan_of p seeds.now }
+    requires made { let p : Project = read (table runtime dynamic bounds.now columns.now) importers.now kinds.now targets.now dependencies.now members.now in Basis p labels.now sensitive.now eligible.now }
+    requires seeds { let p : Project = read (table runtime dynamic bounds.now columns.now) importers.now kinds.now targets.now dependencies.now members.now in Seeds p seeds.now (length plan.old) }
+    ensures { let p : Project = read (table runtime dynamic bounds.now columns.now) importers.now kinds.now targets.now dependencies.now members.now in plan.new ≡ plan_of p seeds.now }
 {
     fill(plan, 0);
     mark_seeds(seeds, eligible, plan);
@@ -71,11 +69,9 @@ pub fn plan_seeds<'a>(
     seeds: &[u32],
     plan: &mut [u32],
 ) -> usize
-    ghost p: { Project }
-    requires project { read (table runtime dynamic bounds.now columns.now) importers.now kinds.now targets.now dependencies.now members.now ≡ p }
-    requires seeds { Seeds p seeds.now (length plan.old) }
-    ensures plan { plan.new ≡ plan_of p seeds.now }
-    ensures count { result ≡ ones (plan_of p seeds.now) }
+    requires seeds { let p : Project = read (table runtime dynamic bounds.now columns.now) importers.now kinds.now targets.now dependencies.now members.now in Seeds p seeds.now (length plan.old) }
+    ensures plan { let p : Project = read (table runtime dynamic bounds.now columns.now) importers.now kinds.now targets.now dependencies.now members.now in plan.new ≡ plan_of p seeds.now }
+    ensures count { let p : Project = read (table runtime dynamic bounds.now columns.now) importers.now kinds.now targets.now dependencies.now members.now in result ≡ ones (plan_of p seeds.now) }
 {
     let n = plan.len();
     let chunks = rows(bounds, columns, ORDER);

@@ -24,10 +24,10 @@ use Rattle.wrap_rules.specs.Rules.{from_first, same_component, component_asks, i
 pub from_first-places : (f : ℕ → Bool) {x : ℕ} (xs : List ℕ) → Memᴰ x (from_first f xs)
     → (i j : ℕ) × (i ≤ j) × (j < length xs) × (f (get_or xs i 0) ≡ true) × (get_or xs j 0 ≡ x)
 from_first-places f [] h = absurd (Memᴰ.not-nil h)
-from_first-places f (y ∷ xs) h =
+from_first-places f {x = x} (y ∷ xs) h =
     ⊎_elim
     (λ e. let r = mem-at (y ∷ xs) (rw e at h) in (zero, r.0, omega arith, r.1, e, r.2))
-    (λ e. let r = from_first-places f xs (rw e at h) in (suc r.0, suc r.1, omega (arith, r.2), omega (arith, r.3), r.4, r.5))
+    (λ e. let r = from_first-places f {x = x} xs (rw e at h) in (suc r.0, suc r.1, omega (arith, r.2), omega (arith, r.3), r.4, r.5))
     (both (f y))
 
 pub places-from_first : (f : ℕ → Bool) (xs : List ℕ) (i j : ℕ) → i ≤ j → j < length xs → f (get_or xs i 0) ≡ true → Memᴰ (get_or xs j 0) (from_first f xs)

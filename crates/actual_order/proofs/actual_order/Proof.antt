@@ -13,9 +13,8 @@ returns : tie.Need-returns
 returns c =
     let a = c.args in
     let done = c.actual_order_with_records in
-    let out = done.new.1.1.1.1.1.1.1.1.1 in
-    let order : List ℕ = out.0 in
-    let hosts : List ℕ = out.1.0 in
+    let order : List ℕ = done.new.order in
+    let hosts : List ℕ = done.new.hosts in
     subst (λ (t : Lent). ActualOrder t a.root a.order.now a.hosts.now done.result order hosts)
     (lent-named-cut a.runtime a.dynamic a.bounds.now a.columns.now a.names.now c.column.ensures c.column-2.ensures c.column-3.ensures)
     done.ensures

@@ -89,10 +89,10 @@ part c = let k = c.before.before in length-take-le (count k) (entry k.before.bef
 -- the columns that were read, and the project that the core reads with them
 
 abbrev made-targets : tie.After-read_current → List ℕ
-made-targets k = k.read_current.new.1.1.1.1.1.1.1.0
+made-targets k = k.read_current.new.read_targets
 
 abbrev made-dependencies : tie.After-read_current → List ℕ
-made-dependencies k = k.read_current.new.1.1.1.1.1.1.1.1.0
+made-dependencies k = k.read_current.new.read_dependencies
 
 own : (k : tie.After-read_dependencies-3-1) → let a = k.args in read (table a.runtime a.dynamic a.bounds.now a.columns.now) a.importers.now a.kinds.now (take (length a.targets.now) (made-targets k.before.before.before.before.before)) (take k.rows-dependency_rows.result (made-dependencies k.before.before.before.before.before)) k.column-members.result.now ≡ current-of k.before.before.before.before.before.before.before.before.before.before.before.before.before.before.before.before.before.before.before.before.before.before.before.before.before
 own k =
@@ -158,7 +158,7 @@ arrange-and-list-requires c κs =
     let k = c.before.before.before.before.before.before.before.before.before.before.before.before.before.before.before in
     let a = (entry k).args in
     let n = c.before.before.before.before.before.before.before.before.before.before.before.before in
-    subst (λ (p : Project). (names_in (modules p) a.names.now ≡ true) × Listing p a.root c.find_entry-chunk.result (length a.order-1.now) (length (take (count n) a.hosts-1.now))) (sym (own c.before.before)) (
+    subst (λ (p : Project). (names_in (modules p) a.names.now ≡ true) × Listing p a.root c.find_entry-chunk.result (length a.order.now) (length (take (count n) a.hosts.now))) (sym (own c.before.before)) (
       lent-fit a.bounds.now a.columns.now a.names.now (written (entry k)) (accepts k),
       record { accepted = ok k; entry = (here c.before.before.before.before.before.before.before.before.before.before.before.before.before).1; size = part c.before.before.before.before.before.before.before.before.before.before ∙ counted-read n; room = omega (arith, counted-read n, c.if-order-modules.false) },
     )
@@ -170,9 +170,8 @@ returns-5 c =
     let a = e.args in
     let n = c.before.before.before.before.before.before.before.before.before.before.before.before.before.before.before.before.before in
     let done = c.arrange_and_list-count in
-    let out = done.new.1.1.1.1.1.1.1.1.1.1 in
-    let order : List ℕ = out.0 in
-    let hosts : List ℕ = out.1.0 in
+    let order : List ℕ = done.new.order in
+    let hosts : List ℕ = done.new.hosts in
     subst (λ (i : ℕ). ActualOrder (lents e) a.root a.order.now a.hosts.now (Counted done.result) order (hosts ++ drop i a.hosts.now)) (sym (counted n))
     (run-counted (lents e) a.root a.order.now a.hosts.now (accepts k) (here c.before.before.before.before.before.before.before.before.before.before.before.before.before.before.before.before.before.before).0 (omega (arith, counted n, c.if-order-modules.false)) (omega (arith, counted n, c.if-hosts-modules.false))
     (subst (λ (p : Project). Listed (run_of (named p a.names.now) (named p a.names.now).wrap a.root) a.order.now order hosts done.result) (own c.before.before.before.before.before.before.before) done.ensures))

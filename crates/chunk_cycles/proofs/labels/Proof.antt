@@ -13,7 +13,7 @@ returns : tie.Need-returns
 returns c =
     let a = c.args in
     let done = c.labels_with_records in
-    let made : List ℕ = done.new.1.1.1.1.1.1.1.1.0 in
+    let made : List ℕ = done.new.labels in
     subst (λ (t : Lent). LabelsPromise t a.labels.now done.result made)
     (lent_cut a.runtime a.dynamic a.bounds.now a.columns.now a.names.now c.column.ensures c.column-2.ensures c.column-3.ensures)
     done.ensures

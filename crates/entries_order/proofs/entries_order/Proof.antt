@@ -14,7 +14,7 @@ returns c =
     let done = c.entries_order_with_records in
     let k = c.before.before.before.before in
     let a = k.args in
-    let order : List ℕ = done.new.1.1.1.1.1.1.1.1.1.0 in
+    let order : List ℕ = done.new.order in
     subst (λ (t : Lent). EntriesOrder t a.entries.now a.order.now done.result order)
     (lent_cut a.runtime a.dynamic a.bounds.now a.columns.now a.names.now k.column.ensures k.column-2.ensures k.column-3.ensures)
     done.ensures

@@ -5,7 +5,6 @@ use mathlib.Core.Path.{sym, subst, ◌∙◌}
 use native.Mathlib.Omega.{arith}
 use lib.ListN.{length-replicate}
 use borrow.Author.Rules.{rules}
-use Rattle.lists.proofs.Laws.{not-true, not-false}
 use Rattle.tables.specs.Project.{Project}
 use Rattle.tables.specs.Readings.{modules}
 use Rattle.tables.specs.Refusal.{row_limit, below}
@@ -56,15 +55,15 @@ entries-tested : (k : tie.After-all_below) → k.all_below.result ≡ below (mod
 entries-tested k = subst (λ (n : ℕ). k.all_below.result ≡ below n (entry k.before).args.entries.now) (counted k.before) k.all_below.ensures
 
 fits : (c : tie.Else-not-all_below) → below (modules (of (entry c.before.before))) (entry c.before.before).args.entries.now ≡ true
-fits c = sym (entries-tested c.before) ∙ not-false c.all_below.result c.if-not-all_below.false
+fits c = sym (entries-tested c.before) ∙ c.if-not-all_below.false
 
 -- the columns that were read, and the project that the core reads with them
 
 abbrev made-targets : tie.After-read_current → List ℕ
-made-targets k = k.read_current.new.1.1.1.1.1.1.1.0
+made-targets k = k.read_current.new.read_targets
 
 abbrev made-dependencies : tie.After-read_current → List ℕ
-made-dependencies k = k.read_current.new.1.1.1.1.1.1.1.1.0
+made-dependencies k = k.read_current.new.read_dependencies
 
 own : (k : tie.After-column) → let a = k.args in read (table a.runtime a.dynamic a.bounds.now a.columns.now) a.importers.now a.kinds.now (take (length a.targets.now) (made-targets k.before.before.before.before.before.before)) (take k.rows-dependency_rows.result (made-dependencies k.before.before.before.before.before.before)) k.column.result.now ≡ of k.before.before.before.before.before.before.before.before.before.before.before.before.before.before.before.before.before.before.before.before.before.before.before
 own k =
@@ -78,7 +77,7 @@ returns-2 : tie.Need-returns-then-not-all_below
 returns-2 c =
     let k = c.before.before in
     let e = entry k in
-    entries-refused (lents e) e.args.entries.now e.args.order.now (accepts k) (sym (entries-tested c.before) ∙ not-true c.all_below.result c.if-not-all_below.true)
+    entries-refused (lents e) e.args.entries.now e.args.order.now (accepts k) (sym (entries-tested c.before) ∙ c.if-not-all_below.true)
 
 returns-3 : tie.Need-returns-then-order-modules
 returns-3 c =
@@ -125,7 +124,7 @@ returns-4 c =
     let k = c.before.before.before.before.before.before.before.before.before.before.before.before.before.before.before.before in
     let e = entry k in
     let done = c.list_entries-count in
-    let order : List ℕ = done.new.1.1.1.1.1.1.1.1.1.1.0 in
+    let order : List ℕ = done.new.order in
     order-written (lents e) e.args.entries.now e.args.order.now (accepts k) (fits c.before.before.before.before.before.before.before.before.before.before.before.before.before.before) (omega (arith, counted k, c.if-order-modules.false))
     (subst (λ (p : Project). Written (expected_of_entries p e.args.entries.now) e.args.order.now order done.result) (own c.before.before.before.before) done.ensures)
 

@@ -13,7 +13,7 @@ returns : tie.Need-returns
 returns c =
     let a = c.args in
     let done = c.expected_order_with_records in
-    let order : List ℕ = done.new.1.1.1.1.1.1.1.1.1.0 in
+    let order : List ℕ = done.new.expected in
     subst (λ (t : Lent). ExpectedOrder t a.root a.expected.now done.result order)
     (lent_cut a.runtime a.dynamic a.bounds.now a.columns.now a.names.now c.column.ensures c.column-2.ensures c.column-3.ensures)
     done.ensures

@@ -6,17 +6,17 @@ use Rattle.file_names.specs.Steps.{kept_after}
 use Rattle.file_names.proofs.keep_byte.Statement.{statement}
 use Rattle.file_names.proofs.keep_byte.Tie as tie
 
-returns : tie.Need-returns
+returns : tie.Need-returns-then-b-eq10
 unfolding kept_after
-returns c = simp (eq-eqb _ _ c.if1.true)
+returns c = simp (eq-eqb _ _ c.if-b-eq10.true)
 
-returns-2 : tie.Need-returns-2
+returns-2 : tie.Need-returns-then-length-lt-NAME_BYTES
 unfolding kept_after
-returns-2 c = simp (ne_eqb _ _ c.before.if1.false, lt-ltb _ _ c.if2.true)
+returns-2 c = simp (ne_eqb _ _ c.if-b-eq10.false, lt-ltb _ _ c.if-length-lt-NAME_BYTES.true)
 
-returns-3 : tie.Need-returns-3
+returns-3 : tie.Need-returns-else-length-lt-NAME_BYTES
 unfolding kept_after
-returns-3 c = simp (ne_eqb _ _ c.before.if1.false, le-ltb _ _ c.if2.false)
+returns-3 c = simp (ne_eqb _ _ c.if-b-eq10.false, le-ltb _ _ c.if-length-lt-NAME_BYTES.false)
 
-pub keep-byte-spec : {M : Type 1} → statement M
-keep-byte-spec = tie.close (tie.spec returns (λ c. search rules) returns-2 returns-3)
+pub keep_byte_spec : {M : Type 1} → statement M
+keep_byte_spec = tie.close (tie.spec returns (λ c. search rules) returns-2 returns-3)

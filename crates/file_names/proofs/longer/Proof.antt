@@ -5,11 +5,11 @@ use borrow.Author.Tests.{lt-ltb, le-ltb}
 use Rattle.file_names.proofs.longer.Statement.{statement}
 use Rattle.file_names.proofs.longer.Tie as tie
 
-returns : tie.Need-returns
-returns c = simp (le-ltb _ _ c.if1.true)
+returns : tie.Need-returns-then-length-le-NAME_BYTES
+returns c = simp (le-ltb _ _ c.if-length-le-NAME_BYTES.true)
 
-returns-2 : tie.Need-returns-2
-returns-2 c = simp (lt-ltb _ _ c.if1.false)
+returns-2 : tie.Need-returns
+returns-2 c = simp (lt-ltb _ _ c.if-length-le-NAME_BYTES.false)
 
-pub longer-spec : {M : Type 1} → statement M
-longer-spec = tie.close (tie.spec (λ c. omega arith) returns returns-2)
+pub longer_spec : {M : Type 1} → statement M
+longer_spec = tie.close (tie.spec (λ c. omega arith) returns returns-2)

@@ -7,5 +7,5 @@ use Rattle.file_names.proofs.take_byte.Tie as tie
 returns : tie.Need-returns
 returns c = (cc, search rules)
 
-pub take-byte-spec : {M : Type 1} → statement M
-take-byte-spec = tie.close (tie.spec (λ c κs. search rules) (λ c κs. search rules) (λ c κs. search rules) returns)
+pub take_byte_spec : {M : Type 1} → statement M
+take_byte_spec = tie.close (tie.spec (λ c κs. search rules) (λ c κs. search rules) (λ c κs. search rules) returns)

@@ -35,8 +35,8 @@ returns : tie.Need-returns
 returns c =
     let a = c.args in
     let done = c.import_circles_with_records in
-    let paths : List ℕ = done.new.1.1.1.1.1.1.1.1.0 in
-    let lengths : List ℕ = done.new.1.1.1.1.1.1.1.1.1.0 in
+    let paths : List ℕ = done.new.paths in
+    let lengths : List ℕ = done.new.lengths in
     subst (λ (t : Lent). ImportCircles t a.paths.now a.lengths.now done.result paths lengths)
     (lent_cut a.runtime a.dynamic a.bounds.now a.columns.now a.names.now c.column.ensures c.column-2.ensures c.column-3.ensures)
     done.ensures

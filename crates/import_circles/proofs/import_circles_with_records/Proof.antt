@@ -46,10 +46,10 @@ ok k = let a = k.args in lent-current a.bounds.now a.columns.now a.names.now (wr
 -- the columns that were read, and the project that the core reads with them
 
 abbrev made-targets : tie.After-read_current → List ℕ
-made-targets k = k.read_current.new.1.1.1.1.1.1.1.0
+made-targets k = k.read_current.new.read_targets
 
 abbrev made-dependencies : tie.After-read_current → List ℕ
-made-dependencies k = k.read_current.new.1.1.1.1.1.1.1.1.0
+made-dependencies k = k.read_current.new.read_dependencies
 
 own : (k : tie.After-column) → let a = k.args in read (table a.runtime a.dynamic a.bounds.now a.columns.now) a.importers.now a.kinds.now (take (length a.targets.now) (made-targets k.before.before.before.before.before.before)) (take k.rows-dependency_rows.result (made-dependencies k.before.before.before.before.before.before)) k.column.result.now ≡ of k.before.before.before.before.before.before.before.before.before.before.before.before.before.before.before.before.before.before.before
 own k =
@@ -110,8 +110,8 @@ returns-2 : tie.Need-returns
 returns-2 c =
     let e = c.before.before.before.before.before.before.before.before.before.before.before.before.before.before.before.before.before.before.before.before.before.before.before.before.before.before in
     let done = c.list_circles in
-    let paths : List ℕ = done.new.1.1.1.1.1.1.1.1.1.0 in
-    let lengths : List ℕ = done.new.1.1.1.1.1.1.1.1.1.1.0 in
+    let paths : List ℕ = done.new.paths in
+    let lengths : List ℕ = done.new.lengths in
     circles-gathered (lents e) e.args.paths.now e.args.lengths.now (accepts c.before.before.before.before.before.before.before.before.before.before.before.before.before.before.before.before)
     (subst (λ (p : Project). Gathered (circles_of p) e.args.paths.now e.args.lengths.now done.result paths lengths) (own c.before.before.before.before.before.before.before) done.ensures)
 

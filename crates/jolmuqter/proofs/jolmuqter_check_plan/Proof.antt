@@ -7,7 +7,7 @@ use Rattle.jolmuqter.proofs.jolmuqter_check_plan.Statement.{statement}
 use Rattle.jolmuqter.proofs.jolmuqter_check_plan.Tie as tie
 
 returns : tie.Need-returns
-returns c = c.judgement-code.ensures ∙ ap coded_judgement c.before.check-plan.ensures
+returns c = c.judgement_code.ensures ∙ ap coded_judgement c.check_plan.ensures
 
-pub jolmuqter-check-plan-spec : {M : Type 1} → statement M
-jolmuqter-check-plan-spec = tie.close (tie.spec (λ c κs. search rules) (λ c κs. search rules) returns)
+pub jolmuqter_check_plan_spec : {M : Type 1} → statement M
+jolmuqter_check_plan_spec = tie.close (tie.spec (λ c κs. search rules) (λ c κs. search rules) returns)

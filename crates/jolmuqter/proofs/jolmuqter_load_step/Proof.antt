@@ -7,7 +7,7 @@ use Rattle.jolmuqter.proofs.jolmuqter_load_step.Statement.{statement}
 use Rattle.jolmuqter.proofs.jolmuqter_load_step.Tie as tie
 
 returns : tie.Need-returns
-returns c = c.step-code.ensures ∙ ap coded_step c.before.load_step.ensures
+returns c = c.step_code.ensures ∙ ap coded_step c.load_step.ensures
 
-pub jolmuqter-load-step-spec : {M : Type 1} → statement M
-jolmuqter-load-step-spec = tie.close (tie.spec (λ c κs. search rules) (λ c κs. search rules) returns)
+pub jolmuqter_load_step_spec : {M : Type 1} → statement M
+jolmuqter_load_step_spec = tie.close (tie.spec (λ c κs. search rules) (λ c κs. search rules) returns)

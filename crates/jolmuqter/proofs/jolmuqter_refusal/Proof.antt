@@ -5,19 +5,19 @@ use Rattle.jolmuqter.proofs.jolmuqter_refusal.Tie as tie
 
 returns : tie.Need-returns
 returns c =
-    let tested = c.before.tested in
-    let number = c.before.before.refusal-number in
-    let a = c.before.before.before.before.before.before.before.before.before.args in
+    let tested = c.tested in
+    let number = c.refusal_number in
+    let a = c.args in
     record {
       answer = tested.result;
       code = c.code.ensures;
       promised =
           tested-cut a.runtime a.dynamic a.bounds.now a.columns.now a.names.now number.result tested.result
-          c.before.before.before.before.before.column.ensures c.before.before.before.before.column2.ensures c.before.before.before.column3.ensures
+          c.column.ensures c.column-2.ensures c.column-3.ensures
           number.ensures tested.ensures;
     }
 
-pub jolmuqter-refusal-spec : {M : Type 1} → statement M
-jolmuqter-refusal-spec =
+pub jolmuqter_refusal_spec : {M : Type 1} → statement M
+jolmuqter_refusal_spec =
     tie.close
     (tie.spec (λ c κs. search rules) (λ c κs. search rules) (λ c κs. search rules) (λ c κs. search rules) (λ c κs. search rules) (λ c κs. search rules) returns)

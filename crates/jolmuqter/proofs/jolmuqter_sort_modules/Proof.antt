@@ -5,7 +5,7 @@ use Rattle.jolmuqter.proofs.jolmuqter_sort_modules.Statement.{statement}
 use Rattle.jolmuqter.proofs.jolmuqter_sort_modules.Tie as tie
 
 returns : tie.Need-returns
-returns c = record { answer = c.before.before.before.before.before.sort-modules.result; code = c.code.ensures; promised = c.before.before.before.before.before.sort-modules.ensures }
+returns c = record { answer = c.sort_modules.result; code = c.code.ensures; promised = c.sort_modules.ensures }
 
-pub jolmuqter-sort-modules-spec : {M : Type 1} → statement M
-jolmuqter-sort-modules-spec = tie.close (tie.spec (λ c κs. search rules) (λ c κs. search rules) (λ c. search rules) (λ c. search rules) returns)
+pub jolmuqter_sort_modules_spec : {M : Type 1} → statement M
+jolmuqter_sort_modules_spec = tie.close (tie.spec (λ c κs. search rules) (λ c κs. search rules) (λ c. search rules) (λ c. search rules) returns)

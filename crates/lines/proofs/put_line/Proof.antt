@@ -33,7 +33,7 @@ returns-2 : tie.Need-returns-in_default
 returns-2 c =
     let a = c.args in
     let n = line-length a.word.now a.entry.now a.numbers.now in
-    let o : RoomIs (length a.out.now - length a.word.now - 1) a.entry.now Short = rw c.enum_told-1.given.1 at c.room_after-behind_word.ensures in
+    let o : RoomIs (length a.out.now - length a.word.now - 1) a.entry.now Short = rw c.in_default.is at c.room_after-behind_word.ensures in
     refused a.out.now a.word.now a.entry.now a.numbers.now (omega (arith, n, o, c.if-out-word.false))
 
 room-after-requires-2 : tie.Need-room_after-behind_all-requires
@@ -48,10 +48,9 @@ enum-told-3 c = search rules
 returns-3 : tie.Need-returns-in_default-behind_all
 returns-3 c =
     let a = c.args in
-    let g = c.behind_word-1.given in
-    let o : RoomIs (length a.out.now - length a.word.now - 1) a.entry.now (Left g.0.0) = rw g.1 at c.room_after-behind_word.ensures in
+    let o : RoomIs (length a.out.now - length a.word.now - 1) a.entry.now (Left c.in-Left.room) = rw c.in-Left.is at c.room_after-behind_word.ensures in
     let n = line-length a.word.now a.entry.now a.numbers.now in
-    let u : RoomIs g.0.0 a.numbers.now Short = rw c.enum_told-in_default-behind_all-1.given.1 at c.room_after-behind_all.ensures in
+    let u : RoomIs c.in-Left.room a.numbers.now Short = rw c.in_default-behind_all.is at c.room_after-behind_all.ensures in
     refused a.out.now a.word.now a.entry.now a.numbers.now (omega (arith, n, o, u, c.if-out-word.false))
 
 put-bytes-requires : tie.Need-put_bytes-at-requires
@@ -60,33 +59,28 @@ put-bytes-requires c κs = search rules
 put-fields-requires : tie.Need-put_fields-at-requires
 put-fields-requires c κs =
     let a = c.args in
-    let g = c.behind_word-1.given in
-    let o : RoomIs (length a.out.now - length a.word.now - 1) a.entry.now (Left g.0.0) = rw g.1 at c.room_after-behind_word.ensures in
+    let o : RoomIs (length a.out.now - length a.word.now - 1) a.entry.now (Left c.in-Left.room) = rw c.in-Left.is at c.room_after-behind_word.ensures in
     let p = c.put_bytes-at in
-    omega (arith, o, c.if-out-word.false, p.ensures.next, p.auto.0)
+    omega (arith, o, c.if-out-word.false, p.ensures.next, p.auto.out)
 
 put-fields-requires-2 : tie.Need-put_fields-at-requires-2
 put-fields-requires-2 c κs =
     let a = c.args in
-    let g = c.behind_word-1.given in
-    let o : RoomIs (length a.out.now - length a.word.now - 1) a.entry.now (Left g.0.0) = rw g.1 at c.room_after-behind_word.ensures in
-    let h = c.enum_told-in-Left-behind_all-1.given in
-    let u : RoomIs g.0.0 a.numbers.now (Left h.0.0) = rw h.1 at c.room_after-behind_all.ensures in
+    let o : RoomIs (length a.out.now - length a.word.now - 1) a.entry.now (Left c.in-Left.room) = rw c.in-Left.is at c.room_after-behind_word.ensures in
+    let u : RoomIs c.in-Left.room a.numbers.now (Left c.in-Left-behind_all.field-0) = rw c.in-Left-behind_all.is at c.room_after-behind_all.ensures in
     let p = c.put_bytes-at in
     let e = c.put_fields-at in
-    omega (arith, o, u, c.if-out-word.false, p.ensures.next, p.auto.0, e.ensures.next, e.auto.0)
+    omega (arith, o, u, c.if-out-word.false, p.ensures.next, p.auto.out, e.ensures.next, e.auto.out)
 
 put-byte-requires : tie.Need-put_byte-requires
 put-byte-requires c κs =
     let a = c.args in
-    let g = c.behind_word-1.given in
-    let o : RoomIs (length a.out.now - length a.word.now - 1) a.entry.now (Left g.0.0) = rw g.1 at c.room_after-behind_word.ensures in
-    let h = c.enum_told-in-Left-behind_all-1.given in
-    let u : RoomIs g.0.0 a.numbers.now (Left h.0.0) = rw h.1 at c.room_after-behind_all.ensures in
+    let o : RoomIs (length a.out.now - length a.word.now - 1) a.entry.now (Left c.in-Left.room) = rw c.in-Left.is at c.room_after-behind_word.ensures in
+    let u : RoomIs c.in-Left.room a.numbers.now (Left c.in-Left-behind_all.field-0) = rw c.in-Left-behind_all.is at c.room_after-behind_all.ensures in
     let p = c.put_bytes-at in
     let e = c.put_fields-at in
     let f = c.put_fields-at-2 in
-    omega (arith, o, u, c.if-out-word.false, p.ensures.next, p.auto.0, e.ensures.next, e.auto.0, f.ensures.next, f.auto.0)
+    omega (arith, o, u, c.if-out-word.false, p.ensures.next, p.auto.out, e.ensures.next, e.auto.out, f.ensures.next, f.auto.out)
 
 same_length : tie.Need-shape_of-out
 same_length c = search rules
@@ -94,16 +88,14 @@ same_length c = search rules
 returns-4 : tie.Need-returns
 returns-4 c =
     let a = c.args in
-    let g = c.behind_word-1.given in
-    let o : RoomIs (length a.out.now - length a.word.now - 1) a.entry.now (Left g.0.0) = rw g.1 at c.room_after-behind_word.ensures in
-    let h = c.enum_told-in-Left-behind_all-1.given in
-    let u : RoomIs g.0.0 a.numbers.now (Left h.0.0) = rw h.1 at c.room_after-behind_all.ensures in
+    let o : RoomIs (length a.out.now - length a.word.now - 1) a.entry.now (Left c.in-Left.room) = rw c.in-Left.is at c.room_after-behind_word.ensures in
+    let u : RoomIs c.in-Left.room a.numbers.now (Left c.in-Left-behind_all.field-0) = rw c.in-Left-behind_all.is at c.room_after-behind_all.ensures in
     let n = line-length a.word.now a.entry.now a.numbers.now in
     let p = c.put_bytes-at in
     let e = c.put_fields-at in
     let f = c.put_fields-at-2 in
     let b = c.put_byte in
-    written a.out.now a.word.now a.entry.now a.numbers.now b.new.0 b.result (omega (arith, n, o, u, c.if-out-word.false)) (put_whole a.out.now 0 a.word.now a.entry.now a.numbers.now p.new.0 p.result e.new.0 e.result f.new.0 f.result b.new.0 b.result p.ensures e.ensures f.ensures b.ensures)
+    written a.out.now a.word.now a.entry.now a.numbers.now b.new.out b.result (omega (arith, n, o, u, c.if-out-word.false)) (put_whole a.out.now 0 a.word.now a.entry.now a.numbers.now p.new.out p.result e.new.out e.result f.new.out f.result b.new.out b.result p.ensures e.ensures f.ensures b.ensures)
 
 pub put_line_spec : {M : Type 1} → statement M
 put_line_spec =

@@ -13,9 +13,9 @@ returns : tie.Need-returns
 returns c =
     let a = c.args in
     let done = c.load_run_with_records in
-    let out = done.new.1.1.1.1.1.1.1.1.1.1 in
-    let steps : List ℕ = out.0 in
-    let hosts : List ℕ = out.1.0 in
+    let out = done.new in
+    let steps : List ℕ = out.steps in
+    let hosts : List ℕ = out.hosts in
     subst (λ (t : Lent). LoadRun t a.root a.plan.now a.steps.now a.hosts.now done.result steps hosts)
     (lent-named-cut a.runtime a.dynamic a.bounds.now a.columns.now a.names.now c.column.ensures c.column-2.ensures c.column-3.ensures)
     done.ensures

@@ -81,7 +81,7 @@ plan-tested : (k : tie.After-plan_fits) → let e = entry k.before.before.before
 plan-tested k = let e = entry k.before.before.before in subst (λ (n : ℕ). k.plan_fits.result ≡ plan_fits n e.args.plan.now) (counted k.before.before.before) k.plan_fits.ensures
 
 plan-fit : (c : tie.Else-not-plan_fits) → let e = entry c.before.before.before.before in plan_fits (modules (of e)) e.args.plan.now ≡ true
-plan-fit c = sym (plan-tested c.before) ∙ not-false c.plan_fits.result c.if-not-plan_fits.false
+plan-fit c = sym (plan-tested c.before) ∙ c.if-not-plan_fits.false
 
 plan-size : (c : tie.Else-not-plan_fits) → let e = entry c.before.before.before.before in length e.args.plan.now ≡ modules (current-of e)
 plan-size c = let e = entry c.before.before.before.before in plan-sized (modules (of e)) e.args.plan.now (plan-fit c) ∙ sym (counted c.before.before.before.before) ∙ counted-read c.before.before.before.before
@@ -89,10 +89,10 @@ plan-size c = let e = entry c.before.before.before.before in plan-sized (modules
 -- the columns that were read, and the project that the core reads with them
 
 abbrev made-targets : tie.After-read_current → List ℕ
-made-targets k = k.read_current.new.1.1.1.1.1.1.1.0
+made-targets k = k.read_current.new.read_targets
 
 abbrev made-dependencies : tie.After-read_current → List ℕ
-made-dependencies k = k.read_current.new.1.1.1.1.1.1.1.1.0
+made-dependencies k = k.read_current.new.read_dependencies
 
 own : (k : tie.After-read_dependencies-3-1) → let a = k.args in read (table a.runtime a.dynamic a.bounds.now a.columns.now) a.importers.now a.kinds.now (take (length a.targets.now) (made-targets k.before.before.before.before.before)) (take k.rows-dependency_rows.result (made-dependencies k.before.before.before.before.before)) k.column-members.result.now ≡ current-of k.before.before.before.before.before.before.before.before.before.before.before.before.before.before.before.before.before.before.before.before.before.before.before.before.before.before.before.before
 own k =
@@ -113,7 +113,7 @@ returns-2 c =
 returns-3 : tie.Need-returns-then-not-plan_fits
 returns-3 c =
     let e = c.before.before.before.before.before.before.before.before.before.before.before.before.before.before.before.before.before.before in
-    run-plan (lents e) e.args.root e.args.plan.now e.args.steps.now e.args.hosts.now (accepts c.before.before.before.before) (here c.before.before).0 (sym (plan-tested c.before) ∙ not-true c.plan_fits.result c.if-not-plan_fits.true)
+    run-plan (lents e) e.args.root e.args.plan.now e.args.steps.now e.args.hosts.now (accepts c.before.before.before.before) (here c.before.before).0 (sym (plan-tested c.before) ∙ c.if-not-plan_fits.true)
 
 read-current-requires : tie.Need-read_current-requires
 read-current-requires c κs = (tested c.before.before.before.before.before.before.before.before, (length-replicate {A = ℕ} row_limit 0, length-replicate {A = ℕ} row_limit 0))
@@ -174,9 +174,9 @@ returns-6 c =
     let a = e.args in
     let n = counted c.before.before.before.before.before.before.before.before.before.before.before.before.before.before.before.before.before.before.before.before.before in
     let done = c.run_planned-count in
-    let out = done.new.1.1.1.1.1.1.1.1.1.1.1 in
-    let steps : List ℕ = out.0 in
-    let hosts : List ℕ = out.1.0 in
+    let out = done.new in
+    let steps : List ℕ = out.steps in
+    let hosts : List ℕ = out.hosts in
     run-counted (lents e) e.args.root e.args.plan.now e.args.steps.now e.args.hosts.now (accepts c.before.before.before.before.before.before.before.before.before.before.before.before.before.before.before.before.before.before.before.before.before) (here c.before.before.before.before.before.before.before.before.before.before.before.before.before.before.before.before.before.before.before).0 (plan-fit c.before.before.before.before.before.before.before.before.before.before.before.before.before.before.before.before.before) (omega (arith, n, c.if-steps-places.false)) (omega (arith, n, c.if-hosts-places.false))
     (subst (λ (p : Project). Stepped (named p a.names.now) a.plan.now a.root a.steps.now a.hosts.now steps hosts done.result) (own c.before.before.before.before.before.before.before) done.ensures)
 

@@ -70,10 +70,10 @@ part c = length-take-le (count c.before) (entry c.before).args.marks.now c.if-ma
 -- the columns that were read, and the project that the core reads with them
 
 abbrev made-targets : tie.After-read_current → List ℕ
-made-targets k = k.read_current.new.1.1.1.1.1.1.1.0
+made-targets k = k.read_current.new.read_targets
 
 abbrev made-dependencies : tie.After-read_current → List ℕ
-made-dependencies k = k.read_current.new.1.1.1.1.1.1.1.1.0
+made-dependencies k = k.read_current.new.read_dependencies
 
 own : (k : tie.After-column) → let a = k.args in read (table a.runtime a.dynamic a.bounds.now a.columns.now) a.importers.now a.kinds.now (take (length a.targets.now) (made-targets k.before.before.before.before.before.before)) (take k.rows-dependency_rows.result (made-dependencies k.before.before.before.before.before.before)) k.column.result.now ≡ current-of k.before.before.before.before.before.before.before.before.before.before.before.before.before.before.before.before.before.before.before.before
 own k =
@@ -127,7 +127,7 @@ returns-3 c =
     let k = c.before.before.before.before.before.before.before.before.before.before.before.before.before.before in
     let e = entry k in
     let done = c.analyze_named-count in
-    let plan : List ℕ = done.new.1.1.1.1.1.1.1.1.1.1.0 in
+    let plan : List ℕ = done.new.plan in
     let whole = own c.before.before.before.before in
     subst (λ (n : ℕ). WholeAnalysis (lents e) e.args.marks.now (Counted done.result) (plan ++ drop n e.args.marks.now)) (sym (counted k))
     (whole-counted (lents e) e.args.marks.now (accepts k) (omega (arith, counted k, c.if-marks-n.false)) plan done.result

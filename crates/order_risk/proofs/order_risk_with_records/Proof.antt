@@ -44,7 +44,7 @@ abbrev entry : tie.After-column-members → tie.Start
 entry k = k.before.before.before.before.before.before.before.before.before.before.before
 
 accepts : (k : tie.After-column-members) → (lents (entry k)).number ≡ 0
-accepts k = sym k.refusal_number-refused.ensures ∙ k.if-refused-ne0.false
+accepts k = omega (arith, k.refusal_number-refused.ensures)
 
 tested : (k : tie.After-column-members) → Accepted (written (entry k))
 tested k = let a = (entry k).args in lent-accepted a.bounds.now a.columns.now a.names.now (written (entry k)) (accepts k)
@@ -88,10 +88,10 @@ part c = let k = c.before in length-take-le (count k) (entry k.before.before.bef
 -- the columns that were read, and the project that the core reads with them
 
 abbrev made-targets : tie.After-read_current → List ℕ
-made-targets k = k.read_current.new.1.1.1.1.1.1.1.0
+made-targets k = k.read_current.new.read_targets
 
 abbrev made-dependencies : tie.After-read_current → List ℕ
-made-dependencies k = k.read_current.new.1.1.1.1.1.1.1.1.0
+made-dependencies k = k.read_current.new.read_dependencies
 
 own : (k : tie.After-read_dependencies-3-1) → let a = k.args in read (table a.runtime a.dynamic a.bounds.now a.columns.now) a.importers.now a.kinds.now (take (length a.targets.now) (made-targets k.before.before.before.before.before)) (take k.rows-dependency_rows.result (made-dependencies k.before.before.before.before.before)) k.column-members.result.now ≡ current-of k.before.before.before.before.before.before.before.before.before.before.before.before.before.before.before.before.before.before.before.before.before.before.before
 own k =
@@ -150,7 +150,7 @@ mark-named-order-risk-requires c κs =
     let k = c.before.before.before.before.before.before.before.before.before.before.before.before.before in
     let a = (entry k).args in
     let n = c.before.before.before.before.before.before.before.before.before.before in
-    subst (λ (p : Project). (names_in (modules p) a.names.now ≡ true) × (Accepted p × Entered p a.root c.find_entry-chunk.result (length (take (count n) a.marks-1.now)))) (sym (own c.before))
+    subst (λ (p : Project). (names_in (modules p) a.names.now ≡ true) × (Accepted p × Entered p a.root c.find_entry-chunk.result (length (take (count n) a.marks.now)))) (sym (own c.before))
     (lent-fit a.bounds.now a.columns.now a.names.now (written (entry k)) (accepts k), (ok k, record { entry = (here c.before.before.before.before.before.before.before.before.before.before.before).1; size = part c.before.before.before.before.before.before.before.before.before ∙ counted-read n }))
 
 returns-4 : tie.Need-returns
@@ -160,7 +160,7 @@ returns-4 c =
     let a = e.args in
     let n = c.before.before.before.before.before.before.before.before.before.before.before.before.before in
     let done = c.mark_named_order_risk-count in
-    let made : List ℕ = done.new.1.1.1.1.1.1.1.1.1.1.0 in
+    let made : List ℕ = done.new.out in
     subst (λ (i : ℕ). EntryOrderRisk (lents e) a.root a.marks.now (Counted done.result) (made ++ drop i a.marks.now)) (sym (counted n))
     (marks-counted order_risk_of_entry (lents e) a.root a.marks.now (accepts k) (here c.before.before.before.before.before.before.before.before.before.before.before.before.before.before).0 (omega (arith, counted n, c.if-marks-modules.false)) (length-order-risk (of e) a.root)
     (subst (λ (p : Project). Marked (order_risk_of_entry (named p a.names.now) a.root) made done.result) (own c.before.before.before.before) done.ensures))

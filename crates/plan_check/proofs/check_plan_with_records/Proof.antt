@@ -53,21 +53,21 @@ seeds-tested : (k : tie.After-seeds_fit) → k.seeds_fit.result ≡ seeds_fit (m
 seeds-tested k = subst (λ (n : ℕ). k.seeds_fit.result ≡ seeds_fit n (entry k.before).args.seeds.now) (counted k.before) k.seeds_fit.ensures
 
 seeds-fit-all : (c : tie.Else-not-seeds_fit) → seeds_fit (modules (of (entry c.before.before))) (entry c.before.before).args.seeds.now ≡ true
-seeds-fit-all c = sym (seeds-tested c.before) ∙ not-false c.seeds_fit.result c.if-not-seeds_fit.false
+seeds-fit-all c = sym (seeds-tested c.before) ∙ c.if-not-seeds_fit.false
 
 plan-tested : (k : tie.After-plan_fits) → k.plan_fits.result ≡ plan_fits (modules (of (entry k.before.before.before))) (entry k.before.before.before).args.plan.now
 plan-tested k = subst (λ (n : ℕ). k.plan_fits.result ≡ plan_fits n (entry k.before.before.before).args.plan.now) (counted k.before.before.before) k.plan_fits.ensures
 
 plan-fits-all : (c : tie.Else-not-plan_fits) → plan_fits (modules (of (entry c.before.before.before.before))) (entry c.before.before.before.before).args.plan.now ≡ true
-plan-fits-all c = sym (plan-tested c.before) ∙ not-false c.plan_fits.result c.if-not-plan_fits.false
+plan-fits-all c = sym (plan-tested c.before) ∙ c.if-not-plan_fits.false
 
 -- the columns that were read, and the project that the core reads with them
 
 abbrev made-targets : tie.After-read_current → List ℕ
-made-targets k = k.read_current.new.1.1.1.1.1.1.1.0
+made-targets k = k.read_current.new.read_targets
 
 abbrev made-dependencies : tie.After-read_current → List ℕ
-made-dependencies k = k.read_current.new.1.1.1.1.1.1.1.1.0
+made-dependencies k = k.read_current.new.read_dependencies
 
 own : (k : tie.After-column) → let e = k.before.before.before.before.before.before.before.before.before.before.before.before.before.before.before.before.before.before.before.before.before.before.before.before in let a = e.args in read (table a.runtime a.dynamic a.bounds.now a.columns.now) a.importers.now a.kinds.now (take (length a.targets.now) (made-targets k.before.before.before.before.before.before)) (take k.rows-dependency_rows.result (made-dependencies k.before.before.before.before.before.before)) k.column.result.now ≡ of e
 own k =
@@ -81,13 +81,13 @@ returns-2 : tie.Need-returns-then-not-seeds_fit
 returns-2 c =
     let k = c.before.before in
     let e = entry k in
-    seeds-refused (lents e) e.args.seeds.now e.args.plan.now (accepts k) (sym (seeds-tested c.before) ∙ not-true c.seeds_fit.result c.if-not-seeds_fit.true)
+    seeds-refused (lents e) e.args.seeds.now e.args.plan.now (accepts k) (sym (seeds-tested c.before) ∙ c.if-not-seeds_fit.true)
 
 returns-3 : tie.Need-returns-then-not-plan_fits
 returns-3 c =
     let k = c.before.before.before.before in
     let e = entry k in
-    plan-refused (lents e) e.args.seeds.now e.args.plan.now (accepts k) (seeds-fit-all c.before.before) (sym (plan-tested c.before) ∙ not-true c.plan_fits.result c.if-not-plan_fits.true)
+    plan-refused (lents e) e.args.seeds.now e.args.plan.now (accepts k) (seeds-fit-all c.before.before) (sym (plan-tested c.before) ∙ c.if-not-plan_fits.true)
 
 read-current-requires : tie.Need-read_current-requires
 read-current-requires c κs = (tested c.before.before.before.before.before.before, (length-replicate {A = ℕ} row_limit 0, length-replicate {A = ℕ} row_limit 0))

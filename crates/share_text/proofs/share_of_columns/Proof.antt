@@ -12,8 +12,8 @@ use Rattle.share_text.proofs.share_of_columns.Tie as tie
 
 returns : tie.Need-returns
 returns c =
-    let a = c.before.before.before.before.before.args in
-    c.share.ensures ∙ ap (λ (xs : List ℕ). outcome_of (lent_named (get_or a.t1 0 0) (get_or a.t1 1 0) a.bounds.now xs a.names.now)) c.before.first_of.ensures
+    let a = c.args in
+    c.share.ensures ∙ ap (λ (xs : List ℕ). outcome_of (lent_named (get_or a.settings 0 0) (get_or a.settings 1 0) a.bounds.now xs a.names.now)) c.first_of.ensures
 
-pub share-of-columns-spec : {M : Type 1} → statement M
-share-of-columns-spec = tie.close (tie.spec (λ c. search rules) (λ c. search rules) (λ c κs. search rules) (λ c κs. search rules) returns)
+pub share_of_columns_spec : {M : Type 1} → statement M
+share_of_columns_spec = tie.close (tie.spec (λ c. search rules) (λ c. search rules) (λ c κs. search rules) (λ c κs. search rules) returns)

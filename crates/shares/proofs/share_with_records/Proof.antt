@@ -16,7 +16,7 @@ use Rattle.current_columns.proofs.Read.{current-cut, targets-room, targets-size,
 use Rattle.names.specs.Names.{names_in}
 use Rattle.arrangement.specs.OfProject.{named, lent_named_with}
 use Rattle.arrangement.proofs.OfProject.{lent-fit}
-use Rattle.marks-1.proofs.Parts.{part_length}
+use Rattle.marks.proofs.Parts.{part_length}
 use Rattle.share_totals.specs.Shares.{share_of}
 use Rattle.table_share.specs.Counts.{eligible_count, planned_count}
 use Rattle.shares.proofs.Promise.{outcome-refused, outcome-shared}
@@ -64,10 +64,10 @@ few k = omega (arith, counted k, (ok k).sizes.normal)
 -- the columns that were read, and the project that the core reads with them
 
 abbrev made-targets : tie.After-read_current → List ℕ
-made-targets k = k.read_current.new.1.1.1.1.1.1.1.0
+made-targets k = k.read_current.new.read_targets
 
 abbrev made-dependencies : tie.After-read_current → List ℕ
-made-dependencies k = k.read_current.new.1.1.1.1.1.1.1.1.0
+made-dependencies k = k.read_current.new.read_dependencies
 
 own : (k : tie.After-column) → let a = k.args in read (table a.runtime a.dynamic a.bounds.now a.columns.now) a.importers.now a.kinds.now (take (length a.targets.now) (made-targets k.before.before.before.before.before.before)) (take k.rows-dependency_rows.result (made-dependencies k.before.before.before.before.before.before)) k.column.result.now ≡ current-of k.before.before.before.before.before.before.before.before.before.before.before.before.before.before.before.before.before.before
 own k =

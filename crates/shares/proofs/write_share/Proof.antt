@@ -13,7 +13,7 @@ returns : tie.Need-returns
 returns c =
     let a = c.args in
     let done = c.write_share_with_records in
-    let out : List ℕ = done.new.1.1.1.1.1.1.1.1.0 in
+    let out : List ℕ = done.new.out in
     subst (λ (t : Lent). WrittenShare t a.out.now done.result out)
     (lent-named-cut a.runtime a.dynamic a.bounds.now a.columns.now a.names.now c.column.ensures c.column-2.ensures c.column-3.ensures)
     done.ensures

@@ -76,10 +76,10 @@ part c = length-take-le (count c.before) (entry c.before).args.out.now c.if-out-
 -- the columns that were read, and the project that the core reads with them
 
 abbrev made-targets : tie.After-read_current → List ℕ
-made-targets k = k.read_current.new.1.1.1.1.1.1.1.0
+made-targets k = k.read_current.new.read_targets
 
 abbrev made-dependencies : tie.After-read_current → List ℕ
-made-dependencies k = k.read_current.new.1.1.1.1.1.1.1.1.0
+made-dependencies k = k.read_current.new.read_dependencies
 
 own : (k : tie.After-column) → let a = k.args in read (table a.runtime a.dynamic a.bounds.now a.columns.now) a.importers.now a.kinds.now (take (length a.targets.now) (made-targets k.before.before.before.before.before.before)) (take k.rows-dependency_rows.result (made-dependencies k.before.before.before.before.before.before)) k.column.result.now ≡ of k.before.before.before.before.before.before.before.before.before.before.before.before.before.before.before.before.before.before.before.before.before
 own k =
@@ -133,7 +133,7 @@ returns-3 c =
     let k = c.before.before.before.before.before.before.before.before.before.before.before.before.before.before in
     let e = entry k in
     let done = c.arrange_members in
-    let made : List ℕ = done.new.1.1.1.1.1.1.1.1.1.1.0 in
+    let made : List ℕ = done.new.out in
     let names : List ℕ = e.args.names.now in
     members-arranged (lents e) names e.args.out.now (accepts-named k) (omega (arith, counted k, c.if-out-members.false)) made (count k)
     (subst (λ (p : Project). made ≡ arranged_of p names) (own c.before.before.before.before) done.ensures)

@@ -13,8 +13,8 @@ returns : tie.Need-returns
 returns c =
     let a = c.args in
     let done = c.sort_modules_with_records in
-    let numbers : List ℕ = done.new.1.1.1.1.1.1.1.1.0 in
-    let sorted : List ℕ = done.new.1.1.1.1.1.1.1.1.1.0 in
+    let numbers : List ℕ = done.new.numbers in
+    let sorted : List ℕ = done.new.sorted in
     subst (λ (t : Lent). SortModules t a.numbers.now a.sorted.now done.result numbers sorted)
     (lent_cut a.runtime a.dynamic a.bounds.now a.columns.now a.names.now c.column.ensures c.column-2.ensures c.column-3.ensures)
     done.ensures

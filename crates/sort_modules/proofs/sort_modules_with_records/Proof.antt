@@ -66,10 +66,10 @@ numbers-len c = length-take-le (count c.before) (entry c.before).args.numbers.no
 -- the columns that were read, and the project that the core reads with them
 
 abbrev made-targets : tie.After-read_current → List ℕ
-made-targets k = k.read_current.new.1.1.1.1.1.1.1.0
+made-targets k = k.read_current.new.read_targets
 
 abbrev made-dependencies : tie.After-read_current → List ℕ
-made-dependencies k = k.read_current.new.1.1.1.1.1.1.1.1.0
+made-dependencies k = k.read_current.new.read_dependencies
 
 own : (k : tie.After-column) → let a = k.args in read (table a.runtime a.dynamic a.bounds.now a.columns.now) a.importers.now a.kinds.now (take (length a.targets.now) (made-targets k.before.before.before.before.before.before)) (take k.rows-dependency_rows.result (made-dependencies k.before.before.before.before.before.before)) k.column.result.now ≡ of k.before.before.before.before.before.before.before.before.before.before.before.before.before.before.before.before.before.before.before.before.before.before
 own k =
@@ -140,9 +140,9 @@ returns-4 c =
     let k = c.before.before.before.before.before.before.before.before.before.before.before.before.before.before.before.before.before.before.before.before in
     let e = entry k in
     let done = c.sort_table-count in
-    let marks : List ℕ = done.new.1.1.1.1.1.1.1.1.1.0 in
-    let numbers : List ℕ = done.new.1.1.1.1.1.1.1.1.1.1.0 in
-    let sorted : List ℕ = done.new.1.1.1.1.1.1.1.1.1.1.1.0 in
+    let marks : List ℕ = done.new.marks in
+    let numbers : List ℕ = done.new.numbers in
+    let sorted : List ℕ = done.new.sorted in
     order-sorted (lents e) e.args.numbers.now e.args.sorted.now (accepts k) (omega (arith, counted k, c.if-numbers-modules.false)) (omega (arith, counted k, c.if-sorted-modules.false)) (count k) (counted k)
     (subst (λ (p : Project). Sorted (numbers_of p) (sorted_of p) (take (count k) (replicate module_limit 0)) e.args.sorted.now marks numbers sorted done.result) (own c.before.before.before.before.before.before.before.before.before) done.ensures)
 

@@ -19,8 +19,8 @@ returns : tie.Need-returns
 returns c =
     let a = c.args in
     let done = c.takings_from_seeds_with_records in
-    let list : List ℕ = done.new.1.1.1.1.1.1.1.1.1.0 in
-    let lengths : List ℕ = done.new.1.1.1.1.1.1.1.1.1.1.0 in
+    let list : List ℕ = done.new.list in
+    let lengths : List ℕ = done.new.lengths in
     subst (λ (t : Lent). TakingsFromSeeds t a.seeds.now a.list.now a.lengths.now done.result list lengths)
     (lent_cut a.runtime a.dynamic a.bounds.now a.columns.now a.names.now c.column.ensures c.column-2.ensures c.column-3.ensures)
     done.ensures

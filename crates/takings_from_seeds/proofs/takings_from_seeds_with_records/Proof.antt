@@ -5,7 +5,6 @@ use mathlib.Core.Path.{refl, sym, subst, ◌∙◌}
 use native.Mathlib.Omega.{arith}
 use lib.ListN.{length-replicate}
 use borrow.Author.Rules.{rules}
-use Rattle.lists.proofs.Laws.{not-true, not-false}
 use Rattle.tables.specs.Project.{Project}
 use Rattle.tables.specs.Readings.{modules}
 use Rattle.tables.specs.Refusal.{row_limit}
@@ -58,7 +57,7 @@ seeds-tested : (k : tie.After-seeds_fit) → k.seeds_fit.result ≡ seeds_fit (m
 seeds-tested k = subst (λ (n : ℕ). k.seeds_fit.result ≡ seeds_fit n (entry k.before).args.seeds.now) (counted k.before) k.seeds_fit.ensures
 
 fits : (c : tie.Else-not-seeds_fit) → seeds_fit (modules (of (entry c.before.before))) (entry c.before.before).args.seeds.now ≡ true
-fits c = sym (seeds-tested c.before) ∙ not-false c.seeds_fit.result c.if-not-seeds_fit.false
+fits c = sym (seeds-tested c.before) ∙ c.if-not-seeds_fit.false
 
 -- both slices have a place a module
 module _ (c : tie.Else-lengths-n) where
@@ -74,10 +73,10 @@ module _ (c : tie.Else-lengths-n) where
 -- the columns that were read, and the project that the core reads with them
 
 abbrev made-targets : tie.After-read_current → List ℕ
-made-targets k = k.read_current.new.1.1.1.1.1.1.1.0
+made-targets k = k.read_current.new.read_targets
 
 abbrev made-dependencies : tie.After-read_current → List ℕ
-made-dependencies k = k.read_current.new.1.1.1.1.1.1.1.1.0
+made-dependencies k = k.read_current.new.read_dependencies
 
 own : (k : tie.After-column) → let a = k.args in read (table a.runtime a.dynamic a.bounds.now a.columns.now) a.importers.now a.kinds.now (take (length a.targets.now) (made-targets k.before.before.before.before.before.before)) (take k.rows-dependency_rows.result (made-dependencies k.before.before.before.before.before.before)) k.column.result.now ≡ of k.before.before.before.before.before.before.before.before.before.before.before.before.before.before.before.before.before.before.before.before.before.before.before.before.before
 own k =
@@ -91,7 +90,7 @@ returns-2 : tie.Need-returns-then-not-seeds_fit
 returns-2 c =
     let k = c.before.before in
     let e = entry k in
-    seeds-refused (lents e) e.args.seeds.now e.args.list.now e.args.lengths.now (accepts k) (sym (seeds-tested c.before) ∙ not-true c.seeds_fit.result c.if-not-seeds_fit.true)
+    seeds-refused (lents e) e.args.seeds.now e.args.list.now e.args.lengths.now (accepts k) (sym (seeds-tested c.before) ∙ c.if-not-seeds_fit.true)
 
 returns-3 : tie.Need-returns-then-list-n
 returns-3 c = let k = c.before.before.before in let e = entry k in list-short (lents e) e.args.seeds.now e.args.list.now e.args.lengths.now (accepts k) (fits c.before) (omega (arith, counted k, c.if-list-n.true))
@@ -144,8 +143,8 @@ returns-5 c =
     let e = entry k in
     let f = c.before.before.before.before.before.before.before.before.before.before.before.before.before.before.before.before in
     let done = c.list_takings-count in
-    let list : List ℕ = done.new.1.1.1.1.1.1.1.1.1.1.0 in
-    let lengths : List ℕ = done.new.1.1.1.1.1.1.1.1.1.1.1.0 in
+    let list : List ℕ = done.new.list in
+    let lengths : List ℕ = done.new.lengths in
     run-shown (lents e) e.args.seeds.now e.args.list.now e.args.lengths.now (accepts k) (fits c.before.before.before.before.before.before.before.before.before.before.before.before.before.before.before.before.before.before) (list-room f) (lengths-room f) list lengths done.result
     (subst (λ (p : Project). RunWritten p e.args.seeds.now e.args.list.now e.args.lengths.now list lengths done.result) (own c.before.before.before.before.before.before.before) done.ensures)
 

@@ -11,14 +11,14 @@ use Rattle.wall_line.proofs.page_line.Tie as tie
 
 returns : tie.Need-returns
 returns c =
-    let a = c.before.before.before.before.before.before.before.before.before.before.before.args in
-    let done = c.before.before.page-line-with-records in
-    let made : List ℕ = done.new.1.1.1.1.1.1.1.1.1.1.0 in
+    let a = c.args in
+    let done = c.page_line_with_records in
+    let made : List ℕ = done.new.line in
     subst (λ (t : Lent). PageLine t a.root a.number a.line.now done.result made)
-    (lent-named-cut a.runtime a.dynamic a.bounds.now a.columns.now a.names.now c.before.before.before.before.before.before.column.ensures c.before.before.before.before.before.column2.ensures c.before.before.before.before.column3.ensures)
+    (lent-named-cut a.runtime a.dynamic a.bounds.now a.columns.now a.names.now c.column.ensures c.column-2.ensures c.column-3.ensures)
     done.ensures
 
-pub page-line-spec : {M : Type 1} → statement M
-page-line-spec =
+pub page_line_spec : {M : Type 1} → statement M
+page_line_spec =
     tie.close
     (tie.spec (λ c κs. search rules) (λ c κs. search rules) (λ c κs. search rules) (λ c κs. search rules) (λ c. search rules) returns)

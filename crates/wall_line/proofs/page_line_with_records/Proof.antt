@@ -36,107 +36,107 @@ current-of e = current (written e)
 abbrev of : tie.Start → Project
 of e = named (current-of e) e.args.names.now
 
-abbrev entry : tie.After-column2 → tie.Start
+abbrev entry : tie.After-column-members → tie.Start
 entry k = k.before.before.before.before.before.before.before.before.before.before.before
 
-accepts : (k : tie.After-column2) → (lents (entry k)).number ≡ 0
-accepts k = sym k.before.before.before.refusal-number.ensures ∙ k.before.before.if1.false
+accepts : (k : tie.After-column-members) → (lents (entry k)).number ≡ 0
+accepts k = sym k.refusal_number-refused.ensures ∙ k.if-refused-ne0.false
 
-tested : (k : tie.After-column2) → Accepted (written (entry k))
+tested : (k : tie.After-column-members) → Accepted (written (entry k))
 tested k = let a = (entry k).args in lent-accepted a.bounds.now a.columns.now a.names.now (written (entry k)) (accepts k)
 
-ok : (k : tie.After-column2) → Accepted (current-of (entry k))
+ok : (k : tie.After-column-members) → Accepted (current-of (entry k))
 ok k = let a = (entry k).args in lent-current a.bounds.now a.columns.now a.names.now (written (entry k)) (accepts k)
 
 -- the entry is looked for in the project as it is written
-as_written : (k : tie.After-column2) → let a = (entry k).args in read (table a.runtime a.dynamic a.bounds.now a.columns.now) a.importers.now a.kinds.now a.targets.now k.before.column.result.now k.column2.result.now ≡ written (entry k)
+as_written : (k : tie.After-column-members) → let a = (entry k).args in read (table a.runtime a.dynamic a.bounds.now a.columns.now) a.importers.now a.kinds.now a.targets.now k.column-dependencies.result.now k.column-members.result.now ≡ written (entry k)
 as_written k =
     let a = (entry k).args in
-    records-cut a.runtime a.dynamic a.bounds.now a.columns.now a.importers.now a.kinds.now a.targets.now k.before.column.ensures k.column2.ensures
+    records-cut a.runtime a.dynamic a.bounds.now a.columns.now a.importers.now a.kinds.now a.targets.now k.column-dependencies.ensures k.column-members.ensures
 
-found : (k : tie.After-find-entry) → Found (current-of (entry k.before)) (entry k.before).args.root k.find-entry.result
+found : (k : tie.After-find_entry-chunk) → Found (current-of (entry k.before)) (entry k.before).args.root k.find_entry-chunk.result
 found k =
     let e = entry k.before in
-    found-read (written e) e.args.root k.find-entry.result (subst (λ (p : Project). Found p e.args.root k.find-entry.result) (as_written k.before) k.find-entry.ensures)
+    found-read (written e) e.args.root k.find_entry-chunk.result (subst (λ (p : Project). Found p e.args.root k.find_entry-chunk.result) (as_written k.before) k.find_entry-chunk.ensures)
 
-abbrev here : (c : tie.Else2) → let e = entry c.before.before in (is_analysed (of e) e.args.root ≡ true) × Entry (current-of e) e.args.root c.before.find-entry.result
+abbrev here : (c : tie.Else-chunk) → let e = entry c.before.before in (is_analysed (of e) e.args.root ≡ true) × Entry (current-of e) e.args.root c.find_entry-chunk.result
 here c =
     let e = entry c.before.before in
-    let s = (found c.before).some c.if2.false in
+    let s = (found c.before).some c.if-chunk.false in
     (analysed-named (current-of e) e.args.names.now e.args.root ∙ s.0, s.1)
 
 -- the columns that were read, and the project that the core reads with them
 
-abbrev made-targets : tie.After-read-current → List ℕ
-made-targets k = k.read-current.new.1.1.1.1.1.1.1.0
+abbrev made-targets : tie.After-read_current → List ℕ
+made-targets k = k.read_current.new.read_targets
 
-abbrev made-dependencies : tie.After-read-current → List ℕ
-made-dependencies k = k.read-current.new.1.1.1.1.1.1.1.1.0
+abbrev made-dependencies : tie.After-read_current → List ℕ
+made-dependencies k = k.read_current.new.read_dependencies
 
-own : (k : tie.After-read-dependencies3) → let a = k.before.before.before.before.before.before.before.before.before.before.before.before.before.before.before.before.before.before.before.before.before.before.args in read (table a.runtime a.dynamic a.bounds.now a.columns.now) a.importers.now a.kinds.now (take (length a.targets.now) (made-targets k.before.before.before.before.before)) (take k.before.before.rows.result (made-dependencies k.before.before.before.before.before)) k.before.before.before.before.before.before.before.before.before.before.before.column2.result.now ≡ current-of k.before.before.before.before.before.before.before.before.before.before.before.before.before.before.before.before.before.before.before.before.before.before
+own : (k : tie.After-read_dependencies-3-1) → let a = k.args in read (table a.runtime a.dynamic a.bounds.now a.columns.now) a.importers.now a.kinds.now (take (length a.targets.now) (made-targets k.before.before.before.before.before)) (take k.rows-dependency_rows.result (made-dependencies k.before.before.before.before.before)) k.column-members.result.now ≡ current-of k.before.before.before.before.before.before.before.before.before.before.before.before.before.before.before.before.before.before.before.before.before.before
 own k =
-    let a = k.before.before.before.before.before.before.before.before.before.before.before.before.before.before.before.before.before.before.before.before.before.before.args in
-    current-cut a.runtime a.dynamic a.bounds.now a.columns.now a.importers.now a.kinds.now a.targets.now k.before.before.before.before.before.read-current.ensures k.before.before.rows.ensures k.before.before.before.before.before.before.before.before.before.before.before.column2.ensures
+    let a = k.args in
+    current-cut a.runtime a.dynamic a.bounds.now a.columns.now a.importers.now a.kinds.now a.targets.now k.read_current.ensures k.rows-dependency_rows.ensures k.column-members.ensures
 
-returns : tie.Need-returns
-returns c = let e = c.before.before.before.before.before.before.before.before.before in project-refused (lents e) e.args.root e.args.number e.args.line.now c.before.refusal-number.result c.before.refusal-number.ensures c.if1.true
+returns : tie.Need-returns-then-refused-ne0
+returns c = let e = c.before.before.before.before.before.before.before.before.before in project-refused (lents e) e.args.root e.args.number e.args.line.now c.refusal_number-refused.result c.refusal_number-refused.ensures c.if-refused-ne0.true
 
-find-entry-requires : tie.Need-find-entry-requires
+find-entry-requires : tie.Need-find_entry-chunk-requires
 find-entry-requires c κs = subst Accepted (sym (as_written c)) (tested c)
 
-returns-2 : tie.Need-returns-2
+returns-2 : tie.Need-returns-then-chunk
 returns-2 c =
     let k = c.before.before in
     let e = entry k in
-    root-refused (lents e) e.args.root e.args.number e.args.line.now (accepts k) (analysed-named (current-of e) e.args.names.now e.args.root ∙ (found c.before).none c.if2.true)
+    root-refused (lents e) e.args.root e.args.number e.args.line.now (accepts k) (analysed-named (current-of e) e.args.names.now e.args.root ∙ (found c.before).none c.if-chunk.true)
 
-returns-3 : tie.Need-returns-3
+returns-3 : tie.Need-returns-then-line-lt41
 returns-3 c =
     let k = c.before.before.before in
     let e = entry k in
-    room-refused (lents e) e.args.root e.args.number e.args.line.now (accepts k) (here c.before).0 c.if3.true
+    room-refused (lents e) e.args.root e.args.number e.args.line.now (accepts k) (here c.before).0 c.if-line-lt41.true
 
-read-current-requires : tie.Need-read-current-requires
+read-current-requires : tie.Need-read_current-requires
 read-current-requires c κs = (tested c.before.before.before.before.before, (length-replicate {A = ℕ} row_limit 0, length-replicate {A = ℕ} row_limit 0))
 
-array-share-prefix-read-targets : tie.Need-array-share-prefix-read-targets
+array-share-prefix-read-targets : tie.Need-slice_bounds-read_targets-end
 array-share-prefix-read-targets c =
-    let a = c.before.before.before.before.before.before.before.before.before.before.before.before.before.before.before.before.before.before.before.before.args in
-    targets-room a.runtime a.dynamic a.bounds.now a.columns.now a.importers.now a.kinds.now a.targets.now (tested c.before.before.before.before.before.before.before.before.before) c.before.before.before.read-current.ensures
+    let a = c.args in
+    targets-room a.runtime a.dynamic a.bounds.now a.columns.now a.importers.now a.kinds.now a.targets.now (tested c.before.before.before.before.before.before.before.before.before) c.read_current.ensures
 
-slice-aggregate-put-named-line : tie.Need-slice-aggregate-put-named-line
+slice-aggregate-put-named-line : tie.Need-slice_bounds-put_named_line-end
 slice-aggregate-put-named-line c =
-    let a = c.before.before.before.before.before.before.before.before.before.before.before.before.before.before.before.before.before.before.before.before.before.args in
-    targets-size a.runtime a.dynamic a.bounds.now a.columns.now a.importers.now a.kinds.now a.targets.now (tested c.before.before.before.before.before.before.before.before.before.before) c.before.before.before.before.read-current.ensures
+    let a = c.args in
+    targets-size a.runtime a.dynamic a.bounds.now a.columns.now a.importers.now a.kinds.now a.targets.now (tested c.before.before.before.before.before.before.before.before.before.before) c.read_current.ensures
 
-array-share-prefix-read-dependencies : tie.Need-array-share-prefix-read-dependencies
+array-share-prefix-read-dependencies : tie.Need-slice_bounds-read_dependencies-end
 array-share-prefix-read-dependencies c =
-    let a = c.before.before.before.before.before.before.before.before.before.before.before.before.before.before.before.before.before.before.before.before.before.args in
-    dependencies-room a.runtime a.dynamic a.bounds.now a.columns.now a.importers.now a.kinds.now a.targets.now (tested c.before.before.before.before.before.before.before.before.before.before) c.before.before.before.before.read-current.ensures c.before.rows.ensures
+    let a = c.args in
+    dependencies-room a.runtime a.dynamic a.bounds.now a.columns.now a.importers.now a.kinds.now a.targets.now (tested c.before.before.before.before.before.before.before.before.before.before) c.read_current.ensures c.rows-dependency_rows.ensures
 
-slice-aggregate-put-named-line-2 : tie.Need-slice-aggregate-put-named-line-2
+slice-aggregate-put-named-line-2 : tie.Need-slice_bounds-put_named_line-end-2
 slice-aggregate-put-named-line-2 c =
-    let a = c.before.before.before.before.before.before.before.before.before.before.before.before.before.before.before.before.before.before.before.before.before.before.args in
-    dependencies-size a.runtime a.dynamic a.bounds.now a.columns.now a.importers.now a.kinds.now a.targets.now (tested c.before.before.before.before.before.before.before.before.before.before.before) c.before.before.before.before.before.read-current.ensures c.before.before.rows.ensures
+    let a = c.args in
+    dependencies-size a.runtime a.dynamic a.bounds.now a.columns.now a.importers.now a.kinds.now a.targets.now (tested c.before.before.before.before.before.before.before.before.before.before.before) c.read_current.ensures c.rows-dependency_rows.ensures
 
-put-named-line-requires : tie.Need-put-named-line-requires
+put-named-line-requires : tie.Need-put_named_line-count-requires
 put-named-line-requires c κs =
     let k = c.before.before.before.before.before.before.before.before.before.before.before.before in
     let a = (entry k).args in
-    subst (λ (p : Project). (names_in (modules p) a.names.now ≡ true) × ((Accepted p × Entry p a.root c.before.before.before.before.before.before.before.before.before.before.before.find-entry.result) × (41 ≤ length a.line.now))) (sym (own c.before))
-    (lent-fit a.bounds.now a.columns.now a.names.now (written (entry k)) (accepts k), ((ok k, (here c.before.before.before.before.before.before.before.before.before.before).1), c.before.before.before.before.before.before.before.before.before.if3.false))
+    subst (λ (p : Project). (names_in (modules p) a.names.now ≡ true) × ((Accepted p × Entry p a.root c.find_entry-chunk.result) × (41 ≤ length a.line.now))) (sym (own c.before))
+    (lent-fit a.bounds.now a.columns.now a.names.now (written (entry k)) (accepts k), ((ok k, (here c.before.before.before.before.before.before.before.before.before.before).1), c.if-line-lt41.false))
 
-returns-4 : tie.Need-returns-4
+returns-4 : tie.Need-returns
 returns-4 c =
     let k = c.before.before.before.before.before.before.before.before.before.before.before.before.before.before.before in
     let e = entry k in
     let a = e.args in
-    let done = c.before.before.put-named-line in
-    let out : List ℕ = done.new.1.1.1.1.1.1.1.1.1.1.0 in
-    line-put (lents e) a.root a.number a.line.now (accepts k) (here c.before.before.before.before.before.before.before.before.before.before.before.before.before).0 c.before.before.before.before.before.before.before.before.before.before.before.before.if3.false (lent-named a.bounds.now a.columns.now a.names.now (written e) (accepts k))
+    let done = c.put_named_line-count in
+    let out : List ℕ = done.new.out in
+    line-put (lents e) a.root a.number a.line.now (accepts k) (here c.before.before.before.before.before.before.before.before.before.before.before.before.before).0 c.if-line-lt41.false (lent-named a.bounds.now a.columns.now a.names.now (written e) (accepts k))
     (subst (λ (p : Project). PutAt a.line.now 0 (page_line_of (named p a.names.now) a.root a.number) out done.result) (own c.before.before.before.before) done.ensures)
 
-pub page-line-with-records-spec : {M : Type 1} → statement M
-page-line-with-records-spec =
+pub page_line_with_records_spec : {M : Type 1} → statement M
+page_line_with_records_spec =
     tie.close
     (tie.spec (λ c κs. search rules) returns (λ c κs. search rules) (λ c κs. search rules) find-entry-requires returns-2 returns-3 (λ c. search rules) (λ c. search rules) read-current-requires (λ c κs. search rules) array-share-prefix-read-targets slice-aggregate-put-named-line array-share-prefix-read-dependencies slice-aggregate-put-named-line-2 put-named-line-requires (λ c. search rules) returns-4)

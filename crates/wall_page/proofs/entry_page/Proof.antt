@@ -11,14 +11,14 @@ use Rattle.wall_page.proofs.entry_page.Tie as tie
 
 returns : tie.Need-returns
 returns c =
-    let a = c.before.before.before.before.before.before.before.before.before.before.before.before.before.args in
-    let done = c.before.before.entry-page-with-records in
-    let made : List ℕ = done.new.1.1.1.1.1.1.1.1.1.1.1.0 in
+    let a = c.args in
+    let done = c.entry_page_with_records in
+    let made : List ℕ = done.new.page in
     subst (λ (t : Lent). EntryPage t a.root a.grounds.now a.plan.now a.page.now done.result made)
-    (lent-named-cut a.runtime a.dynamic a.bounds.now a.columns.now a.names.now c.before.before.before.before.before.before.column.ensures c.before.before.before.before.before.column2.ensures c.before.before.before.before.column3.ensures)
+    (lent-named-cut a.runtime a.dynamic a.bounds.now a.columns.now a.names.now c.column.ensures c.column-2.ensures c.column-3.ensures)
     done.ensures
 
-pub entry-page-spec : {M : Type 1} → statement M
-entry-page-spec =
+pub entry_page_spec : {M : Type 1} → statement M
+entry_page_spec =
     tie.close
     (tie.spec (λ c κs. search rules) (λ c κs. search rules) (λ c κs. search rules) (λ c κs. search rules) (λ c. search rules) returns)

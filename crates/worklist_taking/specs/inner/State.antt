@@ -6,7 +6,6 @@ use Rattle.lists.specs.Words.{has}
 use Rattle.walk.specs.Reach.{Reach⁺}
 use Rattle.tables.specs.Project.{Project}
 use Rattle.tables.specs.Readings.{modules, values_of}
-use Rattle.tables.specs.Accepted.{Accepted}
 use Rattle.tables.specs.Threads.{Threads}
 use Rattle.chunk_cycles.specs.Cycles.{labels_of}
 use Rattle.expected_order.specs.OfProject.{expected_of}

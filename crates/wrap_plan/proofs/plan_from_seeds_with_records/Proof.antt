@@ -7,7 +7,6 @@ use lib.ListN.{length-replicate}
 use lib.Seq.{length-take-le}
 use borrow.Author.Rules.{rules}
 use Rattle.lists.specs.Words.{ones}
-use Rattle.lists.proofs.Laws.{not-true, not-false}
 use Rattle.tables.specs.Project.{Project}
 use Rattle.tables.specs.Readings.{modules}
 use Rattle.tables.specs.Refusal.{row_limit}
@@ -60,7 +59,7 @@ seeds-tested : (k : tie.After-seeds_fit) → k.seeds_fit.result ≡ seeds_fit (m
 seeds-tested k = subst (λ (n : ℕ). k.seeds_fit.result ≡ seeds_fit n (entry k.before).args.seeds.now) (counted k.before) k.seeds_fit.ensures
 
 fits : (c : tie.Else-not-seeds_fit) → seeds_fit (modules (of (entry c.before.before))) (entry c.before.before).args.seeds.now ≡ true
-fits c = sym (seeds-tested c.before) ∙ not-false c.seeds_fit.result c.if-not-seeds_fit.false
+fits c = sym (seeds-tested c.before) ∙ c.if-not-seeds_fit.false
 
 -- the part of the slice that has a place a module
 part : (c : tie.Else-marks-n) → length (take (count c.before.before.before) (entry c.before.before.before).args.marks.now) ≡ count c.before.before.before
@@ -69,10 +68,10 @@ part c = length-take-le (count c.before.before.before) (entry c.before.before.be
 -- the columns that were read, and the project that the core reads with them
 
 abbrev made-targets : tie.After-read_current → List ℕ
-made-targets k = k.read_current.new.1.1.1.1.1.1.1.0
+made-targets k = k.read_current.new.read_targets
 
 abbrev made-dependencies : tie.After-read_current → List ℕ
-made-dependencies k = k.read_current.new.1.1.1.1.1.1.1.1.0
+made-dependencies k = k.read_current.new.read_dependencies
 
 own : (k : tie.After-column) → let a = k.args in read (table a.runtime a.dynamic a.bounds.now a.columns.now) a.importers.now a.kinds.now (take (length a.targets.now) (made-targets k.before.before.before.before.before.before)) (take k.rows-dependency_rows.result (made-dependencies k.before.before.before.before.before.before)) k.column.result.now ≡ of k.before.before.before.before.before.before.before.before.before.before.before.before.before.before.before.before.before.before.before.before.before.before.before
 own k =
@@ -86,7 +85,7 @@ returns-2 : tie.Need-returns-then-not-seeds_fit
 returns-2 c =
     let k = c.before.before in
     let e = entry k in
-    seeds-refused (lents e) e.args.seeds.now e.args.marks.now (accepts k) (sym (seeds-tested c.before) ∙ not-true c.seeds_fit.result c.if-not-seeds_fit.true)
+    seeds-refused (lents e) e.args.seeds.now e.args.marks.now (accepts k) (sym (seeds-tested c.before) ∙ c.if-not-seeds_fit.true)
 
 returns-3 : tie.Need-returns-then-marks-n
 returns-3 c = let k = c.before.before.before in let e = entry k in room-refused (lents e) e.args.seeds.now e.args.marks.now (accepts k) (fits c.before) (omega (arith, counted k, c.if-marks-n.true))
@@ -137,7 +136,7 @@ returns-4 c =
     let k = c.before.before.before.before.before.before.before.before.before.before.before.before.before.before.before.before in
     let e = entry k in
     let done = c.plan_seeds-count in
-    let plan : List ℕ = done.new.1.1.1.1.1.1.1.1.1.1.0 in
+    let plan : List ℕ = done.new.plan in
     let whole = own c.before.before.before.before in
     subst (λ (n : ℕ). PlanFromSeeds (lents e) e.args.seeds.now e.args.marks.now (Counted done.result) (plan ++ drop n e.args.marks.now)) (sym (counted k))
     (plan-counted (lents e) e.args.seeds.now e.args.marks.now (accepts k) (fits c.before.before.before.before.before.before.before.before.before.before.before.before.before.before) (omega (arith, counted k, c.if-marks-n.false)) plan done.result

@@ -35,7 +35,7 @@ returns c =
     let t = c.before in
     let l = t.before.before.before in
     let a = l.args in
-    sym (first_found a.entry.now a.entry-chunk.now a.root l.loop-row.row t.loop-row-test.true l.loop-row.invariant.1 t.if-entry-row.true)
+    sym (first_found a.entry.now a.entry_chunk.now a.root l.loop-row.row t.loop-row-test.true l.loop-row.invariant.1 t.if-entry-row.true)
 
 add_row : tie.Need-overflow_step-row invariant-loop decreases-loop
 add_row c = omega arith
@@ -50,7 +50,7 @@ returns-2 : tie.Need-returns invariant-loop decreases-loop
 returns-2 c =
     let l = c.before in
     let a = l.args in
-    sym (first-none a.entry.now a.entry-chunk.now a.root l.loop-row.row c.loop-row-test.false l.loop-row.invariant.1)
+    sym (first-none a.entry.now a.entry_chunk.now a.root l.loop-row.row c.loop-row-test.false l.loop-row.invariant.1)
 
 pub entry_chunk_of_spec : {M : Type 1} → statement M
 entry_chunk_of_spec =

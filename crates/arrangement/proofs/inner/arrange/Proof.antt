@@ -30,13 +30,13 @@ module _ (f : tie.After-find_keys) where
   count = length entry.args.normal.now
 
   abbrev groups : List ℕ
-  groups = f.find_keys.last.1.1.1.1.1.0
+  groups = f.find_keys.new.groups
 
   abbrev places : List ℕ
-  places = f.find_keys.last.1.1.1.1.1.1.0
+  places = f.find_keys.new.places
 
   part : length (take count space) ≡ count
-  part = length-take-le count space entry.requires.fit.few
+  part = length-take-le count space entry.requires.few
 
   groups-length : length groups ≡ count
   groups-length = f.find_keys.auto.groups ∙ part
@@ -84,18 +84,18 @@ array-borrow-prefix-work : tie.Need-slice_bounds-work-end
 array-borrow-prefix-work c = search rules
 
 slice-aggregate-sort-chunks-3 : tie.Need-slice_bounds-sort_chunks-end-3
-slice-aggregate-sort-chunks-3 c = let e = entry c.before.before.before.before.before.before in sym (length-take-le (length e.args.members.now) work-space e.requires.fit.rows)
+slice-aggregate-sort-chunks-3 c = let e = entry c.before.before.before.before.before.before in sym (length-take-le (length e.args.members.now) work-space e.requires.rows)
 
 sort-chunks-requires : tie.Need-sort_chunks-requires
 sort-chunks-requires c κs =
     let f = c.before.before.before.before.before.before in
     let e = entry f in
-    let n = length-take-le (length e.args.members.now) work-space e.requires.fit.rows in (
-      e.requires.fit.chunked,
+    let n = length-take-le (length e.args.members.now) work-space e.requires.rows in (
+      e.requires.chunked,
       (
         subst (λ (g : List ℕ). Held g (take (count f) (places f ++ drop (count f) space)) e.args.members.now) (sym (groups-read f))
             (subst (λ (p : List ℕ). Held (groups f) p e.args.members.now) (sym (places-read f))
-            (record { grouped = λ m h. subst (λ (i : ℕ). m < i) (sym (groups-length f)) (below-mem e.args.members.now e.requires.fit.inside h); placed = places-length f ∙ sym (groups-length f) })),
+            (record { grouped = λ m h. subst (λ (i : ℕ). m < i) (sym (groups-length f)) (below-mem e.args.members.now e.requires.inside h); placed = places-length f ∙ sym (groups-length f) })),
         omega (arith, n),
       ),
     )
@@ -110,9 +110,9 @@ returns c =
     let a = (entry f).args in
     let key = key_of a.names.now a.normal.now a.importers.now a.sensitive.now a.numbers.now in
     k.sort_chunks.ensures
-    ∙ ap (λ (g : List ℕ). arranged (held_key g (take (count f) (places f ++ drop (count f) space)) a.names.now) a.chunks a.member-chunk.now a.members-1.now) (groups-read f)
-    ∙ ap (λ (p : List ℕ). arranged (held_key (groups f) p a.names.now) a.chunks a.member-chunk.now a.members-1.now) (places-read f)
-    ∙ arranged-same (held_key (groups f) (places f) a.names.now) key a.chunks (count f) a.member-chunk.now a.members-1.now f.find_keys.ensures (entry f).requires.chunked.lengths (entry f).requires.inside
+    ∙ ap (λ (g : List ℕ). arranged (held_key g (take (count f) (places f ++ drop (count f) space)) a.names.now) a.chunks a.member_chunk.now a.members.now) (groups-read f)
+    ∙ ap (λ (p : List ℕ). arranged (held_key (groups f) p a.names.now) a.chunks a.member_chunk.now a.members.now) (places-read f)
+    ∙ arranged-same (held_key (groups f) (places f) a.names.now) key a.chunks (count f) a.member_chunk.now a.members.now f.find_keys.ensures (entry f).requires.chunked.lengths (entry f).requires.inside
 
 pub arrange_spec : {M : Type 1} → statement M
 arrange_spec =

@@ -44,7 +44,7 @@ module _ (s : tie.After-sort_table) where
   count = counted.rows-modules.result
 
   abbrev numbers : List ℕ
-  numbers = s.sort_table.last.1.1.1.1.1.1.1.1.1.1.0
+  numbers = s.sort_table.new.numbers
 
   numbers-length : length numbers ≡ count
   numbers-length = s.sort_table.auto.numbers ∙ part counted

@@ -32,7 +32,7 @@ module _ (k : tie.After-rows) where
   entry = copy.before.before.before.before.before.before.before.before.before.before.before.before
 
   -- the members, copied
-  same : copy.copy_to.last.1.0 ≡ entry.args.members.now
+  same : copy.copy_to.new.target ≡ entry.args.members.now
   unfolding read
   same = copy.copy_to.ensures ∙ copied entry.args.members.now entry.args.out.now entry.requires.0.size
 
@@ -58,8 +58,8 @@ arrange-requires c κs =
     let e = entry c in
     let a = e.args in
     let k = cut c in
-    asked3 (λ normal sensitive chunk. Fit a.names.now normal a.importers.now sensitive a.numbers.now chunk (copy c).copy_to.new.1.0 c.rows.result) k.column.ensures k.column-2.ensures k.column-3.ensures
-    (subst (λ (numbers : List ℕ). Fit a.names.now (of e).normal a.importers.now (of e).sensitive numbers (of e).member_chunk (copy c).copy_to.new.1.0 c.rows.result) (sym e.requires.1.1)
+    asked3 (λ normal sensitive chunk. Fit a.names.now normal a.importers.now sensitive a.numbers.now chunk (copy c).copy_to.new.target c.rows.result) k.column.ensures k.column-2.ensures k.column-3.ensures
+    (subst (λ (numbers : List ℕ). Fit a.names.now (of e).normal a.importers.now (of e).sensitive numbers (of e).member_chunk (copy c).copy_to.new.target c.rows.result) (sym e.requires.1.1)
     (subst (λ (members : List ℕ). Fit a.names.now (of e).normal a.importers.now (of e).sensitive (numbers_of (of e)) (of e).member_chunk members c.rows.result) (sym (same c))
     (subst (Fit a.names.now (of e).normal a.importers.now (of e).sensitive (numbers_of (of e)) (of e).member_chunk a.members.now) (sym c.rows.ensures) (arranging-fit (of e) e.requires.0.accepted a.names.now e.requires.1.0))))
 
@@ -74,10 +74,10 @@ returns c =
     let e = entry r in
     let a = e.args in
     let k = cut r in
-    let made : List ℕ = call.arrange.new.1.1.1.1.1.1.0 in
-    given3 (λ normal sensitive chunk. made ≡ arranged (key_of a.names.now normal a.importers.now sensitive a.numbers.now) r.rows.result chunk (copy r).copy_to.new.1.0) k.column.ensures k.column-2.ensures k.column-3.ensures call.arrange.ensures
-    ∙ ap (λ (numbers : List ℕ). arranged (key_of a.names.now (of e).normal a.importers.now (of e).sensitive numbers) r.rows.result (of e).member_chunk (copy r).copy_to.new.1.0) e.requires.1.1
-    ∙ ap (λ (n : ℕ). arranged (key_of a.names.now (of e).normal a.importers.now (of e).sensitive (numbers_of (of e))) n (of e).member_chunk (copy r).copy_to.new.1.0) r.rows.ensures
+    let made : List ℕ = call.arrange.new.members in
+    given3 (λ normal sensitive chunk. made ≡ arranged (key_of a.names.now normal a.importers.now sensitive a.numbers.now) r.rows.result chunk (copy r).copy_to.new.target) k.column.ensures k.column-2.ensures k.column-3.ensures call.arrange.ensures
+    ∙ ap (λ (numbers : List ℕ). arranged (key_of a.names.now (of e).normal a.importers.now (of e).sensitive numbers) r.rows.result (of e).member_chunk (copy r).copy_to.new.target) e.requires.1.1
+    ∙ ap (λ (n : ℕ). arranged (key_of a.names.now (of e).normal a.importers.now (of e).sensitive (numbers_of (of e))) n (of e).member_chunk (copy r).copy_to.new.target) r.rows.ensures
     ∙ ap (arranged (key_of a.names.now (of e).normal a.importers.now (of e).sensitive (numbers_of (of e))) (length (of e).order) (of e).member_chunk) (same r)
 
 pub arrange_table_spec : {M : Type 1} → statement M

@@ -28,10 +28,10 @@ module _ (c : tie.After-first_row-end invariant-loop decreases-loop) where
   loop = c.before.before
 
   ordered : loop.loop-c.start ≤ c.first_row-end.result
-  ordered = let e = entry loop in arranging-ordered _ _ _ _ e.requires.rows _ _ _ (loop.loop-c.invariant.2 e.requires.rows) c.first_row-end.result c.first_row-end.ensures
+  ordered = let e = entry loop in arranging-ordered _ _ _ _ e.requires.0 _ _ _ (loop.loop-c.invariant.2 e.requires.0) c.first_row-end.result c.first_row-end.ensures
 
   within : c.first_row-end.result ≤ length loop.loop-c.members
-  within = let e = entry loop in arranging-within _ _ _ _ e.requires.rows _ _ _ (loop.loop-c.invariant.2 e.requires.rows) c.first_row-end.result c.first_row-end.ensures
+  within = let e = entry loop in arranging-within _ _ _ _ e.requires.0 _ _ _ (loop.loop-c.invariant.2 e.requires.0) c.first_row-end.result c.first_row-end.ensures
 
 loop-holds : tie.Need-loop-c-init invariant-loop decreases-loop
 loop-holds c = (omega arith, refl, λ f. arranging-start _ _ _ _ f)
@@ -40,18 +40,18 @@ add-first-row : tie.Need-overflow_add-c invariant-loop decreases-loop
 add-first-row c = omega (arith, (entry c.before).well_formed.1.1.1.1.1.1.0)
 
 first-row-requires : tie.Need-first_row-end-requires invariant-loop decreases-loop
-first-row-requires c κs = (entry c.before).requires.rows.rising
+first-row-requires c κs = (entry c.before).requires.0.rising
 
 mul-merge-sort : tie.Need-offset_bounds-members-start invariant-loop decreases-loop
-mul-merge-sort c = omega (arith, ordered c, within c, ((loop c).loop-c.invariant.2 (entry (loop c)).requires.rows).size, (entry (loop c)).well_formed.1.1.1.1.0)
+mul-merge-sort c = omega (arith, ordered c, within c, ((loop c).loop-c.invariant.2 (entry (loop c)).requires.0).size, (entry (loop c)).well_formed.1.1.1.1.0)
 
 sub-merge-sort : tie.Need-slice_bounds-merge_sort-count invariant-loop decreases-loop
 sub-merge-sort c = ordered c
 
-part-merge-sort-start : tie.Need-slice-bounds-merge-sort-start invariant-loop decreases-loop
+part-merge-sort-start : tie.Need-slice_bounds-merge_sort-start invariant-loop decreases-loop
 part-merge-sort-start c = ordered c
 
-part-merge-sort-end : tie.Need-slice-bounds-merge-sort-end invariant-loop decreases-loop
+part-merge-sort-end : tie.Need-slice_bounds-merge_sort-end invariant-loop decreases-loop
 part-merge-sort-end c = within c
 
 merge-sort-requires : tie.Need-merge_sort-requires invariant-loop decreases-loop
@@ -59,9 +59,9 @@ merge-sort-requires c κs =
     let k = c.before.before in
     let l = loop k in
     let e = entry l in
-    let g = l.loop-c.invariant.2 e.requires.rows in
+    let g = l.loop-c.invariant.2 e.requires.0 in
     let size = length-take-le (k.first_row-end.result - l.loop-c.start) (drop l.loop-c.start l.loop-c.members) (omega (arith, length-drop l.loop-c.start l.loop-c.members, ordered k, within k)) in
-    (arranging-held _ _ _ _ e.requires.rows _ _ _ g e.requires.held (k.first_row-end.result - l.loop-c.start), omega (arith, size, within k, g.size, l.loop-c.invariant.1, e.requires.room))
+    (arranging-held _ _ _ _ e.requires.0 _ _ _ g e.requires.1.0 (k.first_row-end.result - l.loop-c.start), omega (arith, size, within k, g.size, l.loop-c.invariant.1, e.requires.1.1))
 
 add-c : tie.Need-overflow_step-c invariant-loop decreases-loop
 add-c c = omega (arith, (entry (loop c.before.before.before.before.before.before.before)).well_formed.1.1.1.1.1.1.0)
@@ -77,7 +77,7 @@ loop-again c =
     let e = entry l in (
       omega (arith, r.loop-c-test.true),
       c.work-1.given ∙ l.loop-c.invariant.1,
-      λ f. arranging-next _ _ _ _ f _ _ _ (l.loop-c.invariant.2 f) r.first_row-end.result r.first_row-end.ensures m.merge_sort.new.1.1.1.0 m.merge_sort.ensures,
+      λ f. arranging-next _ _ _ _ f _ _ _ (l.loop-c.invariant.2 f) r.first_row-end.result r.first_row-end.ensures m.merge_sort.new.values m.merge_sort.ensures,
     )
 
 same_length : tie.Need-shape_of-members invariant-loop decreases-loop
@@ -92,8 +92,8 @@ returns c =
     let e = entry l in
     let k = held_key e.args.groups.now e.args.places.now e.args.names.now in
     let last : l.loop-c.c ≡ e.args.chunks = omega (arith, c.loop-c-test.false, l.loop-c.invariant.0) in
-    arranging-end _ _ _ _ e.requires.rows l.loop-c.members l.loop-c.start
-    (subst (λ (n : ℕ). Arranging k e.args.member-chunk.now e.args.members.now e.args.chunks e.requires.rows l.loop-c.members n l.loop-c.start) last (l.loop-c.invariant.2 e.requires.rows))
+    arranging-end _ _ _ _ e.requires.0 l.loop-c.members l.loop-c.start
+    (subst (λ (n : ℕ). Arranging k e.args.member_chunk.now e.args.members.now e.args.chunks e.requires.0 l.loop-c.members n l.loop-c.start) last (l.loop-c.invariant.2 e.requires.0))
 
 pub sort_chunks_spec : {M : Type 1} → statement M
 sort_chunks_spec =

@@ -51,7 +51,7 @@ abbrev entry : tie.After-mark_entries → tie.Start
 entry k = k.before.before.before.before.before.before.before.before.before.before.before.before.before.before
 
 abbrev marks : tie.After-mark_entries → List ℕ
-marks k = k.mark_entries.new.1.1.1.1.1.1.1.1.1.1.1.1.0
+marks k = k.mark_entries.new.asked
 
 lent : (k : tie.After-mark_entries) → Lent 4096 (size (entry k)) (marks k)
 lent k = record { fits = few (entry k); kept = k.mark_entries.auto.asked }
@@ -101,11 +101,11 @@ returns c =
     let a = e.args in
     let o = c.add in
     let p = of e in
-    subst (λ (plan : List ℕ). Added (λ (m : ℕ). suffix_asks (eligible p) (orders_of p) a.plan.now m ≡ true) plan o.new.1.1.1.0 o.result) e.requires.1.1
+    subst (λ (plan : List ℕ). Added (λ (m : ℕ). suffix_asks (eligible p) (orders_of p) a.plan.now m ≡ true) plan o.new.set o.result) e.requires.1.1
     (added-cong (InAll (marks k) a.eligible.now a.eligible.now) _
     (λ m l h. let i = asks-some p e.requires.0.accepted a.plan.now m h in let g = subst (λ (xs : List ℕ). has xs m ≡ true) (sym e.requires.0.eligible_set) i.1 in (some_in k m l i.0, g, g))
     (λ m h. some-asks p e.requires.0.accepted a.plan.now m (in_some k m h.0) (subst (λ (xs : List ℕ). has xs m ≡ true) e.requires.0.eligible_set h.1))
-    (subst (λ (s : List ℕ). Added (InAll s a.eligible.now a.eligible.now) a.copy.now o.new.1.1.1.0 o.result) (view-is (lent k)) o.ensures))
+    (subst (λ (s : List ℕ). Added (InAll s a.eligible.now a.eligible.now) a.copy.now o.new.set o.result) (view-is (lent k)) o.ensures))
 
 pub add_suffixes_spec : {M : Type 1} → statement M
 add_suffixes_spec =

@@ -73,7 +73,7 @@ returns c =
     let l = c.before in
     let a = (entry l).args in
     let n : l.loop-k.k ≡ length a.roots.now = omega (arith, c.loop-k-test.false, l.loop-k.invariant.0, l.loop-k.invariant.1) in
-    subst (λ (roots : List ℕ). Joined (InSome (of (entry l)) roots a.sensitive.now a.plan.now) a.asked-1.now l.loop-k.asked) (ap (λ (i : ℕ). take i a.roots.now) n ∙ take-length a.roots.now) l.loop-k.invariant.2
+    subst (λ (roots : List ℕ). Joined (InSome (of (entry l)) roots a.sensitive.now a.plan.now) a.asked.now l.loop-k.asked) (ap (λ (i : ℕ). take i a.roots.now) n ∙ take-length a.roots.now) l.loop-k.invariant.2
 
 pub mark_entries_spec : {M : Type 1} → statement M
 mark_entries_spec =

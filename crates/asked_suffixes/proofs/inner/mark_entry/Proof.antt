@@ -11,7 +11,7 @@ use Rattle.tables.specs.Project.{Project}
 use Rattle.table.specs.Table.{table, read}
 use Rattle.expected_order.specs.OfProject.{expected_of}
 use Rattle.expected_order.proofs.Laws.{expected-in, expected-length}
-use Rattle.marks-1.proofs.Parts.{part_length}
+use Rattle.marks.proofs.Parts.{part_length}
 use Rattle.suffix_rule.specs.inner.Suffix.{InSuffix, Joined}
 use Rattle.asked_suffixes.proofs.inner.mark_entry.Statement.{statement}
 use Rattle.asked_suffixes.proofs.inner.mark_entry.Tie as tie
@@ -46,7 +46,7 @@ abbrev entry : tie.After-list_expected-count → tie.Start
 entry k = k.before.before.before.before.before.before.before.before.before.before.before.before.before
 
 abbrev made : tie.After-list_expected-count → List ℕ
-made k = k.list_expected-count.new.1.1.1.1.1.1.1.1.1.1.0
+made k = k.list_expected-count.new.order
 
 abbrev count : tie.After-list_expected-count → ℕ
 count k = k.list_expected-count.result
@@ -89,7 +89,7 @@ returns c =
     let k = c.before.before.before.before.before.before.before in
     let a = (entry k).args in
     let x = c.mark_suffix in
-    subst (λ (xs : List ℕ). Joined (InSuffix xs a.sensitive.now a.plan.now) a.asked-1.now x.new.1.1.1.0) (back k) x.ensures
+    subst (λ (xs : List ℕ). Joined (InSuffix xs a.sensitive.now a.plan.now) a.asked.now x.new.marks) (back k) x.ensures
 
 pub mark_entry_spec : {M : Type 1} → statement M
 mark_entry_spec =

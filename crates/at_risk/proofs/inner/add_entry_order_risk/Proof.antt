@@ -59,10 +59,10 @@ module _ (x : tie.After-list_actual-count) where
   count = x.list_actual-count.result
 
   abbrev actual : List ℕ
-  actual = x.list_actual-count.last.1.1.1.1.1.1.1.1.1.1.0
+  actual = x.list_actual-count.new.order
 
   abbrev hosts : List ℕ
-  hosts = x.list_actual-count.last.1.1.1.1.1.1.1.1.1.1.1.0
+  hosts = x.list_actual-count.new.hosts
 
   hosts-length : length hosts ≡ size x.before
   hosts-length = x.list_actual-count.auto.hosts ∙ part x.before

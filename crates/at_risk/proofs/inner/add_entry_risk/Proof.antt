@@ -54,7 +54,7 @@ module _ (x : tie.After-list_expected-count) where
   count = x.list_expected-count.result
 
   abbrev held : List ℕ
-  held = x.list_expected-count.last.1.1.1.1.1.1.1.1.1.1.0
+  held = x.list_expected-count.new.order
 
   there : count ≤ length held
   there = held-room (of start) start.args.root x.list_expected-count.ensures
@@ -68,7 +68,7 @@ module _ (x : tie.After-list_expected-count) where
 -- the set, with the order risk added
 module _ (y : tie.After-add_entry_order_risk) where
   abbrev out1 : List ℕ
-  out1 = y.add_entry_order_risk.new.1.1.1.1.1.1.1.1.1.1.1.1.1.0
+  out1 = y.add_entry_order_risk.new.out
 
   out1-size : length out1 ≡ modules (of (start y.before.before.before.before.before))
   out1-size = y.add_entry_order_risk.auto.out ∙ counted y.before.before.before.before.before.before.before

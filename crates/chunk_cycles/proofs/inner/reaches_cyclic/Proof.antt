@@ -35,7 +35,7 @@ part c = length-take-le (size c) room (entry c).requires.0.few
 
 -- the marks, and the part of the array that they are read from
 abbrev marks : tie.After-reach → List ℕ
-marks k = k.reach.new.1.1.1.1.1.0
+marks k = k.reach.new.marks
 
 marks-length : (k : tie.After-reach) → length (marks k) ≡ size k.before
 marks-length k = k.reach.auto.marks ∙ part k.before
@@ -85,9 +85,9 @@ reach-requires : tie.Need-reach-requires
 reach-requires c κs =
     let k = made c in
     let e = entry c in
-    let t = threaded e.requires.graph k.thread.last.1.0 k.thread.last.1.1.0 (subst (λ (n : ℕ). 1024 ≤ n) (sym k.thread.auto.heads) (le_refl 1024)) k.thread.ensures in (
-      subst (Threaded e.args.from.now e.args.to.now k.thread.last.1.0 k.thread.last.1.1.0) (sym (part c)) t,
-      subst (λ (n : ℕ). e.args.c < n) (sym (part c)) e.requires.chunk,
+    let t = threaded e.requires.0 k.thread.new.heads k.thread.new.nexts (subst (λ (n : ℕ). 1024 ≤ n) (sym k.thread.auto.heads) (le_refl 1024)) k.thread.ensures in (
+      subst (Threaded e.args.from.now e.args.to.now k.thread.new.heads k.thread.new.nexts) (sym (part c)) t,
+      subst (λ (n : ℕ). e.args.c < n) (sym (part c)) e.requires.1.1,
     )
 
 array-share-prefix-marks : tie.Need-slice_bounds-marks-end-2
@@ -109,8 +109,8 @@ returns-2 c =
     c.meets_labelled.ensures
     ∙ ap (λ (i : ℕ). any (labelled_at (take n (marks k ++ drop n room)) a.labels.now) (up_to i)) (view-length k)
     ∙ ap (λ (xs : List ℕ). any (labelled_at xs a.labels.now) (up_to n)) (marks-are k)
-    ∙ ap (λ (xs : List ℕ). any (labelled_at (reach_marks n succ a.c) xs) (up_to n)) e.requires.labels
-    ∙ reach-test a.from.now a.to.now n e.requires.graph a.c
+    ∙ ap (λ (xs : List ℕ). any (labelled_at (reach_marks n succ a.c) xs) (up_to n)) e.requires.1.0
+    ∙ reach-test a.from.now a.to.now n e.requires.0 a.c
 
 pub reaches_cyclic_spec : {M : Type 1} → statement M
 reaches_cyclic_spec =

@@ -26,7 +26,7 @@ use Rattle.tables.proofs.inner.first_rows.Reads as first-rows-reads
 
 -- the sort's targets
 abbrev statics : tie.Start → ℕ → List ℕ
-statics e = let a = e.args in statics_of a.dynamic a.normal.now a.record-module.now a.record-kind.now a.record-target.now
+statics e = let a = e.args in statics_of a.dynamic a.normal.now a.record_module.now a.record_kind.now a.record_target.now
 
 -- the first rows: a place a module and one more
 abbrev places : tie.Start → ℕ
@@ -41,12 +41,12 @@ starts-part e = length-take-le (places e) (replicate 4097 0) (enough e)
 seen-part : (e : tie.Start) → length {A = ℕ} (take (length e.args.normal.now) (replicate 4096 0)) ≡ length e.args.normal.now
 seen-part e = length-take-le (length e.args.normal.now) (replicate 4096 0) e.requires.0.few
 
-led-part : (e : tie.Start) → length {A = ℕ} (take (length e.args.record-module.now) (replicate 16384 0)) ≡ length e.args.record-module.now
-led-part e = length-take-le (length e.args.record-module.now) (replicate 16384 0) e.requires.0.rows
+led-part : (e : tie.Start) → length {A = ℕ} (take (length e.args.record_module.now) (replicate 16384 0)) ≡ length e.args.record_module.now
+led-part e = length-take-le (length e.args.record_module.now) (replicate 16384 0) e.requires.0.rows
 
 -- as they stand in the array
 abbrev firsts : tie.After-first_rows → List ℕ
-firsts r = r.first_rows.new.1.0
+firsts r = r.first_rows.new.starts
 
 firsts-length : (r : tie.After-first_rows) → length (firsts r) ≡ places r.before.before.before.before.before.before.before.before.before
 firsts-length r = r.first_rows.auto.starts ∙ starts-part r.before.before.before.before.before.before.before.before.before
@@ -56,16 +56,16 @@ firsts-read r = take_at (firsts r) (drop (places r.before.before.before.before.b
 
 -- what each row leads to, as it stands in the array
 abbrev rows-led : tie.After-lead_rows → List ℕ
-rows-led r = r.lead_rows.new.1.1.1.1.1.0
+rows-led r = r.lead_rows.new.leads
 
-rows-length : (r : tie.After-lead_rows) → length (rows-led r) ≡ length r.args.record-module.now
+rows-length : (r : tie.After-lead_rows) → length (rows-led r) ≡ length r.args.record_module.now
 rows-length r = r.lead_rows.auto.leads ∙ led-part r.before.before.before.before.before.before.before.before.before.before.before.before.before
 
-rows-read : (r : tie.After-lead_rows) → take (length r.args.record-module.now) (rows-led r ++ drop (length r.args.record-module.now) (replicate 16384 0)) ≡ rows-led r
-rows-read r = let n = length r.args.record-module.now in take_at (rows-led r) (drop n (replicate 16384 0)) n (rows-length r)
+rows-read : (r : tie.After-lead_rows) → take (length r.args.record_module.now) (rows-led r ++ drop (length r.args.record_module.now) (replicate 16384 0)) ≡ rows-led r
+rows-read r = let n = length r.args.record_module.now in take_at (rows-led r) (drop n (replicate 16384 0)) n (rows-length r)
 
-led-once : (r : tie.After-lead_rows) → LedOnce r.args.record-module.now (statics r.before.before.before.before.before.before.before.before.before.before.before.before.before) (length r.args.normal.now) (rows-led r)
-led-once r = let e = r.before.before.before.before.before.before.before.before.before.before.before.before.before in subst (λ (n : ℕ). LedOnce e.args.record-module.now (statics e) n (rows-led r)) (seen-part e) r.lead_rows.ensures
+led-once : (r : tie.After-lead_rows) → LedOnce r.args.record_module.now (statics r.before.before.before.before.before.before.before.before.before.before.before.before.before) (length r.args.normal.now) (rows-led r)
+led-once r = let e = r.before.before.before.before.before.before.before.before.before.before.before.before.before in subst (λ (n : ℕ). LedOnce e.args.record_module.now (statics e) n (rows-led r)) (seen-part e) r.lead_rows.ensures
 
 add-starts : tie.Need-overflow_add-starts
 add-starts c = search rules
@@ -96,8 +96,8 @@ lead-rows-requires c κs =
     let e = c.before.before.before.before.before.before.before.before.before.before.before.before in
     let a = e.args in
     let n = sym (seen-part e) in (
-      subst (Fit a.normal.now a.record-module.now a.record-kind.now a.record-target.now) n e.requires.0,
-      (subst (λ (k : ℕ). Below k a.record-module.now) n e.requires.1.0, led-part e),
+      subst (Fit a.normal.now a.record_module.now a.record_kind.now a.record_target.now) n e.requires.0,
+      (subst (λ (k : ℕ). Below k a.record_module.now) n e.requires.1.0, led-part e),
     )
 
 add-starts-2 : tie.Need-overflow_add-starts-2
@@ -110,7 +110,7 @@ slice-aggregate-write-circles : tie.Need-slice_bounds-write_circles-end
 slice-aggregate-write-circles c = let r = c.before.before.before.before.before.before.before in sym (ap length (firsts-read r) ∙ firsts-length r)
 
 array-share-prefix-led : tie.Need-slice_bounds-led-end-2
-array-share-prefix-led c = let r = c.before.before.before in omega (arith, rows-length r, length-append (rows-led r) (drop (length c.args.record-module.now) (replicate 16384 0)))
+array-share-prefix-led c = let r = c.before.before.before in omega (arith, rows-length r, length-append (rows-led r) (drop (length c.args.record_module.now) (replicate 16384 0)))
 
 slice-aggregate-write-circles-2 : tie.Need-slice_bounds-write_circles-end-2
 slice-aggregate-write-circles-2 c = let r = c.before.before.before.before in sym (ap length (rows-read r) ∙ rows-length r)
@@ -122,11 +122,11 @@ write-circles-requires c κs =
     let e = c.before.before.before.before.before.before.before.before.before.before.before.before.before.before.before.before.before.before.before in
     let a = e.args in
     let n = length a.normal.now in
-    subst (λ (s : List ℕ). Searched s (take (length a.record-module.now) (rows-led r ++ drop (length a.record-module.now) (replicate 16384 0))) a.entry.now a.runtime n) (sym (firsts-read f))
+    subst (λ (s : List ℕ). Searched s (take (length a.record_module.now) (rows-led r ++ drop (length a.record_module.now) (replicate 16384 0))) a.entry.now a.runtime n) (sym (firsts-read f))
     (subst (λ (l : List ℕ). Searched (firsts f) l a.entry.now a.runtime n) (sym (rows-read r))
     (record {
-      leads = led-leads a.record-module.now (firsts f) (rows-led r) n (statics e) f.first_rows.ensures (firsts-length f) e.requires.1.0 (led-once r) (rows-length r) e.requires.0.few e.requires.0.rows;
-      single = led-single a.record-module.now (firsts f) (rows-led r) n (statics e) f.first_rows.ensures (firsts-length f) e.requires.1.0 (led-once r) (rows-length r);
+      leads = led-leads a.record_module.now (firsts f) (rows-led r) n (statics e) f.first_rows.ensures (firsts-length f) e.requires.1.0 (led-once r) (rows-length r) e.requires.0.few e.requires.0.rows;
+      single = led-single a.record_module.now (firsts f) (rows-led r) n (statics e) f.first_rows.ensures (firsts-length f) e.requires.1.0 (led-once r) (rows-length r);
       runtimes = e.requires.1.1.0;
       entries = e.requires.1.1.1;
       rows = e.requires.1.1.2;
@@ -147,10 +147,10 @@ returns c =
     let a = e.args in
     let n = length a.normal.now in
     let roots = a.runtime ∷ a.entry.now in
-    subst (λ (cs : List (List ℕ)). Gathered cs a.paths.now a.lengths.now v.result v.new.1.1.1.0 v.new.1.1.1.1.0)
-    (ap (λ (s : List ℕ). circles (led_by s (take (length a.record-module.now) (rows-led r ++ drop (length a.record-module.now) (replicate 16384 0)))) n roots) (firsts-read f)
+    subst (λ (cs : List (List ℕ)). Gathered cs a.paths.now a.lengths.now v.result v.new.paths v.new.lengths)
+    (ap (λ (s : List ℕ). circles (led_by s (take (length a.record_module.now) (rows-led r ++ drop (length a.record_module.now) (replicate 16384 0)))) n roots) (firsts-read f)
     ∙ ap (λ (l : List ℕ). circles (led_by (firsts f) l) n roots) (rows-read r)
-    ∙ ap (λ (g : ℕ → List ℕ). circles g n roots) (led-targets a.record-module.now (firsts f) (rows-led r) n (statics e) f.first_rows.ensures (firsts-length f) e.requires.1.0 (led-once r) (rows-length r))
+    ∙ ap (λ (g : ℕ → List ℕ). circles g n roots) (led-targets a.record_module.now (firsts f) (rows-led r) n (statics e) f.first_rows.ensures (firsts-length f) e.requires.1.0 (led-once r) (rows-length r))
     ∙ circles-once (statics e) n roots)
     v.ensures
 

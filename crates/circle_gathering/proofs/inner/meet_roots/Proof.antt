@@ -82,12 +82,12 @@ loop-again c =
     let a = c.args in
     let k = c.root_at-root in (
       going-found (led_by a.starts.now a.led.now) write (λ (at : ℕ). get_or (a.runtime ∷ a.entry.now) at 0 ∷ []) 0 (first c.before.before.before.before.before.before.before.before.before.before.before.before.before.before.before.before.before.before.before.before.before.before.before) l.loop-row.invariant.0
-          {u = held v.new.1.1.0 v.new.1.1.1.0 0 v.new.1.1.1.1.0 v.new.1.1.1.1.1.0 v.result.count v.result.used}
+          {u = held v.new.states v.new.stack 0 v.new.paths v.new.lengths v.result.count v.result.used}
           (ap (λ (x : ℕ). x ∷ []) (sym k.ensures)) v.ensures,
       omega (arith, c.loop-row-test.true),
-      v.auto.1.1.1.0 ∙ l.loop-row.invariant.2,
-      v.auto.1.1.1.1.0 ∙ l.loop-row.invariant.3,
-      v.auto.1.1.1.1.1.0 ∙ l.loop-row.invariant.4,
+      v.auto.stack ∙ l.loop-row.invariant.2,
+      v.auto.paths ∙ l.loop-row.invariant.3,
+      v.auto.lengths ∙ l.loop-row.invariant.4,
     )
 
 same_length : tie.Need-shape_of-states invariant-loop decreases-loop

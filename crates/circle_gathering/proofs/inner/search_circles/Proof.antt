@@ -59,8 +59,8 @@ returns c =
     circles-made (led_by a.starts.now a.led.now) write a.n (led-inside e.requires.leads) e.requires.single (a.runtime ∷ a.entry.now)
     (λ y h. ⊎_elim (λ q. subst (λ (x : ℕ). x < a.n) (sym q) e.requires.runtimes) (λ q. below-mem a.entry.now e.requires.entries q) (Memᴰ.cases_cons h))
     (listed a.paths.now a.lengths.now 0 0)
-    {t = held v.new.1.1.1.0 v.new.1.1.1.1.0 0 v.new.1.1.1.1.1.0 v.new.1.1.1.1.1.1.0 v.result.count v.result.used}
-    (subst (λ (z : List ℕ). Searches (led_by a.starts.now a.led.now) write (record { states = z; begun = []; made = listed a.paths.now a.lengths.now 0 0 }) (a.runtime ∷ a.entry.now) (held v.new.1.1.1.0 v.new.1.1.1.1.0 0 v.new.1.1.1.1.1.0 v.new.1.1.1.1.1.1.0 v.result.count v.result.used))
+    {t = held v.new.states v.new.stack 0 v.new.paths v.new.lengths v.result.count v.result.used}
+    (subst (λ (z : List ℕ). Searches (led_by a.starts.now a.led.now) write (record { states = z; begun = []; made = listed a.paths.now a.lengths.now 0 0 }) (a.runtime ∷ a.entry.now) (held v.new.states v.new.stack 0 v.new.paths v.new.lengths v.result.count v.result.used))
     (take-zeros a.n module_limit e.requires.leads.few) v.ensures)
 
 pub search_circles_spec : {M : Type 1} → statement M

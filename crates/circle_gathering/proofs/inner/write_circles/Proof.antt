@@ -60,7 +60,7 @@ returns-4 c =
     let a = c.args in
     let k = c.before.before.before.before.before.before.before.before.before.before.before.before in
     let v = c.search_circles in
-    both-fit (found c.before.before.before.before.before.before.before.before.before.before.before.before.before.before.before.before.before.before.before.before) a.paths.now a.lengths.now {paths' = v.new.1.1.1.0} {lengths' = v.new.1.1.1.1.0} {count = v.result.count} {used = v.result.used}
+    both-fit (found c.before.before.before.before.before.before.before.before.before.before.before.before.before.before.before.before.before.before.before.before) a.paths.now a.lengths.now {paths' = v.new.paths} {lengths' = v.new.lengths} {count = v.result.count} {used = v.result.used}
     (omega (arith, c.if-paths-used.false, used_all (found c.before.before.before.before.before.before.before.before.before.before.before.before.before.before.before.before.before.before.before.before) [] [] k.search_circles-found.ensures))
     (omega (arith, c.if-lengths-count.false, counted-all (found c.before.before.before.before.before.before.before.before.before.before.before.before.before.before.before.before.before.before.before.before) [] [] k.search_circles-found.ensures))
     (counted-all (found c.before.before.before.before.before.before.before.before.before.before.before.before.before.before.before.before.before.before.before.before) [] [] k.search_circles-found.ensures) v.ensures

@@ -16,7 +16,7 @@ use Rattle.sort_steps.proofs.inner.led.Reads as led-reads
 
 -- what the row leads to
 abbrev targets : tie.Start → List ℕ
-targets e = let a = e.args in row_targets (is_static a.dynamic) any_target a.normal.now a.record-kind.now a.record-target.now a.row
+targets e = let a = e.args in row_targets (is_static a.dynamic) any_target a.normal.now a.record_kind.now a.record_target.now a.row
 
 -- a target that is there is a module
 target-in : (c : tie.Else-t) → c.led-t.result < length c.args.seen.now
@@ -24,7 +24,7 @@ target-in c =
     let e = c.before.before.before.before.before.before.before in
     let a = e.args in
     let k = c.before in
-    led-in a.dynamic a.normal.now a.record-kind.now a.record-target.now a.row (length a.seen.now) k.led-t.result e.requires.0.within (omega (arith, e.requires.1.1, e.requires.0.targets))
+    led-in a.dynamic a.normal.now a.record_kind.now a.record_target.now a.row (length a.seen.now) k.led-t.result e.requires.0.within (omega (arith, e.requires.1.1, e.requires.0.targets))
     (k.led-t.ensures ∙ unless-one k.led-t.result (ne_eqb _ _ c.if-t.false))
 
 led-requires : tie.Need-led-t-requires
@@ -35,7 +35,7 @@ returns c =
     let e = c.before.before.before.before.before.before.before in
     let a = e.args in
     let k = c.before in
-    led-missing (targets e) (get_or a.record-module.now a.row 0) a.seen.now k.led-t.result k.led-t.ensures c.if-t.true
+    led-missing (targets e) (get_or a.record_module.now a.row 0) a.seen.now k.led-t.result k.led-t.ensures c.if-t.true
 
 mul-by : tie.Need-offset_bounds-record_module-row
 mul-by c = search rules
@@ -60,7 +60,7 @@ returns-2 c =
     let e = c.before.before.before.before.before.before.before.before.before.before in
     let a = e.args in
     let k = c.before.before.before.before in
-    led-seen (targets e) (get_or a.record-module.now a.row 0) a.seen.now k.led-t.result k.led-t.ensures c.if-t.false (target-in c.before.before.before) c.if-seen-at.true
+    led-seen (targets e) (get_or a.record_module.now a.row 0) a.seen.now k.led-t.result k.led-t.ensures c.if-t.false (target-in c.before.before.before) c.if-seen-at.true
 
 mul-seen : tie.Need-offset_bounds-seen-at-2
 mul-seen c = search rules
@@ -76,7 +76,7 @@ returns-3 c =
     let e = c.before.before.before.before.before.before.before.before.before.before in
     let a = e.args in
     let k = c.before.before.before.before in
-    led-new (targets e) (get_or a.record-module.now a.row 0) a.seen.now k.led-t.result k.led-t.ensures c.if-t.false (target-in c.before.before.before) c.if-seen-at.false
+    led-new (targets e) (get_or a.record_module.now a.row 0) a.seen.now k.led-t.result k.led-t.ensures c.if-t.false (target-in c.before.before.before) c.if-seen-at.false
 
 pub lead_once_spec : {M : Type 1} → statement M
 lead_once_spec =

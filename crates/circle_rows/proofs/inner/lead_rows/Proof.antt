@@ -28,7 +28,7 @@ decreases-loop normal record-module record-kind record-target seen₀ leads₀ d
 
 -- what each row leads to
 abbrev targets : tie.Start invariant-loop decreases-loop → ℕ → List ℕ
-targets e = let a = e.args in row_targets (is_static a.dynamic) any_target a.normal.now a.record-kind.now a.record-target.now
+targets e = let a = e.args in row_targets (is_static a.dynamic) any_target a.normal.now a.record_kind.now a.record_target.now
 
 seen-len : (l : tie.At-loop-row invariant-loop decreases-loop) → length l.args.seen.now ≡ length l.loop-row.seen
 seen-len l = sym l.requires.0.normals ∙ sym l.loop-row.invariant.0.len
@@ -41,8 +41,8 @@ loop-holds c =
     let e = c.before.before.before.before.before.before.before.before.before.before in
     let a = e.args in
     let k = c.before.before in (
-      subst (λ (s : List ℕ). Pass a.record-module.now (targets e) (length a.normal.now) 0 s a.leads.now)
-          (sym (k.fill.ensures ∙ ap (λ (n : ℕ). replicate n 0) (sym e.requires.0.normals))) (pass-start a.record-module.now (targets e) (length a.normal.now) a.leads.now),
+      subst (λ (s : List ℕ). Pass a.record_module.now (targets e) (length a.normal.now) 0 s a.leads.now)
+          (sym (k.fill.ensures ∙ ap (λ (n : ℕ). replicate n 0) (sym e.requires.0.normals))) (pass-start a.record_module.now (targets e) (length a.normal.now) a.leads.now),
       omega arith,
       e.requires.1.1,
     )
@@ -52,8 +52,8 @@ lead-once-requires c κs =
     let e = c.before.before.before.before.before.before.before.before.before.before.before.before.before in
     let a = e.args in
     let n = seen-len c.before.before in (
-      subst (Fit a.normal.now a.record-module.now a.record-kind.now a.record-target.now) n e.requires.0,
-      (subst (λ (k : ℕ). Below k a.record-module.now) n e.requires.1.0, c.loop-row-test.true),
+      subst (Fit a.normal.now a.record_module.now a.record_kind.now a.record_target.now) n e.requires.0,
+      (subst (λ (k : ℕ). Below k a.record_module.now) n e.requires.1.0, c.loop-row-test.true),
     )
 
 mul-leads : tie.Need-offset_bounds-leads-row invariant-loop decreases-loop
@@ -74,7 +74,7 @@ loop-again c =
     let l = c.before.before.before.before.before in
     let e = c.before.before.before.before.before.before.before.before.before.before.before.before.before.before.before.before in
     let a = e.args in (
-      pass-next a.record-module.now (targets e) (length a.normal.now) e.requires.0.rising l.loop-row.invariant.0 c.loop-row-test.true v.lead_once.ensures (omega (arith, c.loop-row-test.true, l.loop-row.invariant.2)),
+      pass-next a.record_module.now (targets e) (length a.normal.now) e.requires.0.rising l.loop-row.invariant.0 c.loop-row-test.true v.lead_once.ensures (omega (arith, c.loop-row-test.true, l.loop-row.invariant.2)),
       omega (arith, c.loop-row-test.true),
       length-set l.loop-row.leads l.loop-row.row v.lead_once.result ∙ l.loop-row.invariant.2,
     )
@@ -91,8 +91,8 @@ returns c =
     let l = c.before in
     let e = c.before.before.before.before.before.before.before.before.before.before.before.before in
     let a = e.args in
-    subst (λ (n : ℕ). LedOnce a.record-module.now (targets_of (is_static a.dynamic) any_target a.normal.now a.record-module.now a.record-kind.now a.record-target.now) n l.loop-row.leads) e.requires.0.normals
-    (pass-end a.record-module.now (targets e) (length a.normal.now) l.loop-row.row (le_antisymm l.loop-row.invariant.1 c.loop-row-test.false) l.loop-row.invariant.2 l.loop-row.invariant.0)
+    subst (λ (n : ℕ). LedOnce a.record_module.now (targets_of (is_static a.dynamic) any_target a.normal.now a.record_module.now a.record_kind.now a.record_target.now) n l.loop-row.leads) e.requires.0.normals
+    (pass-end a.record_module.now (targets e) (length a.normal.now) l.loop-row.row (le_antisymm l.loop-row.invariant.1 c.loop-row-test.false) l.loop-row.invariant.2 l.loop-row.invariant.0)
 
 pub lead_rows_spec : {M : Type 1} → statement M
 lead_rows_spec =

@@ -29,10 +29,10 @@ mul-put-all c = search rules
 sub-put-all : tie.Need-slice_bounds-put_all-count
 sub-put-all c = search rules
 
-part-put-all-start : tie.Need-slice-bounds-put-all-start
+part-put-all-start : tie.Need-slice_bounds-put_all-start
 part-put-all-start c = search rules
 
-part-put-all-end : tie.Need-slice-bounds-put-all-end
+part-put-all-end : tie.Need-slice_bounds-put_all-end
 part-put-all-end c = search rules
 
 put-all-requires : tie.Need-put_all-requires
@@ -71,17 +71,15 @@ same-length-2 c = search rules
 returns : tie.Need-returns
 returns c =
     let second = c.put_at-2 in
-    let first = c.before.before.before.before.before.before in
-    let all = first.before.before.before.before in
-    let k = c.before.before.before.before.before.before.before.before.before.before.before.before.before in
+    let k = c in
     let a = k.args in
     let begun = a.begun.now in
     let start = k.place_of-start.result in
     let q = k.place_of-start.ensures.1 in
     let n = path-long begun a.paths.now a.m start a.found.used q in
-    let w : all.put_all_lem.new.1.0 ≡ sets a.paths.now a.found.used (take (length begun - start) (drop start begun)) = all.put_all_lem.ensures in
+    let w : c.put_all.new.slots ≡ sets a.paths.now a.found.used (take (length begun - start) (drop start begun)) = c.put_all.ensures in
     listed_same
-    (first.put_at.ensures
+    (c.put_at.ensures
     ∙ ap (λ (l : List ℕ). set l (a.found.used + (length begun - start)) a.m) (w ∙ ap (sets a.paths.now a.found.used) (rest-same begun start))
     ∙ path-written begun a.paths.now a.m start a.found.used q)
     (second.ensures ∙ ap (set a.lengths.now a.found.count) n)

@@ -46,7 +46,7 @@ loop-again c =
     let l = c.loop-i in
     let a = c.args in (
       omega arith,
-      p.auto.0 ∙ l.invariant.1,
+      p.auto.slots ∙ l.invariant.1,
       ap (λ (t : List ℕ). sets t (a.at + (l.i + 1)) (drop (l.i + 1) a.source.now)) p.ensures ∙ sets-one a.source.now l.i a.at l.slots (omega arith) ∙ l.invariant.2,
     )
 

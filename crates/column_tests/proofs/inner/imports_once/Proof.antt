@@ -17,7 +17,7 @@ abbrev decreases-loop : tie.decreases-loop-i
 decreases-loop import-chunk imports stamps₀ i₀ stamps i = length import-chunk - i
 
 loop-holds : tie.Need-loop-i-init invariant-loop decreases-loop
-loop-holds c = imports-start 1024 c.args.import-chunk.now c.args.imports.now c.requires.0 c.requires.1.1.1
+loop-holds c = imports-start 1024 c.args.import_chunk.now c.args.imports.now c.requires.0 c.requires.1.1.1
 
 mul-stamp : tie.Need-offset_bounds-import_chunk-i invariant-loop decreases-loop
 mul-stamp c = omega arith
@@ -44,7 +44,7 @@ array-read-if1 : tie.Need-bounds-stamps-to invariant-loop decreases-loop
 array-read-if1 c = c.requires.1.1.1 c.loop-i.i (omega (arith, c.requires.1.0))
 
 returns : tie.Need-returns-then-stamps-to invariant-loop decreases-loop
-returns c = run-stop stamped stamp _ _ _ _ (ap (run stamped stamp c.loop-i.stamps) (sym (zip-cons c.args.import-chunk.now c.args.imports.now c.loop-i.i c.loop-i-test.true (omega (arith, c.requires.1.0)))) ∙ c.loop-i.invariant) (eq-eqb _ _ c.if-stamps-to.true)
+returns c = run-stop stamped stamp _ _ _ _ (ap (run stamped stamp c.loop-i.stamps) (sym (zip-cons c.args.import_chunk.now c.args.imports.now c.loop-i.i c.loop-i-test.true (omega (arith, c.requires.1.0)))) ∙ c.loop-i.invariant) (eq-eqb _ _ c.if-stamps-to.true)
 
 mul-stamps : tie.Need-offset_bounds-stamps-to-in-loop-i invariant-loop decreases-loop
 mul-stamps c = omega (arith, c.requires.1.1.1 c.loop-i.i (omega (arith, c.requires.1.0)))
@@ -59,10 +59,10 @@ loop-less : tie.Need-loop-i-smaller invariant-loop decreases-loop
 loop-less c = omega arith
 
 loop-again : tie.Need-loop-i-preserved invariant-loop decreases-loop
-loop-again c = run-turn stamped stamp _ _ _ _ (ap (run stamped stamp c.loop-i.stamps) (sym (zip-cons c.args.import-chunk.now c.args.imports.now c.loop-i.i c.loop-i-test.true (omega (arith, c.requires.1.0)))) ∙ c.loop-i.invariant) (ne_eqb _ _ c.if-stamps-to.false)
+loop-again c = run-turn stamped stamp _ _ _ _ (ap (run stamped stamp c.loop-i.stamps) (sym (zip-cons c.args.import_chunk.now c.args.imports.now c.loop-i.i c.loop-i-test.true (omega (arith, c.requires.1.0)))) ∙ c.loop-i.invariant) (ne_eqb _ _ c.if-stamps-to.false)
 
 returns-2 : tie.Need-returns invariant-loop decreases-loop
-returns-2 c = run_end stamped stamp _ _ (ap (run stamped stamp c.loop-i.stamps) (sym (zip_end c.args.import-chunk.now c.args.imports.now c.loop-i.i c.loop-i-test.false)) ∙ c.loop-i.invariant)
+returns-2 c = run_end stamped stamp _ _ (ap (run stamped stamp c.loop-i.stamps) (sym (zip_end c.args.import_chunk.now c.args.imports.now c.loop-i.i c.loop-i-test.false)) ∙ c.loop-i.invariant)
 
 pub imports_once_spec : {M : Type 1} → statement M
 imports_once_spec =

@@ -33,7 +33,7 @@ rows-of-both-requires c κs = search rules
 
 loop-holds : tie.Need-loop-i-init invariant-loop decreases-loop
 unfolding plain_symbols
-loop-holds c = let a = c.args in counts_start (plain a.reference-form.now a.reference-symbol.now) (length a.reference-form.now)
+loop-holds c = let a = c.args in counts_start (plain a.reference_form.now a.reference_symbol.now) (length a.reference_form.now)
 
 mul_fit : tie.Need-offset_bounds-reference_form-i invariant-loop decreases-loop
 mul_fit c = omega arith
@@ -57,15 +57,15 @@ loop-again : tie.Need-loop-i-preserved invariant-loop decreases-loop
 loop-again c =
     let l = c.before.before.before in
     let a = l.args in
-    count-joined (plain a.reference-form.now a.reference-symbol.now) _ _ l.loop-i.fit l.loop-i.i l.loop-i.invariant (omega arith)
+    count-joined (plain a.reference_form.now a.reference_symbol.now) _ _ l.loop-i.fit l.loop-i.i l.loop-i.invariant (omega arith)
 
 returns : tie.Need-returns invariant-loop decreases-loop
 returns c =
     let l = c.before in
     let k = l.before in
     let a = k.args in
-    let form = a.reference-form.now in
-    let symbol = a.reference-symbol.now in
+    let form = a.reference_form.now in
+    let symbol = a.reference_symbol.now in
     ⊎_elim
     (λ e. counts-joined (plain form symbol) (length form) _ l.loop-i.fit l.loop-i.i l.loop-i.invariant (omega arith))
     (λ e. counts-passed (plain form symbol) (length form) _ l.loop-i.fit l.loop-i.i l.loop-i.invariant (λ j h. past form symbol j (omega arith)))

@@ -23,11 +23,11 @@ abbrev decreases-loop : tie.decreases-loop-i
 decreases-loop statement-module record-module use-statement use-record fit₀ i₀ fit i = length use-statement - i
 
 abbrev test : tie.Start invariant-loop decreases-loop → ℕ → Bool
-test s = own s.args.statement-module.now s.args.record-module.now s.args.use-statement.now s.args.use-record.now
+test s = own s.args.statement_module.now s.args.record_module.now s.args.use_statement.now s.args.use_record.now
 
 loop-holds : tie.Need-loop-i-init invariant-loop decreases-loop
 unfolding uses_own
-loop-holds c = let s = c.before.before.before.before in counts_start (test s) (length s.args.use-statement.now)
+loop-holds c = let s = c.before.before.before.before in counts_start (test s) (length s.args.use_statement.now)
 
 mul-statement : tie.Need-offset_bounds-use_statement-i invariant-loop decreases-loop
 mul-statement c = omega arith
@@ -61,13 +61,13 @@ loop-again c =
     let l = c.before.before.before.before.before in
     let s = l.before.before.before.before.before in
     rw (c.value_at.ensures, c.value_at-in-loop-i.ensures, c.value_at-used.ensures)
-    (count-joined (test s) (length s.args.use-statement.now) _ l.loop-i.fit l.loop-i.i l.loop-i.invariant (omega arith))
+    (count-joined (test s) (length s.args.use_statement.now) _ l.loop-i.fit l.loop-i.i l.loop-i.invariant (omega arith))
 
 returns : tie.Need-returns invariant-loop decreases-loop
 returns c =
     let l = c.before in
     let s = l.before.before.before.before.before in
-    counts-joined (test s) (length s.args.use-statement.now) _ l.loop-i.fit l.loop-i.i l.loop-i.invariant c.loop-i-test.false
+    counts-joined (test s) (length s.args.use_statement.now) _ l.loop-i.fit l.loop-i.i l.loop-i.invariant c.loop-i-test.false
 
 pub uses_own_spec : {M : Type 1} → statement M
 uses_own_spec =

@@ -54,8 +54,8 @@ label-rows-requires c κs =
     let t = c.before.before.before.before.before.before.before in
     let k = made c in
     let e = entry c in (
-      threaded e.requires k.thread.last.1.0 k.thread.last.1.1.0 (subst (λ (n : ℕ). 1024 ≤ n) (sym k.thread.auto.heads) (le_refl 1024)) k.thread.ensures,
-      threaded (graph-back e.requires) t.thread-2.new.1.0 t.thread-2.new.1.1.0 (subst (λ (n : ℕ). 1024 ≤ n) (sym t.thread-2.auto.heads) (le_refl 1024)) t.thread-2.ensures,
+      threaded e.requires k.thread.new.heads k.thread.new.nexts (subst (λ (n : ℕ). 1024 ≤ n) (sym k.thread.auto.heads) (le_refl 1024)) k.thread.ensures,
+      threaded (graph-back e.requires) t.thread-2.new.heads t.thread-2.new.nexts (subst (λ (n : ℕ). 1024 ≤ n) (sym t.thread-2.auto.heads) (le_refl 1024)) t.thread-2.ensures,
     )
 
 count-labelled-requires : tie.Need-count_labelled-requires
@@ -66,12 +66,10 @@ same_length c = search rules
 
 returns : tie.Need-returns
 returns c =
-    let k = c.before.before.before.before in
-    let e = entry k.before in
-    let a = e.args in
+    let a = c.args in
     record {
-      same = k.label_rows.ensures;
-      cyclics = c.count_labelled.ensures ∙ ap (λ (xs : List ℕ). length (keep labelled xs)) k.label_rows.ensures ∙ count-cyclic a.from.now a.to.now (length a.labels.now) e.requires;
+      same = c.label_rows.ensures;
+      cyclics = c.count_labelled.ensures ∙ ap (λ (xs : List ℕ). length (keep labelled xs)) c.label_rows.ensures ∙ count-cyclic a.from.now a.to.now (length a.labels.now) c.requires;
     }
 
 pub label_chunks_spec : {M : Type 1} → statement M

@@ -5,7 +5,6 @@ use Rattle.std.specs.Prelude.{◌≡◌, ℕ, ◌<◌, ◌≤◌, List, ◌++◌
 use mathlib.Core.Path.{refl, sym, ap, subst, ◌∙◌}
 use lib.Seq.{length-take-le, take_at}
 use Rattle.lists.specs.Words.{any, has, keep, up_to}
-use Rattle.lists.proofs.Laws.{not-true, not-false}
 use Rattle.tables.specs.Readings.{first_of, values_of}
 use Rattle.tables.specs.Refusal.{chunk_limit}
 use Rattle.strong_connection.specs.Cycles.{cyclic}
@@ -33,7 +32,7 @@ part c = length-take-le (size c) room (entry c).requires.0.graph.few
 
 -- the marks of the walk backward, and the part of the array that they are read from
 abbrev behind : tie.After-reach → List ℕ
-behind k = k.reach.new.1.1.1.1.1.0
+behind k = k.reach.new.marks
 
 behind-length : (k : tie.After-reach) → length (behind k) ≡ size k.before
 behind-length k = k.reach.auto.marks ∙ part k.before
@@ -59,14 +58,14 @@ answer c =
     let a = e.args in
     c.leads.ensures
     ∙ ap (λ (marks : List ℕ). any (has marks) (values_of a.from.now a.to.now a.c)) (behind-is k)
-    ∙ cyclic-test a.from.now a.to.now (size k.before) e.requires.rows.graph a.c e.requires.chunk
+    ∙ cyclic-test a.from.now a.to.now (size k.before) e.requires.0.graph a.c e.requires.1.1
 
 -- the marks of the walk forward, and the part of the array that they are read from
 abbrev second : tie.After-reach-2 → tie.After-leads
 second k = k.before.before.before
 
 abbrev ahead : tie.After-reach-2 → List ℕ
-ahead k = k.reach-2.new.1.1.1.1.1.0
+ahead k = k.reach-2.new.marks
 
 ahead-length : (k : tie.After-reach-2) → length (ahead k) ≡ size (first (second k)).before
 ahead-length k = k.reach-2.auto.marks ∙ part (first (second k)).before
@@ -91,8 +90,8 @@ slice-aggregate-reach c = sym (part c)
 reach-requires : tie.Need-reach-requires
 reach-requires c κs =
     let e = entry c in (
-      subst (Threaded e.args.to.now e.args.from.now e.args.back-heads.now e.args.back-nexts.now) (sym (part c)) e.requires.back,
-      subst (λ (n : ℕ). e.args.c < n) (sym (part c)) e.requires.chunk,
+      subst (Threaded e.args.to.now e.args.from.now e.args.back_heads.now e.args.back_nexts.now) (sym (part c)) e.requires.1.0,
+      subst (λ (n : ℕ). e.args.c < n) (sym (part c)) e.requires.1.1,
     )
 
 array-share-prefix-behind : tie.Need-slice_bounds-behind-end-2
@@ -105,8 +104,8 @@ leads-requires : tie.Need-leads-requires
 leads-requires c κs =
     let k = c.before.before in
     let e = entry k.before in (
-      subst (Threaded e.args.from.now e.args.to.now e.args.heads.now e.args.nexts.now) (sym (view-length k)) e.requires.rows,
-      subst (λ (n : ℕ). e.args.c < n) (sym (view-length k)) e.requires.chunk,
+      subst (Threaded e.args.from.now e.args.to.now e.args.heads.now e.args.nexts.now) (sym (view-length k)) e.requires.0,
+      subst (λ (n : ℕ). e.args.c < n) (sym (view-length k)) e.requires.1.1,
     )
 
 returns : tie.Need-returns-then-not-leads
@@ -114,7 +113,7 @@ returns c =
     let l = c.before in
     let e = entry (first l).before in
     let a = e.args in
-    component-none a.from.now a.to.now (length a.labels.now) e.requires.rows.graph a.c e.requires.chunk a.labels.now refl (sym (answer l) ∙ not-true l.leads.result c.if-not-leads.true)
+    component-none a.from.now a.to.now (length a.labels.now) e.requires.0.graph a.c e.requires.1.1 a.labels.now refl (sym (answer l) ∙ c.if-not-leads.true)
 
 array-borrow-prefix-ahead : tie.Need-slice_bounds-ahead-end
 array-borrow-prefix-ahead c = search rules
@@ -126,8 +125,8 @@ reach-requires-2 : tie.Need-reach-requires-2
 reach-requires-2 c κs =
     let b = (first c.before.before).before in
     let e = entry b in (
-      subst (Threaded e.args.from.now e.args.to.now e.args.heads.now e.args.nexts.now) (sym (part b)) e.requires.rows,
-      subst (λ (n : ℕ). e.args.c < n) (sym (part b)) e.requires.chunk,
+      subst (Threaded e.args.from.now e.args.to.now e.args.heads.now e.args.nexts.now) (sym (part b)) e.requires.0,
+      subst (λ (n : ℕ). e.args.c < n) (sym (part b)) e.requires.1.1,
     )
 
 array-share-prefix-ahead : tie.Need-slice_bounds-ahead-end-2
@@ -183,7 +182,7 @@ returns-2 c =
     ∙ ap (λ (low : ℕ). relabelled (in_both in-front in-back) low a.labels.now) (f.first_both-lowest.ensures ∙ ap (λ (i : ℕ). first_of (keep (in_both in-front in-back) (up_to i))) (ahead-view k))
     ∙ ap (λ (marks : List ℕ). relabelled (in_both marks in-back) (first_of (keep (in_both marks in-back) (up_to n))) a.labels.now) (ahead-is k)
     ∙ ap (λ (marks : List ℕ). relabelled (in_both reached marks) (first_of (keep (in_both reached marks) (up_to n))) a.labels.now) (behind-is (first l))
-    ∙ component-cyclic a.from.now a.to.now n e.requires.rows.graph a.c e.requires.chunk a.labels.now refl (sym (answer l) ∙ not-false l.leads.result k.if-not-leads.false)
+    ∙ component-cyclic a.from.now a.to.now n e.requires.0.graph a.c e.requires.1.1 a.labels.now refl (sym (answer l) ∙ k.if-not-leads.false)
 
 pub label_component_spec : {M : Type 1} → statement M
 label_component_spec =

@@ -29,7 +29,7 @@ Loop = tie.At-loop-row invariant-loop decreases-loop
 abbrev entry : Loop → tie.Start invariant-loop decreases-loop
 entry l = l.before.before.before.before.before.before.before.before.before.before.before.before.before.before.before
 
-size-len : (l : Loop) → length l.fill.last.0 ≡ length (entry l).args.labels.now
+size-len : (l : Loop) → length l.fill.new.slots ≡ length (entry l).args.labels.now
 size-len l = l.fill.auto.slots
 
 len : (l : Loop) → length l.loop-row.labels ≡ length (entry l).args.labels.now
@@ -38,10 +38,10 @@ len l = l.loop-row.invariant.1.len ∙ size-len l
 -- the ends of a row are chunks
 module _ (w : tie.In-loop-row invariant-loop decreases-loop) where
   to_in : get_or (entry w.before).args.to.now w.loop-row.row 0 < length (entry w.before).args.labels.now
-  to_in = (entry w.before).requires.rows.graph.tos w.loop-row.row w.loop-row-test.true
+  to_in = (entry w.before).requires.0.graph.tos w.loop-row.row w.loop-row-test.true
 
   from_in : get_or (entry w.before).args.from.now w.loop-row.row 0 < length (entry w.before).args.labels.now
-  from_in = (entry w.before).requires.rows.graph.froms w.loop-row.row w.loop-row-test.taken
+  from_in = (entry w.before).requires.0.graph.froms w.loop-row.row w.loop-row-test.true
 
 -- plain facts that the answers use
 falls : {a b : ℕ} → a < b → b ≤ a → ⊥
@@ -74,7 +74,7 @@ loop-holds c =
     let f = c.before.before.before.before.before in
     let e = f.before.before.before.before.before.before.before.before.before in
     let n = f.fill.auto.slots in
-    (refl, labelled-start (subst (Graph e.args.from.now e.args.to.now) (sym n) e.requires.0.graph) f.fill.new.0 (f.fill.ensures ∙ ap (λ (k : ℕ). replicate k missing) (sym n)))
+    (refl, labelled-start (subst (Graph e.args.from.now e.args.to.now) (sym n) e.requires.0.graph) f.fill.new.slots (f.fill.ensures ∙ ap (λ (k : ℕ). replicate k missing) (sym n)))
 
 mul-c : tie.Need-offset_bounds-to-row invariant-loop decreases-loop
 mul-c c = search rules
@@ -83,13 +83,13 @@ shared-slice-read-c : tie.Need-bounds-to-row invariant-loop decreases-loop
 shared-slice-read-c c = search rules
 
 cast-if1 : tie.Need-overflow_cast-c invariant-loop decreases-loop
-cast-if1 c = let w = c.before in let h = small (to_in w) (entry w.before).requires.rows.graph.few in omega arith
+cast-if1 c = let w = c.before in let h = small (to_in w) (entry w.before).requires.0.graph.few in omega arith
 
 mul-if1 : tie.Need-offset_bounds-numbers-c invariant-loop decreases-loop
-mul-if1 c = let w = c.before in let h = small (to_in w) (entry w.before).requires.rows.graph.few in omega arith
+mul-if1 c = let w = c.before in let h = small (to_in w) (entry w.before).requires.0.graph.few in omega arith
 
 array-read-if1 : tie.Need-bounds-numbers-c invariant-loop decreases-loop
-array-read-if1 c = let w = c.before in small (to_in w) (entry w.before).requires.rows.graph.few
+array-read-if1 c = let w = c.before in small (to_in w) (entry w.before).requires.0.graph.few
 
 mul-if1-2 : tie.Need-offset_bounds-from-row invariant-loop decreases-loop
 mul-if1-2 c = search rules
@@ -98,13 +98,13 @@ shared-slice-read-if1 : tie.Need-bounds-from-row invariant-loop decreases-loop
 shared-slice-read-if1 c = search rules
 
 cast-if1-2 : tie.Need-overflow_cast-from invariant-loop decreases-loop
-cast-if1-2 c = let w = c.before.before in let h = small (from_in w) (entry w.before).requires.rows.graph.few in omega arith
+cast-if1-2 c = let w = c.before.before in let h = small (from_in w) (entry w.before).requires.0.graph.few in omega arith
 
 mul-if1-3 : tie.Need-offset_bounds-numbers-from invariant-loop decreases-loop
-mul-if1-3 c = let w = c.before.before in let h = small (from_in w) (entry w.before).requires.rows.graph.few in omega arith
+mul-if1-3 c = let w = c.before.before in let h = small (from_in w) (entry w.before).requires.0.graph.few in omega arith
 
 array-read-if1-2 : tie.Need-bounds-numbers-from invariant-loop decreases-loop
-array-read-if1-2 c = let w = c.before.before in small (from_in w) (entry w.before).requires.rows.graph.few
+array-read-if1-2 c = let w = c.before.before in small (from_in w) (entry w.before).requires.0.graph.few
 
 add_row : tie.Need-overflow_step-row invariant-loop decreases-loop
 add_row c = search rules
@@ -116,10 +116,10 @@ loop-again : tie.Need-loop-row-preserved-then-numbers-c invariant-loop decreases
 loop-again c = let l = c.before.before.before.before in (refl, labelled-pass l.loop-row.invariant.1 (λ r e. falls c.if-numbers-c.true r))
 
 cast-if2 : tie.Need-overflow_cast-c-in-loop-row invariant-loop decreases-loop
-cast-if2 c = let w = c.before.before.before in let h = small (to_in w) (entry w.before).requires.rows.graph.few in omega arith
+cast-if2 c = let w = c.before.before.before in let h = small (to_in w) (entry w.before).requires.0.graph.few in omega arith
 
 mul-if2 : tie.Need-offset_bounds-labels-c invariant-loop decreases-loop
-mul-if2 c = let w = c.before.before.before in let h = small (to_in w) (entry w.before).requires.rows.graph.few in omega arith
+mul-if2 c = let w = c.before.before.before in let h = small (to_in w) (entry w.before).requires.0.graph.few in omega arith
 
 slice-read-if2 : tie.Need-bounds-labels-c invariant-loop decreases-loop
 slice-read-if2 c =
@@ -141,9 +141,9 @@ label-component-requires c κs =
     let w = c.before.before.before.before.before.before in
     let l = w.before in
     let e = entry l in (
-      subst (Threaded e.args.from.now e.args.to.now e.args.heads.now e.args.nexts.now) (sym (len l)) e.requires.rows,
+      subst (Threaded e.args.from.now e.args.to.now e.args.heads.now e.args.nexts.now) (sym (len l)) e.requires.0,
       (
-        subst (Threaded e.args.to.now e.args.from.now e.args.back-heads.now e.args.back-nexts.now) (sym (len l)) e.requires.back,
+        subst (Threaded e.args.to.now e.args.from.now e.args.back_heads.now e.args.back_nexts.now) (sym (len l)) e.requires.1,
         subst (λ (k : ℕ). get_or e.args.to.now l.loop-row.row 0 < k) (sym (len l)) (to_in w),
       ),
     )
@@ -161,7 +161,7 @@ loop-again-3 c =
     let l = w.before in
     let a = (entry l).args in (
       refl,
-      labelled_step l.loop-row.invariant.1 k.label_component.new.1.1.1.1.1.1.1.0 w.loop-row-test.true
+      labelled_step l.loop-row.invariant.1 k.label_component.new.labels w.loop-row-test.true
           (k.label_component.ensures ∙ ap (λ (n : ℕ). component_labelled n (values_of a.from.now a.to.now) (get_or a.to.now l.loop-row.row 0) l.loop-row.labels) l.loop-row.invariant.1.len),
     )
 

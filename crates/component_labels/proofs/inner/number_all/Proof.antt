@@ -31,18 +31,18 @@ loop-holds : tie.Need-loop-c-init invariant-loop decreases-loop
 loop-holds c = let e = c.before.before.before.before.before in (refl, refl, omega (arith, zeros-le e.args.numbers.now, e.requires.graph.few))
 
 cast-number : tie.Need-overflow_cast-c invariant-loop decreases-loop
-cast-number c = omega (arith, c.loop-c-test.true, (entry c.before).requires.rows.graph.few)
+cast-number c = omega (arith, c.loop-c-test.true, (entry c.before).requires.graph.few)
 
 number-requires : tie.Need-number-last-requires invariant-loop decreases-loop
 number-requires c κs =
     let l = c.before.before in
     let e = entry l in (
-      subst (Threaded e.args.from.now e.args.to.now e.args.heads.now e.args.nexts.now) (sym l.loop-c.invariant.1) e.requires.rows,
+      subst (Threaded e.args.from.now e.args.to.now e.args.heads.now e.args.nexts.now) (sym l.loop-c.invariant.1) e.requires,
       (subst (λ (n : ℕ). l.loop-c.c < n) (sym l.loop-c.invariant.1) c.loop-c-test.true, l.loop-c.invariant.2),
     )
 
 add-c : tie.Need-overflow_step-c invariant-loop decreases-loop
-add-c c = let w = c.before.before.before.before in omega (arith, w.loop-c-test.true, (entry w.before).requires.rows.graph.few)
+add-c c = let w = c.before.before.before.before in omega (arith, w.loop-c-test.true, (entry w.before).requires.graph.few)
 
 loop-less : tie.Need-loop-c-smaller invariant-loop decreases-loop
 loop-less c = nearer c.loop-c-test.true

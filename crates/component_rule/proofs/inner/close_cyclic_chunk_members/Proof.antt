@@ -6,9 +6,9 @@ use mathlib.Core.Path.{sym, ap, subst, ◌∙◌}
 use native.Mathlib.Omega.{arith}
 use Rattle.lists.specs.Words.{ones}
 use Rattle.tables.specs.Accepted.{Below}
-use Rattle.marks-1.specs.Steps.{looked, Owners, Added, InAll}
-use Rattle.marks-1.proofs.Parts.{Lent, part_none, part_length, view-room, view-is, view-length}
-use Rattle.marks-1.proofs.Steps.{added_none, added-cong, ones_none}
+use Rattle.marks.specs.Steps.{looked, Owners, Added, InAll}
+use Rattle.marks.proofs.Parts.{Lent, part_none, part_length, view-room, view-is, view-length}
+use Rattle.marks.proofs.Steps.{added_none, added-cong, ones_none}
 use Rattle.component_rule.proofs.Marking.{together-hit, members-together, together-members}
 use borrow.Author.Rules.{rules}
 use Rattle.component_rule.proofs.inner.close_cyclic_chunk_members.Statement.{statement}
@@ -21,11 +21,11 @@ abbrev chunks : tie.Start → ℕ
 chunks e = length e.args.labels.now
 
 abbrev entry : tie.After-mark_labels → tie.Start
-entry k = k.before.before.before.before.before.before.before.before.before.before
+entry k = k.before.before.before.before.before.before.before.before.before
 
 -- the labels that are hit
 abbrev hits : tie.After-mark_labels → List ℕ
-hits k = k.mark_labels.new.1.1.1.0
+hits k = k.mark_labels.new.hits
 
 hits-lent : (k : tie.After-mark_labels) → Lent 1024 (chunks (entry k)) (hits k)
 hits-lent k = record { fits = (entry k).requires.few_labels; kept = k.mark_labels.auto.hits }
@@ -35,7 +35,7 @@ abbrev hit : tie.After-look_up → tie.After-mark_labels
 hit k = k.before.before.before.before.before.before.before
 
 abbrev labelled : tie.After-look_up → List ℕ
-labelled k = k.look_up.new.1.1.0
+labelled k = k.look_up.new.out
 
 labelled-lent : (k : tie.After-look_up) → Lent 1024 (chunks (entry (hit k))) (labelled k)
 labelled-lent k = record { fits = (entry (hit k)).requires.few_labels; kept = k.look_up.auto.out }
@@ -45,7 +45,7 @@ abbrev found : tie.After-mark_owners → tie.After-look_up
 found k = k.before.before.before.before
 
 abbrev marks : tie.After-mark_owners → List ℕ
-marks k = k.mark_owners.new.1.1.1.0
+marks k = k.mark_owners.new.marks
 
 marks-lent : (k : tie.After-mark_owners) → Lent 4096 (size (entry (hit (found k)))) (marks k)
 marks-lent k = record { fits = (entry (hit (found k))).requires.few; kept = k.mark_owners.auto.marks }
@@ -54,7 +54,7 @@ array-borrow-prefix-hits : tie.Need-slice_bounds-hits-end
 array-borrow-prefix-hits c = c.requires.few_labels
 
 slice-aggregate-mark-labels : tie.Need-slice_bounds-mark_labels-end
-slice-aggregate-mark-labels c = let e = c.before.before.before.before.before.before.before.before.before in sym (part_length 1024 (chunks e) e.requires.few_labels)
+slice-aggregate-mark-labels c = let e = c.before.before.before.before.before.before.before.before in sym (part_length 1024 (chunks e) e.requires.few_labels)
 
 mark-labels-requires : tie.Need-mark_labels-requires
 mark-labels-requires c κs = sym c.requires.chunks
@@ -78,7 +78,7 @@ returns c =
     let a = e.args in
     let none : ones (hits k) ≡ 0 = ap ones (sym (view-is (hits-lent k))) ∙ sym c.count_marked.ensures ∙ c.if-count_marked-eq0.true in
     added_none _ a.plan.now
-    (λ m l t. absurd (ones_none (hits k) none _ (together-hit a.chunk.now a.member-chunk.now a.member.now a.labels.now a.plan.now (take (chunks e) (replicate 1024 0)) (hits k) (part_length 1024 (chunks e) e.requires.few_labels) k.mark_labels.ensures m t.0)))
+    (λ m l t. absurd (ones_none (hits k) none _ (together-hit a.chunk.now a.member_chunk.now a.member.now a.labels.now a.plan.now (take (chunks e) (replicate 1024 0)) (hits k) (part_length 1024 (chunks e) e.requires.few_labels) k.mark_labels.ensures m t.0)))
 
 array-share-prefix-hits-2 : tie.Need-slice_bounds-hits-end-3
 array-share-prefix-hits-2 c = view-room (hits-lent c.before.before.before.before)
@@ -111,7 +111,7 @@ mark-owners-requires : tie.Need-mark_owners-requires
 mark-owners-requires c κs =
     let k = c.before.before.before in
     let e = entry (hit k) in
-    (e.requires.rows, (subst (λ (n : ℕ). Below n e.args.member-chunk.now) (sym (view-length (labelled-lent k))) e.requires.inside, subst (λ (n : ℕ). Below n e.args.member.now) (sym (part_length 4096 (size e) e.requires.few)) e.requires.members))
+    (e.requires.rows, (subst (λ (n : ℕ). Below n e.args.member_chunk.now) (sym (view-length (labelled-lent k))) e.requires.inside, subst (λ (n : ℕ). Below n e.args.member.now) (sym (part_length 4096 (size e) e.requires.few)) e.requires.members))
 
 array-share-prefix-marks : tie.Need-slice_bounds-marks-end-2
 array-share-prefix-marks c = view-room (marks-lent c.before)
@@ -120,7 +120,7 @@ slice-aggregate-add : tie.Need-slice_bounds-add-end
 slice-aggregate-add c = sym (view-length (marks-lent c.before.before))
 
 add-requires : tie.Need-add-requires
-add-requires c κs = let k = c.before.before.before in let e = entry (hit (found k)) in (view-length (marks-lent k), (e.requires.sensitives, e.requires.eligibles))
+add-requires c κs = let k = c.before.before.before in let e = entry (hit (found k)) in (view-length (marks-lent k), (omega arith, omega arith))
 
 same-length-2 : tie.Need-shape_of-plan
 same-length-2 c = search rules
@@ -134,13 +134,13 @@ returns-2 c =
     let a = e.args in
     let n = part_length 4096 (size e) e.requires.few in
     let of : labelled f ≡ looked 0 (hits h) a.labels.now = subst (λ (s : List ℕ). labelled f ≡ looked 0 s a.labels.now) (view-is (hits-lent h)) f.look_up.ensures in
-    let members : Owners a.member.now (looked 0 (labelled f) a.member-chunk.now) (length a.member.now) (take (size e) (replicate 4096 0)) (marks k) =
-    subst (λ (s : List ℕ). Owners a.member.now (looked 0 s a.member-chunk.now) (length a.member.now) (take (size e) (replicate 4096 0)) (marks k)) (view-is (labelled-lent f)) k.mark_owners.ensures
+    let members : Owners a.member.now (looked 0 (labelled f) a.member_chunk.now) (length a.member.now) (take (size e) (replicate 4096 0)) (marks k) =
+    subst (λ (s : List ℕ). Owners a.member.now (looked 0 s a.member_chunk.now) (length a.member.now) (take (size e) (replicate 4096 0)) (marks k)) (view-is (labelled-lent f)) k.mark_owners.ensures
     in
     added-cong (InAll (marks k) a.sensitive.now a.eligible.now) _
-    (λ m l t. (together-members a.chunk.now a.member-chunk.now a.member.now a.labels.now a.plan.now (take (chunks e) (replicate 1024 0)) (hits h) (part_length 1024 (chunks e) e.requires.few_labels) h.mark_labels.ensures (labelled f) (take (size e) (replicate 4096 0)) (marks k) (part_none 1024 (chunks e)) (part_none 4096 (size e)) e.requires.rows e.requires.inside of members m (omega (arith, n, l)) t.0, t.1, t.2))
-    (λ m t. (members-together a.chunk.now a.member-chunk.now a.member.now a.labels.now a.plan.now (take (chunks e) (replicate 1024 0)) (hits h) (part_length 1024 (chunks e) e.requires.few_labels) h.mark_labels.ensures (labelled f) (take (size e) (replicate 4096 0)) (marks k) (part_none 1024 (chunks e)) (part_none 4096 (size e)) e.requires.rows e.requires.inside of members m t.0, t.1, t.2))
-    (subst (λ (s : List ℕ). Added (InAll s a.sensitive.now a.eligible.now) a.plan.now c.add.new.1.1.1.0 c.add.result) (view-is (marks-lent k)) c.add.ensures)
+    (λ m l t. (together-members a.chunk.now a.member_chunk.now a.member.now a.labels.now a.plan.now (take (chunks e) (replicate 1024 0)) (hits h) (part_length 1024 (chunks e) e.requires.few_labels) h.mark_labels.ensures (labelled f) (take (size e) (replicate 4096 0)) (marks k) (part_none 1024 (chunks e)) (part_none 4096 (size e)) e.requires.rows e.requires.inside of members m (omega (arith, n, l)) t.0, t.1, t.2))
+    (λ m t. (members-together a.chunk.now a.member_chunk.now a.member.now a.labels.now a.plan.now (take (chunks e) (replicate 1024 0)) (hits h) (part_length 1024 (chunks e) e.requires.few_labels) h.mark_labels.ensures (labelled f) (take (size e) (replicate 4096 0)) (marks k) (part_none 1024 (chunks e)) (part_none 4096 (size e)) e.requires.rows e.requires.inside of members m t.0, t.1, t.2))
+    (subst (λ (s : List ℕ). Added (InAll s a.sensitive.now a.eligible.now) a.plan.now c.add.new.set c.add.result) (view-is (marks-lent k)) c.add.ensures)
 
 pub close_cyclic_chunk_members_spec : {M : Type 1} → statement M
 close_cyclic_chunk_members_spec =

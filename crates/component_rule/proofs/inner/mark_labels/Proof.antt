@@ -24,11 +24,11 @@ entry l = l.before.before.before.before.before
 
 -- a module's label, seen from its look-up, is marked where the module is planned
 marked : (v : tie.After-value_at-label invariant-loop decreases-loop) (hits : List ℕ) → let l = v.before.before.before in let a = (entry l).args in Raised v.value_at-label.result (get_or a.plan.now l.loop-m.m 0) l.loop-m.hits hits
-    → Owners (looked missing a.labels.now a.chunk.now) a.plan.now (l.loop-m.m + 1) a.hits-1.now hits
+    → Owners (looked missing a.labels.now a.chunk.now) a.plan.now (l.loop-m.m + 1) a.hits.now hits
 marked v hits r =
     let l = v.before.before.before in
     let a = (entry l).args in
-    owners-put (looked missing a.labels.now a.chunk.now) a.plan.now a.hits-1.now l.loop-m.m l.loop-m.hits hits l.loop-m.invariant.2
+    owners-put (looked missing a.labels.now a.chunk.now) a.plan.now a.hits.now l.loop-m.m l.loop-m.hits hits l.loop-m.invariant.2
     (looked-at missing a.labels.now a.chunk.now l.loop-m.m 0 v.loop-m-test.true ∙ sym v.value_at-label.ensures) refl r
 
 loop-holds : tie.Need-loop-m-init invariant-loop decreases-loop
@@ -73,7 +73,7 @@ loop-less-2 : tie.Need-loop-m-smaller invariant-loop decreases-loop
 loop-less-2 c = search rules
 
 loop-again-2 : tie.Need-loop-m-preserved invariant-loop decreases-loop
-loop-again-2 c = let v = c.before.before.before.before.before.before in (refl, omega arith, marked v c.raise.new.0 c.raise.ensures)
+loop-again-2 c = let v = c.before.before.before.before.before.before in (refl, omega arith, marked v c.raise.new.marks c.raise.ensures)
 
 same_length : tie.Need-shape_of-hits invariant-loop decreases-loop
 same_length c = c.loop-m.invariant.2.len
@@ -83,7 +83,7 @@ returns c =
     let l = c.before in
     let a = (entry l).args in
     let e : l.loop-m.m ≡ length a.chunk.now = omega (arith, c.loop-m-test.false, l.loop-m.invariant.0, l.loop-m.invariant.1) in
-    subst (λ (n : ℕ). Owners (looked missing a.labels.now a.chunk.now) a.plan.now n a.hits-1.now l.loop-m.hits) e l.loop-m.invariant.2
+    subst (λ (n : ℕ). Owners (looked missing a.labels.now a.chunk.now) a.plan.now n a.hits.now l.loop-m.hits) e l.loop-m.invariant.2
 
 pub mark_labels_spec : {M : Type 1} → statement M
 mark_labels_spec =

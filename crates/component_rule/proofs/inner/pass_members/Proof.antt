@@ -45,7 +45,7 @@ returns c =
     let sets = e.requires.0 in
     let plan = e.args.plan.now in
     component-pass p sets.accepted plan
-    (given5 (λ chunk member_chunk labels sensitives eligibles. Added (λ (m : ℕ). Together chunk member_chunk p.member labels plan m × (has sensitives m ≡ true) × (has eligibles m ≡ true)) plan call.close_cyclic_chunk_members.new.1.1.1.1.1.1.0 call.close_cyclic_chunk_members.result)
+    (given5 (λ chunk member_chunk labels sensitives eligibles. Added (λ (m : ℕ). Together chunk member_chunk p.member labels plan m × (has sensitives m ≡ true) × (has eligibles m ≡ true)) plan call.close_cyclic_chunk_members.new.plan call.close_cyclic_chunk_members.result)
     k.column.ensures k.column-2.ensures sets.label sets.sensitive_set sets.eligible_set call.close_cyclic_chunk_members.ensures)
 
 pub pass_members_spec : {M : Type 1} → statement M

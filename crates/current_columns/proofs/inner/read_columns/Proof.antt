@@ -45,7 +45,7 @@ module _ (x : tie.After-find_latest) where
   start = x.before.before.before.before.before.before.before
 
   abbrev found : List ℕ
-  found = x.find_latest.last.1.0
+  found = x.find_latest.new.found
 
   found-size : length found ≡ length start.args.newer.now
   found-size = x.find_latest.auto.found ∙ part start
@@ -72,13 +72,13 @@ slice-aggregate-read-through : tie.Need-slice_bounds-read_through-end
 slice-aggregate-read-through c = let x = c.before.before in sym (front_length (found x) _ _ (found-size x))
 
 slice-relend-prefix-read-through : tie.Need-slice_bounds-read_through-end-2
-slice-relend-prefix-read-through c = let e = c.before.before.before.before.before.before.before.before.before in fits e.args.targets.now e.args.read-targets.now e.requires.1.0.1 e.requires.1.1.0
+slice-relend-prefix-read-through c = let e = c.before.before.before.before.before.before.before.before.before in fits e.args.targets.now e.args.read_targets.now e.requires.1.0.1 e.requires.1.1.0
 
 slice-aggregate-read-through-2 : tie.Need-slice_bounds-read_through-end-3
-slice-aggregate-read-through-2 c = let e = c.before.before.before.before.before.before.before.before.before.before in sym (front-size e.args.targets.now e.args.read-targets.now e.requires.1.0.1 e.requires.1.1.0)
+slice-aggregate-read-through-2 c = let e = c.before.before.before.before.before.before.before.before.before.before in sym (front-size e.args.targets.now e.args.read_targets.now e.requires.1.0.1 e.requires.1.1.0)
 
 read-through-requires : tie.Need-read_through-requires
-read-through-requires c κs = let e = c.before.before.before.before.before.before.before.before.before.before in front-size e.args.targets.now e.args.read-targets.now e.requires.1.0.1 e.requires.1.1.0
+read-through-requires c κs = let e = c.before.before.before.before.before.before.before.before.before.before in front-size e.args.targets.now e.args.read_targets.now e.requires.1.0.1 e.requires.1.1.0
 
 array-share-prefix-found-2 : tie.Need-slice_bounds-found-end-3
 array-share-prefix-found-2 c = let x = c.before.before.before.before.before.before in front-room (found x) _ _ (found-size x)
@@ -87,19 +87,19 @@ slice-aggregate-read-through-3 : tie.Need-slice_bounds-read_through-end-4
 slice-aggregate-read-through-3 c = let x = c.before.before.before.before.before.before.before in sym (front_length (found x) _ _ (found-size x))
 
 slice-relend-prefix-read-through-2 : tie.Need-slice_bounds-read_through-end-5
-slice-relend-prefix-read-through-2 c = let e = c.before.before.before.before.before.before.before.before.before.before.before.before.before.before in fits e.args.dependencies.now e.args.read-dependencies.now e.requires.1.0.2 e.requires.1.1.1
+slice-relend-prefix-read-through-2 c = let e = c.before.before.before.before.before.before.before.before.before.before.before.before.before.before in fits e.args.dependencies.now e.args.read_dependencies.now e.requires.1.0.2 e.requires.1.1.1
 
 slice-aggregate-read-through-4 : tie.Need-slice_bounds-read_through-end-6
-slice-aggregate-read-through-4 c = let e = c.before.before.before.before.before.before.before.before.before.before.before.before.before.before.before in sym (front-size e.args.dependencies.now e.args.read-dependencies.now e.requires.1.0.2 e.requires.1.1.1)
+slice-aggregate-read-through-4 c = let e = c.before.before.before.before.before.before.before.before.before.before.before.before.before.before.before in sym (front-size e.args.dependencies.now e.args.read_dependencies.now e.requires.1.0.2 e.requires.1.1.1)
 
 read-through-requires-2 : tie.Need-read_through-requires-2
-read-through-requires-2 c κs = let e = c.before.before.before.before.before.before.before.before.before.before.before.before.before.before.before in front-size e.args.dependencies.now e.args.read-dependencies.now e.requires.1.0.2 e.requires.1.1.1
+read-through-requires-2 c κs = let e = c.before.before.before.before.before.before.before.before.before.before.before.before.before.before.before in front-size e.args.dependencies.now e.args.read_dependencies.now e.requires.1.0.2 e.requires.1.1.1
 
 same_length : tie.Need-shape_of-read_targets
-same_length c = let e = c.before.before.before.before.before.before.before.before.before.before.before.before.before.before.before.before.before.before in let done = c.read_through in whole-size e.args.targets.now e.args.read-targets.now e.requires.1.0.1 e.requires.1.1.0 done.new.1.1.0 done.auto.1.1.0
+same_length c = let e = c.before.before.before.before.before.before.before.before.before.before.before.before.before.before.before.before.before.before in let done = c.read_through in whole-size e.args.targets.now e.args.read_targets.now e.requires.1.0.1 e.requires.1.1.0 done.new.out done.auto.out
 
 same-length-2 : tie.Need-shape_of-read_dependencies
-same-length-2 c = let e = c.before.before.before.before.before.before.before.before.before.before.before.before.before.before.before.before.before.before in let done = c.read_through-2 in whole-size e.args.dependencies.now e.args.read-dependencies.now e.requires.1.0.2 e.requires.1.1.1 done.new.1.1.0 done.auto.1.1.0
+same-length-2 c = let e = c.before.before.before.before.before.before.before.before.before.before.before.before.before.before.before.before.before.before in let done = c.read_through-2 in whole-size e.args.dependencies.now e.args.read_dependencies.now e.requires.1.0.2 e.requires.1.1.1 done.new.out done.auto.out
 
 returns : tie.Need-returns
 returns c =
@@ -108,10 +108,10 @@ returns c =
     let two = c.read_through-2 in
     let by = read_by c.before.before.before.before.before.before.before.before.before.before.before in
     record {
-      room = whole-size e.args.targets.now e.args.read-targets.now e.requires.1.0.1 e.requires.1.1.0 one.new.1.1.0 one.auto.1.1.0 ∙ e.requires.1.1.0;
-      places = whole-size e.args.dependencies.now e.args.read-dependencies.now e.requires.1.0.2 e.requires.1.1.1 two.new.1.1.0 two.auto.1.1.0 ∙ e.requires.1.1.1;
-      target = front-made e.args.targets.now e.args.read-targets.now e.requires.1.0.1 e.requires.1.1.0 one.new.1.1.0 one.auto.1.1.0 ∙ one.ensures ∙ by e.args.targets.now;
-      dependency = front-made e.args.dependencies.now e.args.read-dependencies.now e.requires.1.0.2 e.requires.1.1.1 two.new.1.1.0 two.auto.1.1.0 ∙ two.ensures ∙ by e.args.dependencies.now;
+      room = whole-size e.args.targets.now e.args.read_targets.now e.requires.1.0.1 e.requires.1.1.0 one.new.out one.auto.out ∙ e.requires.1.1.0;
+      places = whole-size e.args.dependencies.now e.args.read_dependencies.now e.requires.1.0.2 e.requires.1.1.1 two.new.out two.auto.out ∙ e.requires.1.1.1;
+      target = front-made e.args.targets.now e.args.read_targets.now e.requires.1.0.1 e.requires.1.1.0 one.new.out one.auto.out ∙ one.ensures ∙ by e.args.targets.now;
+      dependency = front-made e.args.dependencies.now e.args.read_dependencies.now e.requires.1.0.2 e.requires.1.1.1 two.new.out two.auto.out ∙ two.ensures ∙ by e.args.dependencies.now;
     }
 
 pub read_columns_spec : {M : Type 1} → statement M

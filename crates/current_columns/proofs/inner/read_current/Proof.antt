@@ -35,8 +35,8 @@ read-columns-requires c κs =
 returns : tie.Need-returns
 returns c =
     let done = c.read_columns in
-    let targets : List ℕ = done.new.1.1.1.0 in
-    let dependencies : List ℕ = done.new.1.1.1.1.0 in
+    let targets : List ℕ = done.new.read_targets in
+    let dependencies : List ℕ = done.new.read_dependencies in
     given2 (λ newer column. Columns newer c.args.targets.now column targets dependencies) c.column.ensures c.column-2.ensures done.ensures
 
 pub read_current_spec : {M : Type 1} → statement M

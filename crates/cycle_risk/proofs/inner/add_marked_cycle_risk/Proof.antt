@@ -48,7 +48,7 @@ module _ (x : tie.After-list_expected-count) where
   count = x.list_expected-count.result
 
   abbrev held : List ℕ
-  held = x.list_expected-count.last.1.1.1.1.1.1.1.1.1.1.0
+  held = x.list_expected-count.new.order
 
   there : count ≤ length held
   there = held-room (of start) start.args.root x.list_expected-count.ensures
@@ -74,7 +74,7 @@ chunk_part k = length-take-le (chunked k) (replicate chunk_limit 0) (few-chunks 
 -- the labels, at the front of the array
 
 abbrev labels : tie.After-label_table → List ℕ
-labels y = y.label_table.new.1.1.1.1.1.1.1.1.1.0
+labels y = y.label_table.new.labels
 
 labels_length : (y : tie.After-label_table) → length (labels y) ≡ chunked y.before.before
 labels_length y = y.label_table.auto.labels ∙ chunk_part y.before.before

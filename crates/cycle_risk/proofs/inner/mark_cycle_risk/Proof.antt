@@ -42,7 +42,7 @@ part c = length-take-le (size c) room (few c)
 -- what is made, at the front of the arrays
 
 abbrev eligibles : tie.After-mark_table_eligible → List ℕ
-eligibles y = y.mark_table_eligible.new.1.1.1.1.1.1.1.1.1.0
+eligibles y = y.mark_table_eligible.new.marks
 
 eligibles-length : (y : tie.After-mark_table_eligible) → length (eligibles y) ≡ size y.before
 eligibles-length y = y.mark_table_eligible.auto.marks ∙ part y.before
@@ -68,7 +68,7 @@ add-marked-cycle-risk-requires c κs =
 
 returns : tie.Need-returns
 returns c =
-    let k = c.before.before.before.before.before.before.before.before.before.before.before.before.before in
+    let k = c.before.before.before.before.before.before.before.before.before.before.before.before in
     let e = entry k in
     let p = of e in
     record {

@@ -50,7 +50,7 @@ module _ (r : tie.After-first_rows) where
   begun = r.before.before
 
   abbrev firsts : List ℕ
-  firsts = r.first_rows.last.1.0
+  firsts = r.first_rows.new.starts
 
   firsts-length : length firsts ≡ places begun
   firsts-length = r.first_rows.auto.starts ∙ part begun
@@ -101,12 +101,12 @@ visit-entries-requires c κs =
     let a = e.args in
     let n = marks-length k in
     let z : zeros (take (count k) (replicate module_limit 0)) ≡ count k = ap zeros (zeroed k) ∙ zeros-replicate (count k) in (
-      subst (Fit a.normal.now a.included.now a.record-module.now a.record-kind.now a.record-target.now) (sym n) e.requires.fit,
+      subst (Fit a.normal.now a.included.now a.record_module.now a.record_kind.now a.record_target.now) (sym n) e.requires.0,
       (
-        subst (FirstRows a.record-module.now) (sym (firsts-read r)) r.first_rows.ensures,
+        subst (FirstRows a.record_module.now) (sym (firsts-read r)) r.first_rows.ensures,
         (
           omega (arith, ap length (firsts-read r), firsts-length r, n),
-          (subst (λ (m : ℕ). Below m a.entries.now) (sym n) e.requires.entries, omega (arith, z, e.requires.room)),
+          (subst (λ (m : ℕ). Below m a.entries.now) (sym n) e.requires.1.0, omega (arith, z, e.requires.1.1)),
         ),
       ),
     )
@@ -117,12 +117,12 @@ returns c =
     let k = begun v.before.before.before.before.before in
     let e = entry k in
     let a = e.args in
-    let marks : List ℕ = v.visit_entries.new.1.1.1.1.1.1.1.0 in
-    let order : List ℕ = v.visit_entries.new.1.1.1.1.1.1.1.1.0 in
+    let marks : List ℕ = v.visit_entries.new.marks in
+    let order : List ℕ = v.visit_entries.new.order in
     let listed : ℕ = v.visit_entries.result in
-    entries-written a.normal.now a.included.now a.record-module.now a.record-kind.now a.record-target.now a.entries.now a.order.now marks order listed
-    e.requires.room
-    (subst (λ (x : List ℕ). Visits (normal_imports_of a.normal.now a.record-module.now a.record-kind.now a.record-target.now) everywhere (place (flagged a.included.now)) (held x a.order.now 0) (keep (is_walked a.normal.now a.included.now) a.entries.now) (held marks order listed)) (zeroed k) v.visit_entries.ensures)
+    entries-written a.normal.now a.included.now a.record_module.now a.record_kind.now a.record_target.now a.entries.now a.order.now marks order listed
+    e.requires.1.1
+    (subst (λ (x : List ℕ). Visits (normal_imports_of a.normal.now a.record_module.now a.record_kind.now a.record_target.now) everywhere (place (flagged a.included.now)) (held x a.order.now 0) (keep (is_walked a.normal.now a.included.now) a.entries.now) (held marks order listed)) (zeroed k) v.visit_entries.ensures)
 
 pub expected_order_for_entries_spec : {M : Type 1} → statement M
 expected_order_for_entries_spec =

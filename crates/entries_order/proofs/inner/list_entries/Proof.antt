@@ -40,7 +40,7 @@ returns c =
     let done = c.expected_order_for_entries in
     let k = c.before.before.before.before in
     let e = entry k in
-    given2 (λ normal included. Written (entries_order normal included (of e).record_module (of e).record_kind (of e).record_target e.args.entries.now) e.args.order.now done.new.1.1.1.1.1.1.0 done.result)
+    given2 (λ normal included. Written (entries_order normal included (of e).record_module (of e).record_kind (of e).record_target e.args.entries.now) e.args.order.now done.new.order done.result)
     k.column.ensures k.column-2.ensures
     done.ensures
 

@@ -16,9 +16,6 @@ use Rattle.expected_order.specs.Expected.{normal_imports_of}
 use Rattle.entries_order.proofs.Turns.{turn, turn-excluded, turn-external, turn-walked, all-turns}
 use Rattle.entries_order.proofs.inner.visit_entries.Statement.{statement}
 use Rattle.entries_order.proofs.inner.visit_entries.Tie as tie
-use Rattle.entries_order.proofs.inner.visit_entries.Reads as reads
-use Rattle.entries_order.proofs.inner.visit_entries.Lts as lts
-use Rattle.expected_visit.proofs.inner.visit.Reads as visit-reads
 
 abbrev invariant-loop : tie.invariant-loop-k
 invariant-loop normal included record-module record-kind record-target starts entries marks₀ order₀ count₀ k₀ k-end marks order count k =
@@ -41,7 +38,7 @@ module _ (l : Loop) where
   entry = from-loop l
 
   abbrev succ : ℕ → List ℕ
-  succ = normal_imports_of entry.args.normal.now entry.args.record-module.now entry.args.record-kind.now entry.args.record-target.now
+  succ = normal_imports_of entry.args.normal.now entry.args.record_module.now entry.args.record_kind.now entry.args.record_target.now
 
   abbrev act : Placed → ℕ → Placed
   act = place (flagged entry.args.included.now)
@@ -65,14 +62,14 @@ module _ (l : Loop) where
   order-len : length l.loop-k.order ≡ length entry.args.order.now
   order-len =
       let n = length entry.args.order.now in
-      visited-keeps succ everywhere act (λ (p : Placed). length p.order-1 ≡ n) (place-length (flagged entry.args.included.now) n) so_far.so_far refl
+      visited-keeps succ everywhere act (λ (p : Placed). length p.order ≡ n) (place-length (flagged entry.args.included.now) n) so_far.so_far refl
 
   roomy : l.loop-k.count + zeros l.loop-k.marks ≤ 0 + zeros entry.args.marks.now
   roomy = visited-room succ everywhere act (λ (p : Placed). p.count) (place-count (flagged entry.args.included.now)) so_far.so_far
 
   -- an entry has a row
   below : l.loop-k.k < length entry.args.entries.now → at < length entry.args.marks.now
-  below h = entry.requires.entries l.loop-k.k h
+  below h = entry.requires.1.1.1.0 l.loop-k.k h
 
 -- at a turn of the loop
 module _ (i : tie.In-loop-k invariant-loop decreases-loop) where
@@ -80,15 +77,15 @@ module _ (i : tie.In-loop-k invariant-loop decreases-loop) where
   loop = i.before
 
   inside : at loop < length (from-loop loop).args.marks.now
-  inside = below loop (omega (arith, i.loop-k-test.taken, loop.loop-k.invariant.2))
+  inside = below loop (omega (arith, i.loop-k-test.true, loop.loop-k.invariant.2))
 
   within : at loop < 4096
-  within = let f = (from-loop loop).requires.fit in omega (arith, inside, f.few)
+  within = let f = (from-loop loop).requires.0 in omega (arith, inside, f.few)
 
 loop-holds : tie.Need-loop-k-init invariant-loop decreases-loop
 loop-holds c = let e = c.before.before.before.before.before.before.before.before.before in
     let a = e.args in (
-      going_start (normal_imports_of a.normal.now a.record-module.now a.record-kind.now a.record-target.now) everywhere (place (flagged a.included.now)) (turn a.normal.now a.included.now a.entries.now) 0 (held a.marks.now a.order.now 0),
+      going_start (normal_imports_of a.normal.now a.record_module.now a.record_kind.now a.record_target.now) everywhere (place (flagged a.included.now)) (turn a.normal.now a.included.now a.entries.now) 0 (held a.marks.now a.order.now 0),
       omega arith,
       refl,
     )
@@ -106,7 +103,7 @@ mul-if1 : tie.Need-offset_bounds-included-at invariant-loop decreases-loop
 mul-if1 c = let i = c.before in omega (arith, within i)
 
 shared-slice-read-if1 : tie.Need-bounds-included-at invariant-loop decreases-loop
-shared-slice-read-if1 c = let i = c.before.before in omega (arith, inside i, (from-loop i.before).requires.fit.includeds)
+shared-slice-read-if1 c = let i = c.before.before in omega (arith, inside i, (from-loop i.before).requires.0.includeds)
 
 add-k : tie.Need-overflow_step-k invariant-loop decreases-loop
 add-k c = search rules
@@ -127,7 +124,7 @@ mul-if2 : tie.Need-offset_bounds-normal-at invariant-loop decreases-loop
 mul-if2 c = let i = c.before.before.before in omega (arith, within i)
 
 shared-slice-read-if2 : tie.Need-bounds-normal-at invariant-loop decreases-loop
-shared-slice-read-if2 c = let i = c.before.before.before.before in omega (arith, inside i, (from-loop i.before).requires.fit.normals)
+shared-slice-read-if2 c = let i = c.before.before.before.before in omega (arith, inside i, (from-loop i.before).requires.0.normals)
 
 add-k-2 : tie.Need-overflow_step-k-then-normal-at-ne1 invariant-loop decreases-loop
 add-k-2 c = search rules
@@ -150,7 +147,7 @@ visit-requires c κs = let i = c.before.before.before.before.before.before.befor
     let e = from-loop l in
     let a = e.args in
     let p = e.requires in (
-      subst (Fit a.normal.now a.included.now a.record-module.now a.record-kind.now a.record-target.now) (sym (grown l).len) p.0,
+      subst (Fit a.normal.now a.included.now a.record_module.now a.record_kind.now a.record_target.now) (sym (grown l).len) p.0,
       (
         p.1.0,
         (
@@ -172,7 +169,7 @@ loop-again-3 c = let v = c.before.before.before.before in
     let i = n.before.before.before.before.before in
     let l = i.before in
     let a = (from-loop l).args in (
-      going-found (succ l) everywhere (act l) (row l) 0 (begun l) (so_far l) {u = held v.visit-count.new.1.1.1.1.1.1.0 v.visit-count.new.1.1.1.1.1.1.1.0 v.visit-count.result}
+      going-found (succ l) everywhere (act l) (row l) 0 (begun l) (so_far l) {u = held v.visit-count.new.marks v.visit-count.new.order v.visit-count.result}
           (turn-walked a.normal.now a.included.now a.entries.now l.loop-k.k (eq-eqb _ _ n.if-included-at-ne1.false) (eq-eqb _ _ n.if-normal-at-ne1.false))
           v.visit-count.ensures,
       omega (arith, i.loop-k-test.true),

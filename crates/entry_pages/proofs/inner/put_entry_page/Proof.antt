@@ -30,25 +30,25 @@ few e = e.requires.0.accepted.sizes.normal
 keeping : (e : tie.Start) → Keeping (of e) e.args.root (length e.args.sensitives.now) (length (replicate {A = ℕ} module_limit 0))
 keeping e = record { accepted = e.requires.0.accepted; size = e.requires.0.sensitive_size; within = e.requires.0.entry.within; space = omega (arith, few e, length-replicate {A = ℕ} module_limit 0) }
 
-list-marked-expected-requires : tie.Need-list-marked-expected-requires
+list-marked-expected-requires : tie.Need-list_marked_expected-first-requires
 list-marked-expected-requires c κs = keeping c.before.before.before.before.before.before.before.before.before.before.before
 
-list-marked-actual-requires : tie.Need-list-marked-actual-requires
+list-marked-actual-requires : tie.Need-list_marked_actual-second-requires
 list-marked-actual-requires c κs = let e = c.before.before.before.before.before.before.before.before.before.before.before.before.before.before in (keeping e, e.requires.0.entry)
 
-array-share-prefix-expected : tie.Need-array-share-prefix-expected
-array-share-prefix-expected c = held-room c.before.before.before.before.list-marked-expected.ensures
+array-share-prefix-expected : tie.Need-slice_bounds-expected-end
+array-share-prefix-expected c = held-room c.list_marked_expected-first.ensures
 
-slice-aggregate-put-page : tie.Need-slice-aggregate-put-page
-slice-aggregate-put-page c = held-part c.before.before.before.before.before.list-marked-expected.ensures
+slice-aggregate-put-page : tie.Need-slice_bounds-put_page-end
+slice-aggregate-put-page c = held-part c.list_marked_expected-first.ensures
 
-array-share-prefix-actual : tie.Need-array-share-prefix-actual
-array-share-prefix-actual c = held-room c.before.before.list-marked-actual.ensures
+array-share-prefix-actual : tie.Need-slice_bounds-actual-end
+array-share-prefix-actual c = held-room c.list_marked_actual-second.ensures
 
-slice-aggregate-put-page-2 : tie.Need-slice-aggregate-put-page-2
-slice-aggregate-put-page-2 c = held-part c.before.before.before.list-marked-actual.ensures
+slice-aggregate-put-page-2 : tie.Need-slice_bounds-put_page-end-2
+slice-aggregate-put-page-2 c = held-part c.list_marked_actual-second.ensures
 
-put-page-requires : tie.Need-put-page-requires
+put-page-requires : tie.Need-put_page-requires
 put-page-requires c κs =
     let e = c.before.before.before.before.before.before.before.before.before.before.before.before.before.before.before.before.before.before.before in
     let p = of e in
@@ -58,18 +58,18 @@ put-page-requires c κs =
       held-orders (has a.sensitives.now) (expected_of p a.root) (actual_of p a.root) n (omega (arith, same, few e))
           (rw same (expected-order p e.requires.0.accepted a.root))
           (rw same (actual-order p e.requires.0.accepted a.root))
-          c.before.before.before.before.before.before.before.list-marked-expected.ensures c.before.before.before.before.list-marked-actual.ensures,
+          c.list_marked_expected-first.ensures c.list_marked_actual-second.ensures,
       e.requires.1,
     )
 
 returns : tie.Need-returns
 unfolding marked_page
 returns c =
-    let a = c.before.before.before.before.before.before.before.before.before.before.before.before.before.before.before.before.before.before.before.before.before.before.args in
-    put_as (ap₂ (λ (x y : List ℕ). page_by x y (has a.plan.now)) (held-is c.before.before.before.before.before.before.before.before.before.before.list-marked-expected.ensures) (held-is c.before.before.before.before.before.before.before.list-marked-actual.ensures))
-    c.before.before.put-page.ensures
+    let a = c.args in
+    put_as (ap₂ (λ (x y : List ℕ). page_by x y (has a.plan.now)) (held-is c.list_marked_expected-first.ensures) (held-is c.list_marked_actual-second.ensures))
+    c.put_page.ensures
 
-pub put-entry-page-spec : {M : Type 1} → statement M
-put-entry-page-spec =
+pub put_entry_page_spec : {M : Type 1} → statement M
+put_entry_page_spec =
     tie.close
     (tie.spec (λ c. search rules) list-marked-expected-requires (λ c. search rules) list-marked-actual-requires array-share-prefix-expected slice-aggregate-put-page array-share-prefix-actual slice-aggregate-put-page-2 put-page-requires (λ c. search rules) returns)

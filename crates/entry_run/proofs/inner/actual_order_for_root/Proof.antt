@@ -64,8 +64,8 @@ visit-and-execute-requires c κs =
         };
         each = f.each ∙ m;
         members = subst (λ (i : ℕ). Below i a.member.now) m f.members;
-        parts = subst (Spans a.member-starts.now (length a.member.now)) l f.parts;
-        spans = subst (Spans a.load-starts.now (length a.loads.now)) l f.loading;
+        parts = subst (Spans a.member_starts.now (length a.member.now)) l f.parts;
+        spans = subst (Spans a.load_starts.now (length a.loads.now)) l f.loading;
         inside = subst (λ (i : ℕ). BelowOrMissing i a.loads.now) l f.loaded;
         chunk = subst (λ (i : ℕ). a.chunk < i) l f.chunk_in;
       },
@@ -78,16 +78,16 @@ returns c =
     let filled = x.before.before.before.before.before.before.before.before in
     let e = filled.before.before.before.before.before.before.before.before.before.before.before in
     let a = e.args in
-    let k = x.visit_and_execute-all.new.1.1.1.1.1.1.1.1 in
+    let k = x.visit_and_execute-all.new in
     let run = hosted (leads a.starts.now a.triggers.now) in
-    let hosts : List ℕ = turns a.ways.now a.member.now a.member-starts.now a.load-starts.now a.loads.now a.chunks a.root a.chunk in
-    let s : St Filling = executing (take (n e) (replicate 4096 0)) a.order.now filled.fill.new.0 0 in
-    let t : St Filling = executing k.1.0 k.1.1.0 k.1.1.1.0 x.visit_and_execute-all.result.placed in
+    let hosts : List ℕ = turns a.ways.now a.member.now a.member_starts.now a.load_starts.now a.loads.now a.chunks a.root a.chunk in
+    let s : St Filling = executing (take (n e) (replicate 4096 0)) a.order.now filled.fill.new.slots 0 in
+    let t : St Filling = executing k.marks k.order k.hosts x.visit_and_execute-all.result.placed in
     ap (λ (u : St Filling). u.made)
     (ap (λ (m : List ℕ). foldl run (executing m a.order.now (replicate (n e) missing) 0) hosts) (sym (zeroed (n e) 4096 e.requires.modules))
     ∙ ap (λ (h : List ℕ). foldl run (executing (take (n e) (replicate 4096 0)) a.order.now h 0) hosts) (sym filled.fill.ensures)
-    ∙ ran-turns a.ways.now a.starts.now a.triggers.now a.member.now a.member-starts.now a.load-starts.now a.loads.now a.chunks a.root a.chunk s t k.0
-    (subst (λ (m : List ℕ). Ran a.ways.now a.starts.now a.triggers.now a.member.now a.member-starts.now a.load-starts.now a.loads.now a.chunk (a.root ∷ []) m s k.0 t) (zeroed a.chunks 1024 e.requires.places) x.visit_and_execute-all.ensures))
+    ∙ ran-turns a.ways.now a.starts.now a.triggers.now a.member.now a.member_starts.now a.load_starts.now a.loads.now a.chunks a.root a.chunk s t k.chunk_marks
+    (subst (λ (m : List ℕ). Ran a.ways.now a.starts.now a.triggers.now a.member.now a.member_starts.now a.load_starts.now a.loads.now a.chunk (a.root ∷ []) m s k.chunk_marks t) (zeroed a.chunks 1024 e.requires.places) x.visit_and_execute-all.ensures))
 
 pub actual_order_for_root_spec : {M : Type 1} → statement M
 actual_order_for_root_spec =

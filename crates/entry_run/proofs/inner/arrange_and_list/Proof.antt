@@ -30,7 +30,7 @@ entry k = k.before.before.before.before.before.before.before.before.before.befor
 
 -- the members that were made
 abbrev made : tie.After-read_members → List ℕ
-made k = k.read_members.new.1.1.1.1.1.1.1.1.1.1.0
+made k = k.read_members.new.out
 
 array-borrow-prefix-arranged : tie.Need-slice_bounds-arranged-end
 array-borrow-prefix-arranged c = let e = c.before.before.before.before.before.before.before.before.before.before in members.members-room (w e) e.args.importers.now e.args.kinds.now e.args.targets.now e.args.dependencies.now e.args.members.now e.args.names.now (ok e)
@@ -61,8 +61,8 @@ returns c =
     let k = c.before.before.before.before.before.before.before.before.before in
     let e = entry k.before in
     let done = c.prepare_and_list in
-    let order : List ℕ = done.new.1.1.1.1.1.1.1.1.1.0 in
-    let hosts : List ℕ = done.new.1.1.1.1.1.1.1.1.1.1.0 in
+    let order : List ℕ = done.new.order in
+    let hosts : List ℕ = done.new.hosts in
     subst (λ (p : Project). Listed (run_of p p.wrap e.args.root) e.args.order.now order hosts done.result) (own k) done.ensures
 
 pub arrange_and_list_spec : {M : Type 1} → statement M

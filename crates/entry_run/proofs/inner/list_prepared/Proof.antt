@@ -61,24 +61,24 @@ add-loads-end : tie.Need-overflow_add-loads_end
 add-loads-end c = omega (arith, few-imports c)
 
 slice-aggregate-actual-order-for-root : tie.Need-slice_bounds-actual_order_for_root-end
-slice-aggregate-actual-order-for-root c = let e = entry c.before.before in sym (length-take-le (length e.args.hosts.now) e.args.prepared.now (omega (arith, size e, few e)))
+slice-aggregate-actual-order-for-root c = let e = entry c.before in sym (length-take-le (length e.args.hosts.now) e.args.prepared.now (omega (arith, size e, few e)))
 
-part-actual-order-for-root-end-2 : tie.Need-slice-bounds-actual-order-for-root-end-2
-part-actual-order-for-root-end-2 c = let e = entry c.before.before.before in omega (arith, size e, few-records e)
+part-actual-order-for-root-end-2 : tie.Need-slice_bounds-actual_order_for_root-end-3
+part-actual-order-for-root-end-2 c = let e = entry c.before.before in omega (arith, size e, few-records e)
 
-part-actual-order-for-root-end-3 : tie.Need-slice-bounds-actual-order-for-root-end-3
-part-actual-order-for-root-end-3 c = let r = c.before.before.before.before in omega (arith, size (entry r), few-chunks r)
+part-actual-order-for-root-end-3 : tie.Need-slice_bounds-actual_order_for_root-end-4
+part-actual-order-for-root-end-3 c = let r = c.before.before.before in omega (arith, size (entry r), few-chunks r)
 
-part-actual-order-for-root-end-4 : tie.Need-slice-bounds-actual-order-for-root-end-4
-part-actual-order-for-root-end-4 c = let r = c.before.before.before.before.before in omega (arith, size (entry r), few-chunks r)
+part-actual-order-for-root-end-4 : tie.Need-slice_bounds-actual_order_for_root-end-5
+part-actual-order-for-root-end-4 c = let r = c.before.before.before.before in omega (arith, size (entry r), few-chunks r)
 
-part-actual-order-for-root-end-5 : tie.Need-slice-bounds-actual-order-for-root-end-5
-part-actual-order-for-root-end-5 c = let r = c.before.before.before.before.before in omega (arith, size (entry r.before), few-imports r)
+part-actual-order-for-root-end-5 : tie.Need-slice_bounds-actual_order_for_root-end-6
+part-actual-order-for-root-end-5 c = let r = c.before.before.before.before in omega (arith, size (entry r.before), few-imports r)
 
 actual-order-for-root-requires : tie.Need-actual_order_for_root-requires
 unfolding table read
 actual-order-for-root-requires c κs =
-    let r = c.before.before.before.before.before.before.before.before in
+    let r = c.before.before.before.before.before.before.before in
     let e = entry r.before in
     let a = e.args in
     runnable (of e) e.requires.0.0 a.prepared.now e.requires.0.1 a.root a.chunk a.order.now a.hosts.now e.requires.1 (length a.hosts.now) r.rows-chunks.result r.rows-loads_end.result e.requires.1.size (counted r.before) (imports-counted r)
@@ -87,13 +87,13 @@ returns : tie.Need-returns
 unfolding table read
 returns c =
     let done = c.before.before.before.before in
-    let r = done.before.before.before.before.before.before.before.before.before in
+    let r = done.before.before.before.before.before.before.before.before in
     let e = entry r.before in
     let a = e.args in
-    let out = done.actual_order_for_root.new.1.1.1.1.1.1.1 in
+    let out = done.actual_order_for_root.new in
     λ wraps k.
     made-listed (of e) wraps a.prepared.now k a.root a.chunk a.order.now a.hosts.now e.requires.1 (length a.hosts.now) r.rows-chunks.result r.rows-loads_end.result e.requires.1.size (counted r.before) (imports-counted r)
-    out.0 out.1.0 done.actual_order_for_root.result done.actual_order_for_root.ensures
+    out.order out.hosts done.actual_order_for_root.result done.actual_order_for_root.ensures
 
 pub list_prepared_spec : {M : Type 1} → statement M
 list_prepared_spec =

@@ -54,7 +54,7 @@ unfolding table read circles_of walked roots_of
 returns c =
     let a = c.args in
     let done = c.gather_circles in
-    given2 (λ normal entry. Gathered (circles (statics_of a.dynamic normal a.importers.now a.kinds.now a.targets.now) (length normal) (a.runtime ∷ entry)) a.paths.now a.lengths.now done.result done.new.1.1.1.1.1.0 done.new.1.1.1.1.1.1.0)
+    given2 (λ normal entry. Gathered (circles (statics_of a.dynamic normal a.importers.now a.kinds.now a.targets.now) (length normal) (a.runtime ∷ entry)) a.paths.now a.lengths.now done.result done.new.paths done.new.lengths)
     c.column.ensures c.column-2.ensures done.ensures
 
 pub list_circles_spec : {M : Type 1} → statement M

@@ -2,7 +2,6 @@
 -- Assumes nothing.
 use Rattle.std.specs.Prelude.{◌≡◌, ℕ, ◌+◌, ◌-◌, ◌<◌, ◌≤◌, Bool, cond, List, [], ◌∷◌, length, get_or}
 use mathlib.Core.Path.{refl, sym, ap, subst, ◌∙◌}
-use mathlib.Core.Logic.{⊎_elim}
 use native.Mathlib.Omega.{arith}
 use lib.ListN.{length-set}
 use borrow.Author.Rules.{rules}
@@ -13,6 +12,7 @@ use Rattle.import_edges.specs.inner.Spread.{EdgesBelow, import_targets}
 use Rattle.import_edges.proofs.Edging.{target_none, target-there, edges-start, edges-pass, edges-put, target_at}
 use Rattle.import_edges.proofs.inner.import_edges.Statement.{statement}
 use Rattle.import_edges.proofs.inner.import_edges.Tie as tie
+use Rattle.import_edges.proofs.inner.import_edges.Lts.{in-External, in-External-2}
 
 abbrev invariant-loop : tie.invariant-loop-row
 invariant-loop normal record-module record-kind record-target importers₀ targets₀ count₀ row₀ row-end importers targets count row =
@@ -29,18 +29,18 @@ abbrev entry : Loop → tie.Start invariant-loop decreases-loop
 entry l = l.before.before.before.before.before.before.before
 
 abbrev to : Loop → List ℕ
-to l = let a = (entry l).args in import_targets a.record-kind.now a.record-target.now
+to l = let a = (entry l).args in import_targets a.record_kind.now a.record_target.now
 
 -- a row's target, by its kind
-module _ (l : Loop) (inside : l.loop-row.row < length (entry l).args.record-module.now) where
+module _ (l : Loop) (inside : l.loop-row.row < length (entry l).args.record_module.now) where
   abbrev kind : ℕ
-  kind = get_or (entry l).args.record-kind.now l.loop-row.row 0
+  kind = get_or (entry l).args.record_kind.now l.loop-row.row 0
 
   abbrev target : ℕ
-  target = get_or (entry l).args.record-target.now l.loop-row.row 0
+  target = get_or (entry l).args.record_target.now l.loop-row.row 0
 
   at_row : get_or (to l) l.loop-row.row 0 ≡ cond (lib.Dec.eqb kind 0) target missing
-  at_row = let a = (entry l).args in target_at a.record-kind.now a.record-target.now l.loop-row.row 0 (omega (arith, (entry l).requires.rows, inside))
+  at_row = let a = (entry l).args in target_at a.record_kind.now a.record_target.now l.loop-row.row 0 (omega (arith, (entry l).requires.1.0, inside))
 
   imported : kind ≡ 0 → get_or (to l) l.loop-row.row 0 ≡ target
   imported e = at_row ∙ ap (λ (b : Bool). cond b target missing) (eq-eqb kind 0 e)
@@ -49,16 +49,16 @@ module _ (l : Loop) (inside : l.loop-row.row < length (entry l).args.record-modu
   other n = at_row ∙ ap (λ (b : Bool). cond b target missing) (ne_eqb kind 0 n)
 
   room : l.loop-row.count < length l.loop-row.importers
-  room = omega (arith, l.loop-row.invariant.4.few, inside, (entry l).requires.room.0, l.loop-row.invariant.2)
+  room = omega (arith, l.loop-row.invariant.4.few, inside, (entry l).requires.1.1.0, l.loop-row.invariant.2)
 
   target_room : l.loop-row.count < length l.loop-row.targets
-  target_room = omega (arith, l.loop-row.invariant.4.few, inside, (entry l).requires.room.1, l.loop-row.invariant.3)
+  target_room = omega (arith, l.loop-row.invariant.4.few, inside, (entry l).requires.1.1.1, l.loop-row.invariant.3)
 
-  pass : get_or (to l) l.loop-row.row 0 ≡ missing → EdgesBelow (entry l).args.record-module.now (to l) (l.loop-row.row + 1) l.loop-row.importers l.loop-row.targets l.loop-row.count
-  pass = edges-pass (entry l).args.record-module.now (to l) l.loop-row.row l.loop-row.importers l.loop-row.targets l.loop-row.count l.loop-row.invariant.4
+  pass : get_or (to l) l.loop-row.row 0 ≡ missing → EdgesBelow (entry l).args.record_module.now (to l) (l.loop-row.row + 1) l.loop-row.importers l.loop-row.targets l.loop-row.count
+  pass = edges-pass (entry l).args.record_module.now (to l) l.loop-row.row l.loop-row.importers l.loop-row.targets l.loop-row.count l.loop-row.invariant.4
 
 loop-holds : tie.Need-loop-row-init invariant-loop decreases-loop
-loop-holds c = let a = c.args in (refl, omega arith, refl, refl, edges-start a.record-module.now (import_targets a.record-kind.now a.record-target.now) a.importers.now a.targets.now)
+loop-holds c = let a = c.args in (refl, omega arith, refl, refl, edges-start a.record_module.now (import_targets a.record_kind.now a.record_target.now) a.importers.now a.targets.now)
 
 mul-if1 : tie.Need-offset_bounds-record_kind-row invariant-loop decreases-loop
 mul-if1 c = search rules
@@ -79,20 +79,19 @@ loop-again c = let l = c.before.before.before in let i = c.loop-row-test.true in
 abbrev looked : tie.After-resolve-found invariant-loop decreases-loop → Loop
 looked r = r.before.before.before.before
 
-within : (r : tie.After-resolve-found invariant-loop decreases-loop) → (looked r).loop-row.row < length (entry (looked r)).args.record-module.now
+within : (r : tie.After-resolve-found invariant-loop decreases-loop) → (looked r).loop-row.row < length (entry (looked r)).args.record_module.now
 within r = r.loop-row-test.true
 
 -- a target that is there, be it external or normal
-there : (j : tie.Joined-found invariant-loop decreases-loop) → let l = looked j.before in let a = (entry l).args in (j.match-found.target ≡ get_or a.record-target.now l.loop-row.row 0) × (j.match-found.target ≡ missing → ⊥)
+there : (j : tie.Joined-found invariant-loop decreases-loop) → let l = looked j.before in let a = (entry l).args in (j.match-found.target ≡ get_or a.record_target.now l.loop-row.row 0) × (j.match-found.target ≡ missing → ⊥)
 there j =
     let l = looked j.before in
     let a = (entry l).args in
-    target-there a.normal.now a.record-target.now l.loop-row.row j.match-found.target
-    (ap any_target (sym j.resolve-found.ensures)
-    ∙ ⊎_elim
-    (λ w. ap any_target w.1.given.1 ∙ ap (λ (x : ℕ). x ∷ []) (sym w.3))
-    (λ w. ap any_target w.1.given.1 ∙ ap (λ (x : ℕ). x ∷ []) (sym w.3))
-    j.match-found.branch)
+    target-there a.normal.now a.record_target.now l.loop-row.row j.match-found.target
+    (elim j.match-found.branch [
+      | in-External w ↦ ap any_target (sym w.in-External.ensures) ∙ ap (λ (x : ℕ). x ∷ []) (sym w.target-is)
+      | in-External-2 w ↦ ap any_target (sym w.in-External.ensures) ∙ ap (λ (x : ℕ). x ∷ []) (sym w.target-is)
+    ])
 
 resolve-requires : tie.Need-resolve-found-requires invariant-loop decreases-loop
 resolve-requires c κs = search rules
@@ -114,10 +113,10 @@ loop-less-2 c = search rules
 
 loop-again-2 : tie.Need-loop-row-preserved-in_default invariant-loop decreases-loop
 loop-again-2 c =
-    let r = c.before.before in
+    let r = c.before in
     let l = looked r in
     let a = (entry l).args in
-    let none = target_none a.normal.now a.record-target.now l.loop-row.row (ap any_target (sym r.resolve-found.ensures ∙ c.enum_told-1.given.1)) in
+    let none = target_none a.normal.now a.record_target.now l.loop-row.row (ap any_target (sym r.resolve-found.ensures ∙ c.in_default.is)) in
     (refl, omega arith, l.loop-row.invariant.2, l.loop-row.invariant.3, pass l (within r) (imported l (within r) r.if-record_kind-row-ne0.false ∙ none))
 
 mul-importers : tie.Need-offset_bounds-record_module-row invariant-loop decreases-loop
@@ -159,9 +158,9 @@ loop-again-3 c =
     let t = j.match-found.target in (
       refl,
       omega arith,
-      length-set l.loop-row.importers count (get_or a.record-module.now row 0) ∙ l.loop-row.invariant.2,
+      length-set l.loop-row.importers count (get_or a.record_module.now row 0) ∙ l.loop-row.invariant.2,
       length-set l.loop-row.targets count t ∙ l.loop-row.invariant.3,
-      edges-put a.record-module.now (to l) row l.loop-row.importers l.loop-row.targets count l.loop-row.invariant.4 t ((there j).0 ∙ sym (imported l i r.if-record_kind-row-ne0.false)) (there j).1 (room l i) (target_room l i),
+      edges-put a.record_module.now (to l) row l.loop-row.importers l.loop-row.targets count l.loop-row.invariant.4 t ((there j).0 ∙ sym (imported l i r.if-record_kind-row-ne0.false)) (there j).1 (room l i) (target_room l i),
     )
 
 same_length : tie.Need-shape_of-importers invariant-loop decreases-loop
@@ -174,7 +173,7 @@ returns : tie.Need-returns invariant-loop decreases-loop
 returns c =
     let l = c.before in
     let a = (entry l).args in
-    subst (λ (n : ℕ). EdgesBelow a.record-module.now (to l) n l.loop-row.importers l.loop-row.targets l.loop-row.count) (let n : l.loop-row.row ≡ length a.record-module.now = omega (arith, c.loop-row-test.false, l.loop-row.invariant.0, l.loop-row.invariant.1) in n) l.loop-row.invariant.4
+    subst (λ (n : ℕ). EdgesBelow a.record_module.now (to l) n l.loop-row.importers l.loop-row.targets l.loop-row.count) (let n : l.loop-row.row ≡ length a.record_module.now = omega (arith, c.loop-row-test.false, l.loop-row.invariant.0, l.loop-row.invariant.1) in n) l.loop-row.invariant.4
 
 pub import_edges_spec : {M : Type 1} → statement M
 import_edges_spec =

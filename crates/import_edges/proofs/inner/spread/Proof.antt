@@ -89,7 +89,7 @@ loop-again-3 c =
     let l = c.before.before.before.before.before.before.before.before.before in
     let a = (entry l).args in
     let v = c.visit in
-    (refl, spreading-visit a.from.now a.to.now a.set.now l.loop-m.m l.loop-m.marks l.loop-m.invariant.1 v.new.1.1.1.1.1.0 (mark-in (get_or a.set.now l.loop-m.m 0) c.if-set-m-eq0.false) v.ensures)
+    (refl, spreading-visit a.from.now a.to.now a.set.now l.loop-m.m l.loop-m.marks l.loop-m.invariant.1 v.new.marks (mark-in (get_or a.set.now l.loop-m.m 0) c.if-set-m-eq0.false) v.ensures)
 
 same_length : tie.Need-shape_of-marks invariant-loop decreases-loop
 same_length c = let l = c.before in same l ∙ sym (entry l).requires.len

@@ -19,20 +19,20 @@ size e = length e.args.plan.now
 
 -- the modules with a target that leads to the plan
 abbrev entry : tie.After-mark_owners → tie.Start
-entry k = k.before.before.before.before.before.before.before.before.before.before.before.before.before.before.before.before.before
+entry k = k.before.before.before.before.before.before.before.before.before.before.before.before.before.before.before
 
 abbrev leading : tie.After-mark_owners → List ℕ
-leading k = k.mark_owners.new.1.1.1.0
+leading k = k.mark_owners.new.marks
 
 leading-lent : (k : tie.After-mark_owners) → Lent 4096 (size (entry k)) (leading k)
 leading-lent k = record { fits = (entry k).requires.1.few; kept = k.mark_owners.auto.marks }
 
 -- the modules with a planned dependency
 abbrev first : tie.After-mark_owners-2 → tie.After-mark_owners
-first k = k.before.before.before.before
+first k = k.before.before.before
 
 abbrev dependents : tie.After-mark_owners-2 → List ℕ
-dependents k = k.mark_owners-2.new.1.1.1.0
+dependents k = k.mark_owners-2.new.marks
 
 dependents-lent : (k : tie.After-mark_owners-2) → Lent 4096 (size (entry (first k))) (dependents k)
 dependents-lent k = record { fits = (entry (first k)).requires.1.few; kept = k.mark_owners-2.auto.marks }
@@ -44,11 +44,11 @@ array-borrow-prefix-leading : tie.Need-slice_bounds-leading-end
 array-borrow-prefix-leading c = search rules
 
 slice-aggregate-mark-owners : tie.Need-slice_bounds-mark_owners-end
-slice-aggregate-mark-owners c = let e = c.before.before.before.before.before.before.before.before.before.before.before.before.before.before.before.before in sym (part_length 4096 (size e) e.requires.1.few)
+slice-aggregate-mark-owners c = let e = c.before.before.before.before.before.before.before.before.before.before.before.before.before.before in sym (part_length 4096 (size e) e.requires.1.few)
 
 mark-owners-requires : tie.Need-mark_owners-requires
 mark-owners-requires c κs =
-    let e = c.before.before.before.before.before.before.before.before.before.before.before.before.before.before.before.before in
+    let e = c.before.before.before.before.before.before.before.before.before.before.before.before.before.before in
     let s = c.spread in
     (sym e.requires.1.linked.lengths, (subst (λ (n : ℕ). Below n e.args.targets.now) (sym s.ensures.len) e.requires.0.imported, subst (λ (n : ℕ). Below n e.args.importers.now) (sym (part_length 4096 (size e) e.requires.1.few)) e.requires.0.importing))
 
@@ -56,18 +56,18 @@ array-borrow-prefix-dependents : tie.Need-slice_bounds-dependents-end
 array-borrow-prefix-dependents c = search rules
 
 slice-aggregate-mark-owners-2 : tie.Need-slice_bounds-mark_owners-end-2
-slice-aggregate-mark-owners-2 c = let e = c.before.before.before.before.before.before.before.before.before.before.before.before.before.before.before.before.before.before.before.before in sym (part_length 4096 (size e) e.requires.1.few)
+slice-aggregate-mark-owners-2 c = let e = c.before.before.before.before.before.before.before.before.before.before.before.before.before.before.before.before.before in sym (part_length 4096 (size e) e.requires.1.few)
 
 mark-owners-requires-2 : tie.Need-mark_owners-requires-2
 mark-owners-requires-2 c κs =
-    let e = c.before.before.before.before.before.before.before.before.before.before.before.before.before.before.before.before.before.before.before.before in
-    (e.requires.0.dependencies, (e.requires.0.depended, subst (λ (n : ℕ). Below n e.args.dependency-module.now) (sym (part_length 4096 (size e) e.requires.1.few)) e.requires.0.dependents))
+    let e = c.before.before.before.before.before.before.before.before.before.before.before.before.before.before.before.before.before in
+    (e.requires.0.dependencies, (e.requires.0.depended, subst (λ (n : ℕ). Below n e.args.dependency_module.now) (sym (part_length 4096 (size e) e.requires.1.few)) e.requires.0.dependents))
 
 array-share-prefix-leading : tie.Need-slice_bounds-leading-end-2
-array-share-prefix-leading c = view-room (leading-lent c.before.before.before.before.before)
+array-share-prefix-leading c = view-room (leading-lent c.before.before.before.before)
 
 slice-aggregate-add : tie.Need-slice_bounds-add-end
-slice-aggregate-add c = sym (view-length (leading-lent c.before.before.before.before.before.before))
+slice-aggregate-add c = sym (view-length (leading-lent c.before.before.before.before.before))
 
 array-share-prefix-dependents : tie.Need-slice_bounds-dependents-end-2
 array-share-prefix-dependents c = view-room (dependents-lent c.before.before)
@@ -108,10 +108,10 @@ returns c =
     let s = c.spread in
     let o = c.add in (
       s.ensures,
-      closed 4096 a.importers.now a.targets.now a.dependency-module.now a.dependency.now a.candidates.now a.plan.now s.new.1.1.1.1.1.0 (leading i) (dependents d) o.new.1.1.1.0 o.result
-          e.requires.leads.few (sym e.requires.leads.linked.lengths) e.requires.columns.dependencies i.mark_owners.ensures d.mark_owners-2.ensures
-          (subst (λ (x : List ℕ). Added (InAll x (dependents d) a.candidates.now) a.plan.now o.new.1.1.1.0 o.result) (view-is (leading-lent i))
-          (subst (λ (x : List ℕ). Added (InAll (view 4096 (size e) (leading i)) x a.candidates.now) a.plan.now o.new.1.1.1.0 o.result) (view-is (dependents-lent d)) o.ensures)),
+      closed 4096 a.importers.now a.targets.now a.dependency_module.now a.dependency.now a.candidates.now a.plan.now s.new.marks (leading i) (dependents d) o.new.set o.result
+          e.requires.1.few (sym e.requires.1.linked.lengths) e.requires.0.dependencies i.mark_owners.ensures d.mark_owners-2.ensures
+          (subst (λ (x : List ℕ). Added (InAll x (dependents d) a.candidates.now) a.plan.now o.new.set o.result) (view-is (leading-lent i))
+          (subst (λ (x : List ℕ). Added (InAll (view 4096 (size e) (leading i)) x a.candidates.now) a.plan.now o.new.set o.result) (view-is (dependents-lent d)) o.ensures)),
     )
 
 pub close_static_importers_spec : {M : Type 1} → statement M

@@ -44,8 +44,8 @@ returns c =
     let a = e.args in
     let sets = e.requires.0 in
     let done = call.close_static_importers in
-    let leads : List ℕ = done.new.1.1.1.1.1.1.1.0 in
-    let plan : List ℕ = done.new.1.1.1.1.1.1.1.1.0 in
+    let leads : List ℕ = done.new.leads in
+    let plan : List ℕ = done.new.plan in
     imports-passed (of e) sets.accepted e.requires.1.0 a.plan.now leads plan done.result e.requires.1.1.0 done.ensures.0
     (given2 (λ dependency_module candidates. Added (Importer a.from.now a.to.now dependency_module (of e).dependency candidates a.plan.now leads) a.plan.now plan done.result)
     k.column.ensures sets.candidate_set done.ensures.1)

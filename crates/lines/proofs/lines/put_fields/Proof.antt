@@ -48,7 +48,7 @@ put-field-requires c κs =
     let m : length l.out ≡ length a.out.now = ap length l.invariant.1.put ∙ length-sets a.out.now a.at (spaced (take l.j a.numbers.now)) in
     let w = spaced-room a.numbers.now l.j c.loop-j-test.true in
     let b = c.put_byte-p in
-    omega (arith, m, w, s.requires, l.invariant.1.next, b.ensures.next, b.auto.0)
+    omega (arith, m, w, s.requires, l.invariant.1.next, b.ensures.next, b.auto.out)
 
 add-j : tie.Need-overflow_add-j invariant-loop decreases-loop
 add-j c =

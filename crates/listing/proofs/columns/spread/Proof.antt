@@ -36,7 +36,7 @@ sub-spread-list c =
     let l = c.loop-l in
     cut_up a.rows.now a.ends.now a.columns.now (set a.bounds.now 0 0) l.columns l.bounds l.l l.first l.to l.j l.invariant c.loop-l-test.true s.requires.1 c.width-w.result c.width-w.ensures (get_or a.ends.now l.l 0) refl
 
-div-spread-list : tie.Need-nonzero-div-spread-list invariant-loop decreases-loop
+div-spread-list : tie.Need-nonzero_div-end invariant-loop decreases-loop
 div-spread-list c =
     let s = c.before.before.before.before.before.before.before.before in
     let a = s.args in
@@ -80,7 +80,7 @@ loop-again c =
     let a = s.args in
     let l = c.loop-l in
     let r = c.spread_list-to in
-    cut-more a.rows.now a.ends.now a.columns.now (set a.bounds.now 0 0) l.columns l.bounds l.l l.first l.to l.j l.invariant c.loop-l-test.true s.requires.1 c.width-w.result c.width-w.ensures (get_or a.ends.now l.l 0) refl r.new.1.1.0 r.new.1.0 r.result r.ensures.0 r.ensures.1.0 r.ensures.1.1
+    cut-more a.rows.now a.ends.now a.columns.now (set a.bounds.now 0 0) l.columns l.bounds l.l l.first l.to l.j l.invariant c.loop-l-test.true s.requires.1 c.width-w.result c.width-w.ensures (get_or a.ends.now l.l 0) refl r.new.columns r.new.bounds r.result r.ensures.0 r.ensures.1.0 r.ensures.1.1
 
 same_length : tie.Need-shape_of-bounds invariant-loop decreases-loop
 same_length c =

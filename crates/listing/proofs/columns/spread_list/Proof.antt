@@ -89,7 +89,7 @@ loop-again c =
     let s = c.before.before.before.before.before.before.before.before in
     let a = s.args in
     let l = c.loop-k in
-    spread-more a.rows.now a.columns.now a.bounds.now a.first a.w a.n a.to a.j l.columns l.bounds l.k l.at l.invariant c.copy_column.new.1.1.1.1.0 c.loop-k-test.true c.copy_column.ensures
+    spread-more a.rows.now a.columns.now a.bounds.now a.first a.w a.n a.to a.j l.columns l.bounds l.k l.at l.invariant c.copy_column.new.columns c.loop-k-test.true c.copy_column.ensures
 
 same_length : tie.Need-shape_of-bounds invariant-loop decreases-loop
 same_length c =

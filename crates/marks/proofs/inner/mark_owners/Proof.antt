@@ -4,13 +4,13 @@ use Rattle.std.specs.Prelude.{◌≡◌, ℕ, ◌-◌, ◌<◌, ◌≤◌, lengt
 use mathlib.Core.Path.{refl, subst}
 use native.Mathlib.Omega.{arith}
 use borrow.Author.Rules.{rules}
-use Rattle.marks-1.specs.Steps.{looked, Owners}
-use Rattle.marks-1.proofs.Steps.{looked-at, owners-start, owners-put}
-use Rattle.marks-1.proofs.inner.mark_owners.Statement.{statement}
-use Rattle.marks-1.proofs.inner.mark_owners.Tie as tie
-use Rattle.marks-1.proofs.inner.mark_owners.Reads as reads
-use Rattle.marks-1.proofs.inner.mark_owners.Lts as lts
-use Rattle.marks-1.proofs.inner.raise.Reads as raise-reads
+use Rattle.marks.specs.Steps.{looked, Owners}
+use Rattle.marks.proofs.Steps.{looked-at, owners-start, owners-put}
+use Rattle.marks.proofs.inner.mark_owners.Statement.{statement}
+use Rattle.marks.proofs.inner.mark_owners.Tie as tie
+use Rattle.marks.proofs.inner.mark_owners.Reads as reads
+use Rattle.marks.proofs.inner.mark_owners.Lts as lts
+use Rattle.marks.proofs.inner.raise.Reads as raise-reads
 
 abbrev invariant-loop : tie.invariant-loop-row
 invariant-loop owner value set marks₀ row₀ row-end marks row = (row-end ≡ length owner) × (row ≤ row-end) × Owners owner (looked 0 set value) row marks₀ marks
@@ -27,10 +27,10 @@ entry l = l.before.before.before.before.before
 -- a row's value and its owner have a place
 module _ (l : Loop) (inside : l.loop-row.row < length (entry l).args.owner.now) where
   valued : get_or (entry l).args.value.now l.loop-row.row 0 < length (entry l).args.set.now
-  valued = (entry l).requires.values l.loop-row.row (omega (arith, (entry l).requires.rows, inside))
+  valued = (entry l).requires.1.0 l.loop-row.row (omega (arith, (entry l).requires.0, inside))
 
   owned : get_or (entry l).args.owner.now l.loop-row.row 0 < length l.loop-row.marks
-  owned = omega (arith, (entry l).requires.owners l.loop-row.row inside, l.loop-row.invariant.2.len)
+  owned = omega (arith, (entry l).requires.1.1 l.loop-row.row inside, l.loop-row.invariant.2.len)
 
 loop-holds : tie.Need-loop-row-init invariant-loop decreases-loop
 loop-holds c = (refl, omega arith, owners-start _ _ _)
@@ -71,7 +71,7 @@ loop-again c =
     let a = (entry l).args in
     let row = l.loop-row.row in
     let b : row < length a.value.now = omega (arith, (entry l).requires.0, c.loop-row-test.true) in
-    (refl, omega arith, owners-put a.owner.now (looked 0 a.set.now a.value.now) a.marks-1.now row l.loop-row.marks c.raise.new.0 l.loop-row.invariant.2 refl (looked-at 0 a.set.now a.value.now row 0 b) c.raise.ensures)
+    (refl, omega arith, owners-put a.owner.now (looked 0 a.set.now a.value.now) a.marks.now row l.loop-row.marks c.raise.new.marks l.loop-row.invariant.2 refl (looked-at 0 a.set.now a.value.now row 0 b) c.raise.ensures)
 
 same_length : tie.Need-shape_of-marks invariant-loop decreases-loop
 same_length c = c.loop-row.invariant.2.len
@@ -81,7 +81,7 @@ returns c =
     let l = c.before in
     let a = (entry l).args in
     let e : l.loop-row.row ≡ length a.owner.now = omega (arith, c.loop-row-test.false, l.loop-row.invariant.0, l.loop-row.invariant.1) in
-    subst (λ (n : ℕ). Owners a.owner.now (looked 0 a.set.now a.value.now) n a.marks-1.now l.loop-row.marks) e l.loop-row.invariant.2
+    subst (λ (n : ℕ). Owners a.owner.now (looked 0 a.set.now a.value.now) n a.marks.now l.loop-row.marks) e l.loop-row.invariant.2
 
 pub mark_owners_spec : {M : Type 1} → statement M
 mark_owners_spec =

@@ -6,13 +6,13 @@ use native.Mathlib.Omega.{arith}
 use borrow.Author.Rules.{rules}
 use Rattle.tables.specs.Project.{missing}
 use Rattle.lists.proofs.Laws.{get_d-in}
-use Rattle.marks-1.specs.Steps.{looked, Owners}
-use Rattle.marks-1.proofs.Steps.{looked-at, owners-start, owners-put}
-use Rattle.marks-1.proofs.inner.mark_rows.Statement.{statement}
-use Rattle.marks-1.proofs.inner.mark_rows.Tie as tie
-use Rattle.marks-1.proofs.inner.mark_rows.Reads as reads
-use Rattle.marks-1.proofs.inner.mark_rows.Lts as lts
-use Rattle.marks-1.proofs.inner.raise.Reads as raise-reads
+use Rattle.marks.specs.Steps.{looked, Owners}
+use Rattle.marks.proofs.Steps.{looked-at, owners-start, owners-put}
+use Rattle.marks.proofs.inner.mark_rows.Statement.{statement}
+use Rattle.marks.proofs.inner.mark_rows.Tie as tie
+use Rattle.marks.proofs.inner.mark_rows.Reads as reads
+use Rattle.marks.proofs.inner.mark_rows.Lts as lts
+use Rattle.marks.proofs.inner.raise.Reads as raise-reads
 
 abbrev invariant-loop : tie.invariant-loop-row
 invariant-loop value owner rows marks₀ row₀ row-end marks row = (row-end ≡ length value) × (row ≤ row-end) × Owners (looked missing owner value) rows row marks₀ marks
@@ -29,10 +29,10 @@ entry l = l.before.before.before.before.before
 -- a row's value and its owner have a place
 module _ (l : Loop) (inside : l.loop-row.row < length (entry l).args.value.now) where
   valued : get_or (entry l).args.value.now l.loop-row.row 0 < length (entry l).args.owner.now
-  valued = (entry l).requires.values l.loop-row.row inside
+  valued = (entry l).requires.1.0 l.loop-row.row inside
 
   owned : get_or (entry l).args.owner.now (get_or (entry l).args.value.now l.loop-row.row 0) 0 < length l.loop-row.marks
-  owned = omega (arith, (entry l).requires.owners (get_or (entry l).args.value.now l.loop-row.row 0) valued, l.loop-row.invariant.2.len)
+  owned = omega (arith, (entry l).requires.1.1 (get_or (entry l).args.value.now l.loop-row.row 0) valued, l.loop-row.invariant.2.len)
 
 loop-holds : tie.Need-loop-row-init invariant-loop decreases-loop
 loop-holds c = (refl, omega arith, owners-start _ _ _)
@@ -74,7 +74,7 @@ loop-again c =
     let row = l.loop-row.row in
     let i = c.loop-row-test.true in
     let of : get_or (looked missing a.owner.now a.value.now) row 0 ≡ get_or a.owner.now (get_or a.value.now row 0) 0 = looked-at missing a.owner.now a.value.now row 0 i ∙ get_d-in a.owner.now (get_or a.value.now row 0) missing 0 (valued l i) in
-    (refl, omega arith, owners-put (looked missing a.owner.now a.value.now) a.rows.now a.marks-1.now row l.loop-row.marks c.raise.new.0 l.loop-row.invariant.2 of refl c.raise.ensures)
+    (refl, omega arith, owners-put (looked missing a.owner.now a.value.now) a.rows.now a.marks.now row l.loop-row.marks c.raise.new.marks l.loop-row.invariant.2 of refl c.raise.ensures)
 
 same_length : tie.Need-shape_of-marks invariant-loop decreases-loop
 same_length c = c.loop-row.invariant.2.len
@@ -84,7 +84,7 @@ returns c =
     let l = c.before in
     let a = (entry l).args in
     let e : l.loop-row.row ≡ length a.value.now = omega (arith, c.loop-row-test.false, l.loop-row.invariant.0, l.loop-row.invariant.1) in
-    subst (λ (n : ℕ). Owners (looked missing a.owner.now a.value.now) a.rows.now n a.marks-1.now l.loop-row.marks) e l.loop-row.invariant.2
+    subst (λ (n : ℕ). Owners (looked missing a.owner.now a.value.now) a.rows.now n a.marks.now l.loop-row.marks) e l.loop-row.invariant.2
 
 pub mark_rows_spec : {M : Type 1} → statement M
 mark_rows_spec =

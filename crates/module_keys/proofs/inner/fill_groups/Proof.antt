@@ -27,12 +27,12 @@ mul-group-of : tie.Need-offset_bounds-starts-m invariant-loop decreases-loop
 mul-group-of c = omega arith
 
 shared-slice-read-group-of : tie.Need-bounds-starts-m invariant-loop decreases-loop
-shared-slice-read-group-of c = omega (arith, (entry c.before.before).requires.room, c.loop-m-test.true)
+shared-slice-read-group-of c = omega (arith, (entry c.before.before).requires.1, c.loop-m-test.true)
 
 group-of-requires : tie.Need-group_of-requires invariant-loop decreases-loop
 group-of-requires c κs =
     let e = entry c.before.before in
-    (e.requires.columns, omega (arith, e.requires.room, c.loop-m-test.true))
+    (e.requires.0, omega (arith, e.requires.1, c.loop-m-test.true))
 
 mul-groups : tie.Need-offset_bounds-groups-m invariant-loop decreases-loop
 mul-groups c = omega arith
@@ -49,7 +49,7 @@ loop-less c = omega arith
 loop-again : tie.Need-loop-m-preserved invariant-loop decreases-loop
 loop-again c =
     let l = c.before.before.before in
-    (omega (arith, c.loop-m-test.true), fills-more _ _ l.loop-m.m l.loop-m.groups l.loop-m.invariant.1 c.Group-of.result c.Group-of.ensures c.loop-m-test.true)
+    (omega (arith, c.loop-m-test.true), fills-more _ _ l.loop-m.m l.loop-m.groups l.loop-m.invariant.1 c.group_of.result c.group_of.ensures c.loop-m-test.true)
 
 same_length : tie.Need-shape_of-groups invariant-loop decreases-loop
 same_length c = c.loop-m.invariant.1.size

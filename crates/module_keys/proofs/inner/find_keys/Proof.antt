@@ -10,7 +10,7 @@ use Rattle.module_keys.proofs.inner.find_keys.Tie as tie
 
 find-starts-requires : tie.Need-find_starts-requires
 find-starts-requires c κs =
-    let e = c.before.before.before.before.before.before.before.before in
+    let e = c in
     subst (λ (n : ℕ). names_fit n e.args.names.now ≡ true) (sym e.requires.1.1.1) e.requires.1.0
 
 fill-groups-requires : tie.Need-fill_groups-requires
@@ -27,12 +27,12 @@ same-length-2 c = search rules
 
 returns : tie.Need-returns
 returns c =
-    let put = c.before.before in
-    let fill = put.before.before.before.before.before in
-    let find = fill.before.before.before.before.before in
-    let e = find.before.before.before.before.before.before.before.before.before in
+    let put = c in
+    let fill = c in
+    let find = c in
+    let e = c in
     let a = e.args in
-    keys-held a.names.now a.normal.now a.importers.now a.sensitive.now a.numbers.now find.find_starts.new.1.0 fill.fill_groups.new.1.1.1.1.1.0 put.put_numbers.new.1.1.0
+    keys-held a.names.now a.normal.now a.importers.now a.sensitive.now a.numbers.now find.find_starts.new.starts fill.fill_groups.new.groups put.put_numbers.new.places
     find.find_starts.ensures
     (fill.places-1.given ∙ e.requires.1.1.1)
     (put.groups-1.given ∙ e.requires.1.1.0)

@@ -1,13 +1,13 @@
 -- `module_keys::inner::put_numbers` meets its contract, place by place.
 -- Assumes nothing.
 use mathlib.Core.Path.{sym, subst}
-use mathlib.Core.Logic.{⊎_elim}
 use Rattle.std.specs.Prelude.{◌+◌, ◌-◌, ◌<◌, ◌≤◌, length, get_or}
 use native.Mathlib.Omega.{arith}
 use Rattle.module_keys.specs.inner.Filling.{place_by}
 use Rattle.module_keys.proofs.Filling.{Fills, fills-start, fills-more, fills-kept, fills-end}
 use Rattle.module_keys.proofs.Keys.{place-number, place-leaf}
 use Rattle.module_keys.proofs.inner.put_numbers.Statement.{statement}
+use Rattle.module_keys.proofs.inner.put_numbers.Lts.{else-groups-m-ne1, then-groups-m-ne1}
 use Rattle.module_keys.proofs.inner.put_numbers.Tie as tie
 
 abbrev invariant-loop : tie.invariant-loop-m
@@ -54,10 +54,10 @@ loop-again c =
     let m = l.loop-m.m in
     let f = place_by a.groups.now a.numbers.now a.places.now in
     let room : m < length a.places.now = c.loop-m-test.true in
-    ⊎_elim
-    (λ w. (omega arith, subst (Fills f a.places.now (m + 1)) (sym w.2) (fills-more f a.places.now m l.loop-m.places l.loop-m.invariant.1 (get_or a.numbers.now m 0) (place-number a.groups.now a.numbers.now a.places.now m w.0.taken) room)))
-    (λ w. (omega arith, subst (Fills f a.places.now (m + 1)) (sym w.1) (fills-kept f a.places.now m l.loop-m.places l.loop-m.invariant.1 (place-leaf a.groups.now a.numbers.now a.places.now m w.0.left))))
-    c.if-groups-m-ne1.branch
+    elim c.if-groups-m-ne1.branch [
+      | then-groups-m-ne1 w ↦ (omega arith, subst (Fills f a.places.now (m + 1)) (sym w.places-is) (fills-more f a.places.now m l.loop-m.places l.loop-m.invariant.1 (get_or a.numbers.now m 0) (place-number a.groups.now a.numbers.now a.places.now m w.if-groups-m-ne1.true) room))
+      | else-groups-m-ne1 w ↦ (omega arith, subst (Fills f a.places.now (m + 1)) (sym w.places-is) (fills-kept f a.places.now m l.loop-m.places l.loop-m.invariant.1 (place-leaf a.groups.now a.numbers.now a.places.now m w.if-groups-m-ne1.false)))
+    ]
 
 same_length : tie.Need-shape_of-places invariant-loop decreases-loop
 same_length c = c.loop-m.invariant.1.size

@@ -21,33 +21,27 @@ turn-requires c κs = search rules
 
 add-line-begins : tie.Need-overflow_add-at
 add-line-begins c =
-    let b = c.before.before.before in
+    let b = c in
     let a = b.args in
     omega (arith, line-inside a.names.now a.at (λ e. c.if-b-eq10.false (b.byte_at-b.ensures ∙ e)))
-
-slice-aggregate-line-begins : tie.Need-slice-aggregate-line-begins
-slice-aggregate-line-begins c = search rules
 
 line-begins-requires : tie.Need-line_begins-requires
 line-begins-requires c κs = search rules
 
 returns-2 : tie.Need-returns-then-turn-eq0
 returns-2 c =
-    let t = c.before.before in
-    let b = t.before.before.before in
+    let t = c in
+    let b = c in
     let a = b.args in
     c.line_begins.ensures ∙ runtime-folder a.names.now a.at (λ e. t.if-b-eq10.false (b.byte_at-b.ensures ∙ e)) (ap start_byte (sym b.byte_at-b.ensures) ∙ sym t.turn.ensures ∙ t.if-turn-eq0.true)
-
-slice-aggregate-line-begins-2 : tie.Need-slice-aggregate-line-begins-2
-slice-aggregate-line-begins-2 c = search rules
 
 line-begins-requires-2 : tie.Need-line_begins-requires-2
 line-begins-requires-2 c κs = search rules
 
 returns-3 : tie.Need-returns
 returns-3 c =
-    let t = c.before.before in
-    let b = t.before.before.before in
+    let t = c in
+    let b = c in
     let a = b.args in
     c.line_begins-2.ensures ∙ runtime-prefix a.names.now a.at (λ e. t.if-b-eq10.false (b.byte_at-b.ensures ∙ e)) (λ e. t.if-turn-eq0.false (t.turn.ensures ∙ ap start_byte b.byte_at-b.ensures ∙ e))
 
@@ -59,9 +53,7 @@ is_runtime_spec =
     returns
     turn-requires
     add-line-begins
-    slice-aggregate-line-begins
     line-begins-requires
     returns-2
-    slice-aggregate-line-begins-2
     line-begins-requires-2
     returns-3)

@@ -69,7 +69,7 @@ returns-4 c =
     let a = b.args in
     let x = t.turn-first.ensures ∙ ap start_byte b.byte_at-x.ensures in
     let y = t.turn-other.ensures ∙ ap start_byte b.byte_at-y.ensures in
-    c.line_Before.ensures
+    c.line_before.ensures
     ∙ name-more a.names.now a.a a.b (λ e. k.if-x-eq10.false (b.byte_at-x.ensures ∙ e)) (λ e. k.if-y-eq10.false (b.byte_at-y.ensures ∙ e)) (sym x ∙ c.if-first-other.false ∙ y)
 
 pub name_before_spec : {M : Type 1} → statement M

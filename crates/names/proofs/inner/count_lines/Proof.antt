@@ -1,12 +1,12 @@
 -- `names::inner::count_lines` meets its contract: what is counted and what is left are all.
 -- Assumes nothing.
 use Rattle.std.specs.Prelude.{◌≡◌, ◌+◌, ◌-◌, ◌<◌, ◌≤◌, length, drop}
-use mathlib.Core.Logic.{⊎_elim}
 use native.Mathlib.Nat.{zero-add}
 use native.Mathlib.Omega.{arith}
 use Rattle.names.specs.Names.{line_ends}
 use Rattle.names.proofs.Lines.{ends-in, ends-out, ends-none}
 use Rattle.names.proofs.inner.count_lines.Statement.{statement}
+use Rattle.names.proofs.inner.count_lines.Lts.{then-names-i-eq10, else-names-i-eq10}
 use Rattle.names.proofs.inner.count_lines.Tie as tie
 
 abbrev invariant-loop : tie.invariant-loop-i
@@ -32,11 +32,14 @@ loop-less c = omega arith
 
 loop-again : tie.Need-loop-i-preserved invariant-loop decreases-loop
 loop-again c =
-    let l = c.before.before.before in
+    let l = c in
     let s = l.args.names.now in
     let i = l.loop-i.i in
     let inside : i < length s = omega arith in
-    ⊎_elim (λ w. (omega arith, omega arith, omega (arith, ends-in s i inside w.0.taken))) (λ w. (omega arith, omega arith, omega (arith, ends-out s i inside w.0.left))) c.if-names-i-eq10.branch
+    elim c.if-names-i-eq10.branch [
+      | then-names-i-eq10 w ↦ (omega arith, omega arith, omega (arith, ends-in s i inside w.if-names-i-eq10.true))
+      | else-names-i-eq10 w ↦ (omega arith, omega arith, omega (arith, ends-out s i inside w.if-names-i-eq10.false))
+    ]
 
 returns : tie.Need-returns invariant-loop decreases-loop
 returns c =

@@ -80,8 +80,8 @@ loop-again c =
     let t = c.loop-k-test.true in (
       refl,
       omega (arith, t),
-      r.auto.1.1.1.1.1.1.1.1.1.1.1.1.1.0 ∙ l.loop-k.invariant.2,
-      roots-put (put (of e)) e.args.roots.now e.args.out.now l.loop-k.k l.loop-k.out r.new.1.1.1.1.1.1.1.1.1.1.1.1.1.0 l.loop-k.invariant.3 (omega (arith, t, l.loop-k.invariant.0)) r.ensures,
+      r.auto.out ∙ l.loop-k.invariant.2,
+      roots-put (put (of e)) e.args.roots.now e.args.out.now l.loop-k.k l.loop-k.out r.new.out l.loop-k.invariant.3 (omega (arith, t, l.loop-k.invariant.0)) r.ensures,
     )
 
 same_length : tie.Need-shape_of-out invariant-loop decreases-loop

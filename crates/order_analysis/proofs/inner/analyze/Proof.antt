@@ -44,7 +44,7 @@ few-chunks k = omega (arith, counted k, (entry k).requires.accepted.sizes.order)
 abbrev rows_before : tie.After-label_table → tie.After-rows-chunks
 rows_before k = k.before.before
 
-labels-lent : (k : tie.After-label_table) → Lent 1024 (count (rows_before k)) k.label_table.new.1.1.1.1.1.1.1.1.1.0
+labels-lent : (k : tie.After-label_table) → Lent 1024 (count (rows_before k)) k.label_table.new.labels
 labels-lent k = record { fits = few-chunks (rows_before k); kept = k.label_table.auto.labels }
 
 abbrev labels-before : tie.After-prepare_table → tie.After-label_table
@@ -56,7 +56,7 @@ columns-before k = k.before.before.before
 abbrev sensitives-entry : tie.After-mark_table_sensitive → tie.Start
 sensitives-entry k = entry (rows_before (labels-before (columns-before k)))
 
-sensitives-lent : (k : tie.After-mark_table_sensitive) → Lent 4096 (size (sensitives-entry k)) k.mark_table_sensitive.new.1.1.1.1.1.1.1.1.1.0
+sensitives-lent : (k : tie.After-mark_table_sensitive) → Lent 4096 (size (sensitives-entry k)) k.mark_table_sensitive.new.marks
 sensitives-lent k = record { fits = few (sensitives-entry k); kept = k.mark_table_sensitive.auto.marks }
 
 abbrev sensitives-before : tie.After-mark_table_eligible → tie.After-mark_table_sensitive
@@ -65,11 +65,11 @@ sensitives-before k = k.before.before.before
 abbrev eligibles-entry : tie.After-mark_table_eligible → tie.Start
 eligibles-entry k = sensitives-entry (sensitives-before k)
 
-eligibles-lent : (k : tie.After-mark_table_eligible) → Lent 4096 (size (eligibles-entry k)) k.mark_table_eligible.new.1.1.1.1.1.1.1.1.1.0
+eligibles-lent : (k : tie.After-mark_table_eligible) → Lent 4096 (size (eligibles-entry k)) k.mark_table_eligible.new.marks
 eligibles-lent k = record { fits = few (eligibles-entry k); kept = k.mark_table_eligible.auto.marks }
 
 made : (k : tie.After-mark_table_eligible) → let e = eligibles-entry k in let s = sensitives-before k in let o = columns-before s in let l = labels-before o in
-    Made (of e) (view 1024 (count (rows_before l)) l.label_table.last.1.1.1.1.1.1.1.1.1.0) o.prepare_table.last.1.1.1.1.1.1.1.1.1.0 (view 4096 (size e) s.mark_table_sensitive.last.1.1.1.1.1.1.1.1.1.0) (view 4096 (size e) k.mark_table_eligible.new.1.1.1.1.1.1.1.1.1.0) (size e)
+    Made (of e) (view 1024 (count (rows_before l)) l.label_table.new.labels) o.prepare_table.new.prepared (view 4096 (size e) s.mark_table_sensitive.new.marks) (view 4096 (size e) k.mark_table_eligible.new.marks) (size e)
 made k =
     let e = eligibles-entry k in
     let s = sensitives-before k in

@@ -31,7 +31,7 @@ entry k = k.before.before.before.before.before.before.before.before.before.befor
 
 -- the members that were made
 abbrev made : tie.After-read_members → List ℕ
-made k = k.read_members.new.1.1.1.1.1.1.1.1.1.1.0
+made k = k.read_members.new.out
 
 array-borrow-prefix-arranged : tie.Need-slice_bounds-arranged-end
 array-borrow-prefix-arranged c = let e = c.before.before.before.before.before.before.before.before.before in members.members-room (w e) e.args.importers.now e.args.kinds.now e.args.targets.now e.args.dependencies.now e.args.members.now e.args.names.now (ok e)
@@ -65,7 +65,7 @@ returns : tie.Need-returns
 returns c =
     let k = c.before.before.before.before.before.before in
     let done = c.analyze in
-    let plan : List ℕ = done.new.1.1.1.1.1.1.1.1.1.0 in
+    let plan : List ℕ = done.new.plan in
     (subst (λ (p : Project). plan ≡ whole_plan p) (own k) done.ensures.0, subst (λ (p : Project). done.result ≡ ones (whole_plan p)) (own k) done.ensures.1)
 
 pub analyze_named_spec : {M : Type 1} → statement M

@@ -19,10 +19,10 @@ of e = let a = e.args in read (table a.runtime a.dynamic a.bounds.now a.columns.
 -- the marks of the risks, and of the seed rows besides
 
 abbrev risked : tie.After-mark_table_seeds → List ℕ
-risked k = k.mark_risks.new.1.1.1.1.1.1.1.1.1.1.1.1.1.0
+risked k = k.mark_risks.new.out
 
 abbrev seeded : tie.After-mark_table_seeds → List ℕ
-seeded k = k.mark_table_seeds.new.1.1.1.1.1.1.1.1.1.1.0
+seeded k = k.mark_table_seeds.new.plan
 
 mark-table-seeds-requires : tie.Need-mark_table_seeds-requires
 mark-table-seeds-requires c κs =
@@ -42,7 +42,7 @@ returns c =
     let k = c.before.before.before.before.before.before in
     let e = c.before.before.before.before.before.before.before.before.before.before.before.before.before.before.before.before.before.before.before.before.before.before.before.before in
     let b = c.build_order_wrap_plan in
-    whole-planned (of e) e.args.eligibles.now e.requires.basis.eligible_set (risked k) (seeded k) c.mark_risks.ensures k.mark_table_seeds.ensures b.new.1.1.1.1.1.1.1.1.1.1.1.1.0 b.ensures
+    whole-planned (of e) e.args.eligibles.now e.requires.basis.eligible_set (risked k) (seeded k) c.mark_risks.ensures k.mark_table_seeds.ensures b.new.plan b.ensures
 
 pub plan_risks_spec : {M : Type 1} → statement M
 plan_risks_spec =

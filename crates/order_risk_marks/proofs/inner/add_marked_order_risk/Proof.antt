@@ -47,7 +47,7 @@ module _ (x : tie.After-list_expected-count) where
   count = x.list_expected-count.result
 
   abbrev held : List ℕ
-  held = x.list_expected-count.last.1.1.1.1.1.1.1.1.1.1.0
+  held = x.list_expected-count.new.order
 
   there : count ≤ length held
   there = held-room (of start) start.args.root x.list_expected-count.ensures

@@ -30,7 +30,7 @@ entry k = k.before.before.before.before.before.before.before.before.before.befor
 
 -- the members that were made
 abbrev made : tie.After-read_members → List ℕ
-made k = k.read_members.new.1.1.1.1.1.1.1.1.1.1.0
+made k = k.read_members.new.out
 
 array-borrow-prefix-arranged : tie.Need-slice_bounds-arranged-end
 array-borrow-prefix-arranged c = let e = c.before.before.before.before.before.before.before.before.before in members.members-room (w e) e.args.importers.now e.args.kinds.now e.args.targets.now e.args.dependencies.now e.args.members.now e.args.names.now (ok e)
@@ -65,7 +65,7 @@ returns c =
     let k = c.before.before.before.before.before.before in
     let e = entry k.before in
     let done = c.mark_order_risk in
-    let out : List ℕ = done.new.1.1.1.1.1.1.1.1.1.0 in
+    let out : List ℕ = done.new.out in
     subst (λ (p : Project). Marked (order_risk_of_entry p e.args.root) out done.result) (own k) done.ensures
 
 pub mark_named_order_risk_spec : {M : Type 1} → statement M

@@ -42,13 +42,13 @@ part c = length-take-le (size c) room (few c)
 -- what is made, at the front of the arrays
 
 abbrev sensitives : tie.After-mark_table_sensitive → List ℕ
-sensitives x = x.mark_table_sensitive.new.1.1.1.1.1.1.1.1.1.0
+sensitives x = x.mark_table_sensitive.new.marks
 
 sensitives-length : (x : tie.After-mark_table_sensitive) → length (sensitives x) ≡ size x.before
 sensitives-length x = x.mark_table_sensitive.auto.marks ∙ part x.before
 
 abbrev eligibles : tie.After-mark_table_eligible → List ℕ
-eligibles y = y.mark_table_eligible.new.1.1.1.1.1.1.1.1.1.0
+eligibles y = y.mark_table_eligible.new.marks
 
 eligibles-length : (y : tie.After-mark_table_eligible) → length (eligibles y) ≡ size y.before.before.before.before
 eligibles-length y = y.mark_table_eligible.auto.marks ∙ part y.before.before.before.before
@@ -93,7 +93,7 @@ add-marked-order-risk-requires c κs =
 
 returns : tie.Need-returns
 returns c =
-    let k = c.before.before.before.before.before.before.before.before.before.before.before.before.before.before.before.before.before in
+    let k = c.before.before.before.before.before.before.before.before.before.before.before.before.before.before.before.before in
     let e = entry k in
     let p = of e in
     record {

@@ -17,7 +17,7 @@ put-number-requires : tie.Need-put_number-requires
 put-number-requires c κs =
     let e = c.before.before.before.before.before.before.before in
     let s = c.put_spaces-p in
-    omega (arith, c.number_len-k.ensures, four-digits e.args.n e.requires.0, s.ensures.next, s.auto.0, e.requires.1, length-replicate {A = ℕ} (8 - c.number_len-k.result) 32)
+    omega (arith, c.number_len-k.ensures, four-digits e.args.n e.requires.0, s.ensures.next, s.auto.out, e.requires.1, length-replicate {A = ℕ} (8 - c.number_len-k.result) 32)
 
 returns : tie.Need-returns
 returns c =

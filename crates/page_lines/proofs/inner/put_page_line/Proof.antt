@@ -12,34 +12,34 @@ use Rattle.page_lines.proofs.inner.put_page_line.Tie as tie
 
 -- where each part ends, and that the slice keeps its length
 
-one : (x : tie.After-put_number_right-behind_module) → let e = x.before.before.before in (x.put_number_right-behind_module.result ≡ e.args.at + 8) × (length x.put_number_right-behind_module.new.0 ≡ length e.args.out.now)
+one : (x : tie.After-put_number_right-behind_module) → let e = x.before.before.before in (x.put_number_right-behind_module.result ≡ e.args.at + 8) × (length x.put_number_right-behind_module.new.out ≡ length e.args.out.now)
 one x = let e = x.before.before.before in (omega (arith, x.put_number_right-behind_module.ensures.next, number-eight e.args.m e.requires.0), x.put_number_right-behind_module.auto.out)
 
-two : (x : tie.After-put_place-behind_expected) → let e = x.before.before.before.before.before.before.before in (x.put_place-behind_expected.result ≡ e.args.at + 16) × (length x.put_place-behind_expected.new.0 ≡ length e.args.out.now)
+two : (x : tie.After-put_place-behind_expected) → let e = x.before.before.before.before.before.before.before in (x.put_place-behind_expected.result ≡ e.args.at + 16) × (length x.put_place-behind_expected.new.out ≡ length e.args.out.now)
 two x =
     let e = x.before.before.before.before.before.before.before in
     let b = one x.before.before.before.before in
     (omega (arith, x.put_place-behind_expected.ensures.next, place-eight e.args.expected e.requires.1, b.0), omega (arith, x.put_place-behind_expected.auto.out, b.1))
 
-three : (x : tie.After-put_place-behind_actual) → let e = x.before.before.before.before.before.before.before.before.before.before.before in (x.put_place-behind_actual.result ≡ e.args.at + 24) × (length x.put_place-behind_actual.new.0 ≡ length e.args.out.now)
+three : (x : tie.After-put_place-behind_actual) → let e = x.before.before.before.before.before.before.before.before.before.before.before in (x.put_place-behind_actual.result ≡ e.args.at + 24) × (length x.put_place-behind_actual.new.out ≡ length e.args.out.now)
 three x =
     let e = x.before.before.before.before.before.before.before.before.before.before.before in
     let b = two x.before.before.before.before in
     (omega (arith, x.put_place-behind_actual.ensures.next, place-eight e.args.actual e.requires.2, b.0), omega (arith, x.put_place-behind_actual.auto.out, b.1))
 
-four : (x : tie.After-put_shift-behind_shift) → let e = x.before.before.before.before.before.before.before.before.before.before.before.before.before.before.before in (x.put_shift-behind_shift.result ≡ e.args.at + 32) × (length x.put_shift-behind_shift.new.0 ≡ length e.args.out.now)
+four : (x : tie.After-put_shift-behind_shift) → let e = x.before.before.before.before.before.before.before.before.before.before.before.before.before.before.before in (x.put_shift-behind_shift.result ≡ e.args.at + 32) × (length x.put_shift-behind_shift.new.out ≡ length e.args.out.now)
 four x =
     let e = x.before.before.before.before.before.before.before.before.before.before.before.before.before.before.before in
     let b = three x.before.before.before.before in
     (omega (arith, x.put_shift-behind_shift.ensures.next, shift-eight e.args.expected e.args.actual e.requires.1 e.requires.2, b.0), omega (arith, x.put_shift-behind_shift.auto.out, b.1))
 
-five : (x : tie.After-put_spaces-behind_spaces) → let e = x.before.before.before.before.before.before.before.before.before.before.before.before.before.before.before.before.before.before.before in (x.put_spaces-behind_spaces.result ≡ e.args.at + 37) × (length x.put_spaces-behind_spaces.new.0 ≡ length e.args.out.now)
+five : (x : tie.After-put_spaces-behind_spaces) → let e = x.before.before.before.before.before.before.before.before.before.before.before.before.before.before.before.before.before.before.before in (x.put_spaces-behind_spaces.result ≡ e.args.at + 37) × (length x.put_spaces-behind_spaces.new.out ≡ length e.args.out.now)
 five x =
     let e = x.before.before.before.before.before.before.before.before.before.before.before.before.before.before.before.before.before.before.before in
     let b = four x.before.before.before.before in
     (omega (arith, x.put_spaces-behind_spaces.ensures.next, length-replicate {A = ℕ} 5 32, b.0), omega (arith, x.put_spaces-behind_spaces.auto.out, b.1))
 
-six : (x : tie.After-put_planned-behind_plan) → let e = x.before.before.before.before.before.before.before.before.before.before.before.before.before.before.before.before.before.before.before.before.before.before.before in (x.put_planned-behind_plan.result ≡ e.args.at + 40) × (length x.put_planned-behind_plan.new.0 ≡ length e.args.out.now)
+six : (x : tie.After-put_planned-behind_plan) → let e = x.before.before.before.before.before.before.before.before.before.before.before.before.before.before.before.before.before.before.before.before.before.before.before in (x.put_planned-behind_plan.result ≡ e.args.at + 40) × (length x.put_planned-behind_plan.new.out ≡ length e.args.out.now)
 six x =
     let e = x.before.before.before.before.before.before.before.before.before.before.before.before.before.before.before.before.before.before.before.before.before.before.before in
     let b = five x.before.before.before.before in

@@ -15,4 +15,4 @@ returns-2 : tie.Need-returns
 returns-2 c = put_as (ap (λ (b : Bool). cond b (bytes "yes") (bytes " no")) (sym c.if-planned.false)) c.put_bytes-2.ensures
 
 pub put_planned_spec : {M : Type 1} → statement M
-put_planned_spec = tie.close (tie.spec (λ c. search rules) (λ c κs. search rules) (λ c. search rules) returns (λ c. search rules) (λ c κs. search rules) (λ c. search rules) returns-2)
+put_planned_spec = tie.close (tie.spec (λ c κs. search rules) (λ c. search rules) returns (λ c κs. search rules) (λ c. search rules) returns-2)

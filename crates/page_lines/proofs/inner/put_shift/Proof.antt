@@ -32,10 +32,10 @@ module _ (x : tie.After-shift) where
   expected = start.args.expected - 1
 
   actual-in : actual < 4096
-  actual-in = omega (arith, start.requires.1, x.if-actual-eq0.left)
+  actual-in = omega (arith, start.requires.1, x.if-actual-eq0.false)
 
   expected-in : expected < 4096
-  expected-in = omega (arith, start.requires.0, x.if-expected-eq0.left)
+  expected-in = omega (arith, start.requires.0, x.if-expected-eq0.false)
 
   known : to_z w32 (of_z w32 x.shift.result) ≡ pos actual -ℤ pos expected
   known = ap (λ (z : ℤ). to_z w32 (of_z w32 z)) x.shift.ensures ∙ to_z-of_z w32 (pos actual -ℤ pos expected) (sub-fits actual expected actual-in expected-in)

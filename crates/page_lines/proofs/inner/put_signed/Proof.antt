@@ -38,14 +38,14 @@ put-byte-requires : tie.Need-put_byte-q-requires
 put-byte-requires c κs =
     let s = c.put_spaces-p in
     let k = c.number_len-k in
-    omega (arith, k.ensures, few c.before.before.before.before.before.before.before, s.ensures.next, s.auto.0, c.requires.1, length-replicate {A = ℕ} (7 - k.result) 32)
+    omega (arith, k.ensures, few c.before.before.before.before.before.before.before, s.ensures.next, s.auto.out, c.requires.1, length-replicate {A = ℕ} (7 - k.result) 32)
 
 put-number-requires : tie.Need-put_number-requires
 put-number-requires c κs =
     let s = c.put_spaces-p in
     let b = c.put_byte-q in
     let k = c.number_len-k in
-    omega (arith, k.ensures, few c.before.before.before.before.before.before.before.before.before.before.before, s.ensures.next, s.auto.0, b.ensures.next, b.auto.0, c.requires.1, length-replicate {A = ℕ} (7 - k.result) 32)
+    omega (arith, k.ensures, few c.before.before.before.before.before.before.before.before.before.before.before, s.ensures.next, s.auto.out, b.ensures.next, b.auto.out, c.requires.1, length-replicate {A = ℕ} (7 - k.result) 32)
 
 returns : tie.Need-returns-then-d-lt0
 returns c =

@@ -35,10 +35,10 @@ fits : (i : In) → (get_or i.args.marks.now (member i.before) 0 ≡ 0 → ⊥) 
 fits i h =
     let l = i.before in
     let a = l.args in
-    kept-room (has a.marks.now) a.order.now a.kept.now l.requires.1 l.loop-k.k l.loop-k.count l.loop-k.auto l.loop-k.invariant i.loop-k-test.true (has-yes a.marks.now (member l) h)
+    kept-room (has a.marks.now) a.order.now a.kept.now l.requires.1 l.loop-k.k l.loop-k.count l.loop-k.kept l.loop-k.invariant i.loop-k-test.true (has-yes a.marks.now (member l) h)
 
 size : (l : Loop) → length l.loop-k.kept ≡ length l.args.kept.now
-size l = let a = l.args in kept-size (has a.marks.now) a.order.now a.kept.now l.requires.room l.loop-k.k l.loop-k.count l.loop-k.kept l.loop-k.invariant
+size l = let a = l.args in kept-size (has a.marks.now) a.order.now a.kept.now l.requires.1 l.loop-k.k l.loop-k.count l.loop-k.kept l.loop-k.invariant
 
 loop-holds : tie.Need-loop-k-init invariant-loop decreases-loop
 loop-holds c = kept-start (has c.args.marks.now) c.args.order.now c.args.kept.now
@@ -69,7 +69,7 @@ loop-again c =
     let i = c.before.before.before in
     let l = i.before in
     let a = l.args in
-    kept_out (has a.marks.now) a.order.now a.kept.now l.requires.1 l.loop-k.k l.loop-k.count l.loop-k.auto l.loop-k.invariant i.loop-k-test.true (has-not a.marks.now (member l) c.if-marks-at-eq0.true)
+    kept_out (has a.marks.now) a.order.now a.kept.now l.requires.1 l.loop-k.k l.loop-k.count l.loop-k.kept l.loop-k.invariant i.loop-k-test.true (has-not a.marks.now (member l) c.if-marks-at-eq0.true)
 
 mul-kept : tie.Need-offset_bounds-kept-count invariant-loop decreases-loop
 mul-kept c = let i = c.before.before.before in omega (arith, fits i c.if-marks-at-eq0.false, size i.before)
@@ -91,7 +91,7 @@ loop-again-2 c =
     let i = c.before.before.before in
     let l = i.before in
     let a = l.args in
-    kept_in (has a.marks.now) a.order.now a.kept.now l.requires.1 l.loop-k.k l.loop-k.count l.loop-k.auto l.loop-k.invariant i.loop-k-test.true (has-yes a.marks.now (member l) c.if-marks-at-eq0.false)
+    kept_in (has a.marks.now) a.order.now a.kept.now l.requires.1 l.loop-k.k l.loop-k.count l.loop-k.kept l.loop-k.invariant i.loop-k-test.true (has-yes a.marks.now (member l) c.if-marks-at-eq0.false)
 
 same_length : tie.Need-shape_of-kept invariant-loop decreases-loop
 same_length c = size c.before
@@ -100,7 +100,7 @@ returns : tie.Need-returns invariant-loop decreases-loop
 returns c =
     let l = c.before in
     let a = l.args in
-    kept-end (has a.marks.now) a.order.now a.kept.now l.requires.1 l.loop-k.k l.loop-k.count l.loop-k.auto l.loop-k.invariant c.loop-k-test.false
+    kept-end (has a.marks.now) a.order.now a.kept.now l.requires.1 l.loop-k.k l.loop-k.count l.loop-k.kept l.loop-k.invariant c.loop-k-test.false
 
 pub keep_marked_spec : {M : Type 1} → statement M
 keep_marked_spec =

@@ -16,9 +16,9 @@ use Rattle.page_rows.proofs.inner.lay_out.Statement.{statement}
 use Rattle.page_rows.proofs.inner.lay_out.Tie as tie
 
 abbrev size : tie.Start → ℕ
-size e = length e.args.expected-places.now
+size e = length e.args.expected_places.now
 
-as_long : (e : tie.Start) → length e.args.actual-places.now ≡ size e
+as_long : (e : tie.Start) → length e.args.actual_places.now ≡ size e
 as_long e = ap length e.requires.1.0.1 ∙ length-replicate (size e) 0
 
 place-members-requires-2 : tie.Need-place_members-requires-2
@@ -28,21 +28,21 @@ place-members-requires-2 c κs =
 
 list-unplaced-requires : tie.Need-list_unplaced-requires
 list-unplaced-requires c κs =
-    let e = c.before.before.before.before.before.before.before.before.before.before.before.before.before.before.before in
-    let x = c.before.before.before.before.before.before.before.before in
-    let same : length x.place_members.new.1.0 ≡ size e = x.place_members.auto.places in (
+    let e = c in
+    let x = c in
+    let same : length x.place_members.new.places ≡ length e.args.expected_places.now = x.place_members.auto.places in (
       record { rows = subst (λ (n : ℕ). Below n e.args.actual.now) (sym same) e.requires.0.1.members; few = e.requires.0.1.few },
-      (omega (arith, same, e.requires.1.1.0), omega (arith, length-keep (unplaced x.place_members.new.1.0) e.args.actual.now, e.requires.1.1.1)),
+      (omega (arith, same, e.requires.1.1.0), omega (arith, length-keep (unplaced x.place_members.new.places) e.args.actual.now, e.requires.1.1.1)),
     )
 
 returns : tie.Need-returns
 returns c =
-    let e = c.before.before.before.before.before.before.before.before.before.before.before.before.before.before.before.before.before.before in
-    let x = c.before.before.before.before.before.before.before.before.before.before.before in
-    let same : length x.place_members.new.1.0 ≡ size e = x.place_members.auto.places in
+    let e = c in
+    let x = c in
+    let same : length x.place_members.new.places ≡ length e.args.expected_places.now = x.place_members.auto.places in
     let done = c.list_unplaced in
-    let is = unplaced-others e.args.actual.now (size e) e.requires.0.1.members e.args.expected.now x.place_members.new.1.0 same x.place_members.ensures in
-    let list : List ℕ = keep (unplaced x.place_members.new.1.0) e.args.actual.now in
+    let is = unplaced-others e.args.actual.now (length e.args.expected_places.now) e.requires.0.1.members e.args.expected.now x.place_members.new.places same x.place_members.ensures in
+    let list : List ℕ = keep (unplaced x.place_members.new.places) e.args.actual.now in
     record {
       expected_ranks = x.place_members.ensures;
       actual_ranks = c.place_members-2.ensures;

@@ -29,7 +29,7 @@ module _ (x : tie.After-mark_unplaced) where
   start = x.before.before.before.before.before
 
   abbrev made : List ℕ
-  made = x.mark_unplaced.last.1.0
+  made = x.mark_unplaced.new.marks
 
   marked : made ≡ marks_of (unplaced start.args.places.now) (size start)
   marked = x.mark_unplaced.ensures ∙ ap (marks_of (unplaced start.args.places.now)) (part start)
@@ -41,7 +41,7 @@ module _ (x : tie.After-mark_unplaced) where
   kept : keep (has (take (size start) (made ++ drop (size start) room))) start.args.order.now ≡ keep (unplaced start.args.places.now) start.args.order.now
   kept =
       ap (λ (s : List ℕ). keep (has s) start.args.order.now) (take_at made (drop (size start) room) (size start) made-length ∙ marked)
-      ∙ keep-unplaced start.args.order.now (size start) start.requires.members.rows start.args.places.now
+      ∙ keep-unplaced start.args.order.now (size start) start.requires.0.rows start.args.places.now
 
 slice-aggregate-mark-unplaced : tie.Need-slice_bounds-mark_unplaced-end
 slice-aggregate-mark-unplaced c = sym (part c.before.before.before.before)
@@ -59,14 +59,14 @@ keep-marked-requires : tie.Need-keep_marked-requires
 keep-marked-requires c κs =
     let x = c.before.before.before in
     let e = start x in
-    (subst (Members e.args.order.now) (sym (front_length (made x) _ _ (made-length x))) e.requires.members, omega (arith, ap length (kept x), e.requires.room))
+    (subst (Members e.args.order.now) (sym (front_length (made x) _ _ (made-length x))) e.requires.0, omega (arith, ap length (kept x), e.requires.1.1))
 
 returns : tie.Need-returns
 returns c =
     let x = c.before.before.before.before.before.before in
     let e = start x in
     let done = c.keep_marked in
-    subst (λ (xs : List ℕ). Listed xs e.args.kept.now done.new.1.1.0 done.result) (kept x) done.ensures
+    subst (λ (xs : List ℕ). Listed xs e.args.kept.now done.new.kept done.result) (kept x) done.ensures
 
 pub list_unplaced_spec : {M : Type 1} → statement M
 list_unplaced_spec =

@@ -18,7 +18,7 @@ put-laid-page-requires c κs = let e = c.before.before.before.before.before.befo
 returns : tie.Need-returns-then-whole
 returns c =
     let a = c.args in
-    put_as (ap (λ (b : Bool). cond b (page_with a.expected-places.now a.actual-places.now a.plan.now a.expected.now a.others.now) (numbered_with a.expected-places.now a.actual-places.now a.plan.now a.expected.now a.others.now a.number)) (sym c.if-whole.true))
+    put_as (ap (λ (b : Bool). cond b (page_with a.expected_places.now a.actual_places.now a.plan.now a.expected.now a.others.now) (numbered_with a.expected_places.now a.actual_places.now a.plan.now a.expected.now a.others.now a.number)) (sym c.if-whole.true))
     c.put_laid_page.ensures
 
 put-laid-line-requires : tie.Need-put_laid_line-requires
@@ -28,7 +28,7 @@ put-laid-line-requires c κs = let e = c.before.before.before.before.before.befo
 returns-2 : tie.Need-returns
 returns-2 c =
     let a = c.args in
-    put_as (ap (λ (b : Bool). cond b (page_with a.expected-places.now a.actual-places.now a.plan.now a.expected.now a.others.now) (numbered_with a.expected-places.now a.actual-places.now a.plan.now a.expected.now a.others.now a.number)) (sym c.if-whole.false))
+    put_as (ap (λ (b : Bool). cond b (page_with a.expected_places.now a.actual_places.now a.plan.now a.expected.now a.others.now) (numbered_with a.expected_places.now a.actual_places.now a.plan.now a.expected.now a.others.now a.number)) (sym c.if-whole.false))
     c.put_laid_line.ensures
 
 pub put_laid_spec : {M : Type 1} → statement M

@@ -15,7 +15,7 @@ put-row-requires c κs = let e = c.before.before.before.before.before.before.bef
 returns : tie.Need-returns-then-number-first
 returns c =
     let a = c.args in
-    put_as (sym (numbered-first (line_with a.expected-places.now a.actual-places.now a.plan.now) a.expected.now a.others.now a.number c.if-number-first.true))
+    put_as (sym (numbered-first (line_with a.expected_places.now a.actual_places.now a.plan.now) a.expected.now a.others.now a.number c.if-number-first.true))
     c.put_row.ensures
 
 put-row-requires-2 : tie.Need-put_row-requires-then-rest-others
@@ -24,13 +24,13 @@ put-row-requires-2 c κs = let e = c.before.before.before.before.before.before.b
 returns-2 : tie.Need-returns-then-rest-others
 returns-2 c =
     let a = c.args in
-    put_as (sym (numbered-rest (line_with a.expected-places.now a.actual-places.now a.plan.now) a.expected.now a.others.now a.number (omega (arith, c.if-number-first.false)) c.if-rest-others.true))
+    put_as (sym (numbered-rest (line_with a.expected_places.now a.actual_places.now a.plan.now) a.expected.now a.others.now a.number (omega (arith, c.if-number-first.false)) c.if-rest-others.true))
     c.put_row-then-rest-others.ensures
 
 returns-3 : tie.Need-returns
 returns-3 c =
     let a = c.args in
-    put_as (sym (numbered-past (line_with a.expected-places.now a.actual-places.now a.plan.now) a.expected.now a.others.now a.number (omega (arith, c.if-number-first.false)) (omega (arith, c.if-rest-others.false))))
+    put_as (sym (numbered-past (line_with a.expected_places.now a.actual_places.now a.plan.now) a.expected.now a.others.now a.number (omega (arith, c.if-number-first.false)) (omega (arith, c.if-rest-others.false))))
     (put-none a.out.now 0)
 
 pub put_laid_line_spec : {M : Type 1} → statement M

@@ -15,7 +15,7 @@ put-rows-requires-2 c κs =
     let e = c.before.before.before.before.before.before.before.before.before.before.before in
     let a = e.args in
     let d = c.put_rows-behind in
-    (e.requires.0, (e.requires.1.0.1, omega (arith, d.ensures.next, d.auto.1.1.1.1.0, all-length a.expected-places.now a.actual-places.now a.plan.now e.requires.0 a.expected.now e.requires.1.0.0, e.requires.1.1)))
+    (e.requires.0, (e.requires.1.0.1, omega (arith, d.ensures.next, d.auto.out, all-length a.expected_places.now a.actual_places.now a.plan.now e.requires.0 a.expected.now e.requires.1.0.0, e.requires.1.1)))
 
 returns : tie.Need-returns
 returns c = put_then c.put_rows-behind.ensures c.put_rows.ensures

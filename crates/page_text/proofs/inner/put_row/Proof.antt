@@ -22,7 +22,7 @@ unfolding line_with
 returns c =
     let a = c.args in
     put_as
-    (ap (λ (b : Bool). line_by a.m (get_or a.expected-places.now a.m 0) (get_or a.actual-places.now a.m 0) (not b)) (zero_test (get_or a.plan.now a.m 0)))
+    (ap (λ (b : Bool). line_by a.m (get_or a.expected_places.now a.m 0) (get_or a.actual_places.now a.m 0) (not b)) (zero_test (get_or a.plan.now a.m 0)))
     c.put_page_line.ensures
 
 pub put_row_spec : {M : Type 1} → statement M

@@ -23,7 +23,7 @@ decreases-loop rows expected-places actual-places plan out₀ at p₀ k₀ out p
 loop-holds : tie.Need-loop-k-init invariant-loop decreases-loop
 loop-holds c =
     let a = c.args in
-    (omega arith, put_as (sym (lines_none (line_with a.expected-places.now a.actual-places.now a.plan.now))) (put-none a.out.now a.at))
+    (omega arith, put_as (sym (lines_none (line_with a.expected_places.now a.actual_places.now a.plan.now))) (put-none a.out.now a.at))
 
 mul-put-row : tie.Need-offset_bounds-rows-k invariant-loop decreases-loop
 mul-put-row c = search rules
@@ -37,11 +37,11 @@ put-row-requires c κs =
     let a = e.args in
     let l = c.loop-k in
     let t = c.loop-k-test.true in
-    let m : length l.out ≡ length a.out.now = ap length l.invariant.1.put ∙ length-sets a.out.now a.at (flat_map (line_with a.expected-places.now a.actual-places.now a.plan.now) (take l.k a.rows.now)) in (
+    let m : length l.out ≡ length a.out.now = ap length l.invariant.1.put ∙ length-sets a.out.now a.at (flat_map (line_with a.expected_places.now a.actual_places.now a.plan.now) (take l.k a.rows.now)) in (
       e.requires.0,
       (
         e.requires.1.0 l.k t,
-        omega (arith, m, l.invariant.1.next, first-length a.expected-places.now a.actual-places.now a.plan.now e.requires.0 a.rows.now e.requires.1.0 l.k l.invariant.0, e.requires.1.1),
+        omega (arith, m, l.invariant.1.next, first-length a.expected_places.now a.actual_places.now a.plan.now e.requires.0 a.rows.now e.requires.1.0 l.k l.invariant.0, e.requires.1.1),
       ),
     )
 
@@ -56,19 +56,19 @@ loop-again c =
     let a = c.args in
     let l = c.loop-k in
     let t = c.loop-k-test.true in
-    (omega arith, put_as (lines_more (line_with a.expected-places.now a.actual-places.now a.plan.now) a.rows.now l.k t) (put_then l.invariant.1 c.put_row-p.ensures))
+    (omega arith, put_as (lines_more (line_with a.expected_places.now a.actual_places.now a.plan.now) a.rows.now l.k t) (put_then l.invariant.1 c.put_row-p.ensures))
 
 same_length : tie.Need-shape_of-out invariant-loop decreases-loop
 same_length c =
     let a = c.args in
     let l = c.loop-k in
-    ap length l.invariant.1.put ∙ length-sets a.out.now a.at (flat_map (line_with a.expected-places.now a.actual-places.now a.plan.now) (take l.k a.rows.now))
+    ap length l.invariant.1.put ∙ length-sets a.out.now a.at (flat_map (line_with a.expected_places.now a.actual_places.now a.plan.now) (take l.k a.rows.now))
 
 returns : tie.Need-returns invariant-loop decreases-loop
 returns c =
     let a = c.args in
     let l = c.loop-k in
-    put_as (lines-all (line_with a.expected-places.now a.actual-places.now a.plan.now) a.rows.now l.k c.loop-k-test.false) l.invariant.1
+    put_as (lines-all (line_with a.expected_places.now a.actual_places.now a.plan.now) a.rows.now l.k c.loop-k-test.false) l.invariant.1
 
 pub put_rows_spec : {M : Type 1} → statement M
 put_rows_spec =

@@ -22,13 +22,13 @@ module _ (x : tie.After-lay_out-count) where
   start = x.before.before.before.before.before.before.before.before
 
   abbrev ranks_e : List ℕ
-  ranks_e = x.lay_out-count.last.1.1.0
+  ranks_e = x.lay_out-count.new.expected_places
 
   abbrev ranks_a : List ℕ
-  ranks_a = x.lay_out-count.last.1.1.1.0
+  ranks_a = x.lay_out-count.new.actual_places
 
   abbrev held : List ℕ
-  held = x.lay_out-count.last.1.1.1.1.0
+  held = x.lay_out-count.new.others
 
   abbrev rest : List ℕ
   rest = drop (size start) fresh
@@ -71,15 +71,15 @@ put-laid-requires c κs =
     let x = c.before.before.before.before.before.before.before in
     let e = start x in
     let a = e.args in
-    let r = laid-ready a.expected.now a.actual.now a.plan.now (ranks_e x) (ranks_a x) (held x) x.lay_out-count.result e.requires.orders (size_e x) (size_a x) x.lay_out-count.ensures (rest x) (rest x) in
-    (r.0, (r.1, either_room a.whole _ _ _ (laid-room a.expected.now a.actual.now a.plan.now (ranks_e x) (ranks_a x) (held x) x.lay_out-count.result e.requires.orders (size_e x) (size_a x) x.lay_out-count.ensures (rest x) (rest x)) e.requires.room))
+    let r = laid-ready a.expected.now a.actual.now a.plan.now (ranks_e x) (ranks_a x) (held x) x.lay_out-count.result e.requires.0 (size_e x) (size_a x) x.lay_out-count.ensures (rest x) (rest x) in
+    (r.0, (r.1, either_room a.whole _ _ _ (laid-room a.expected.now a.actual.now a.plan.now (ranks_e x) (ranks_a x) (held x) x.lay_out-count.result e.requires.0 (size_e x) (size_a x) x.lay_out-count.ensures (rest x) (rest x)) e.requires.1))
 
 returns : tie.Need-returns
 returns c =
     let x = c.before.before.before.before.before.before.before.before.before.before in
     let e = start x in
     let a = e.args in
-    put_as (ap₂ (λ (p l : List ℕ). cond a.whole p l) (laid-page a.expected.now a.actual.now a.plan.now (ranks_e x) (ranks_a x) (held x) x.lay_out-count.result e.requires.orders (size_e x) (size_a x) x.lay_out-count.ensures (rest x) (rest x)) (laid-line a.expected.now a.actual.now a.plan.now (ranks_e x) (ranks_a x) (held x) x.lay_out-count.result e.requires.orders (size_e x) (size_a x) x.lay_out-count.ensures (rest x) (rest x) a.number))
+    put_as (ap₂ (λ (p l : List ℕ). cond a.whole p l) (laid-page a.expected.now a.actual.now a.plan.now (ranks_e x) (ranks_a x) (held x) x.lay_out-count.result e.requires.0 (size_e x) (size_a x) x.lay_out-count.ensures (rest x) (rest x)) (laid-line a.expected.now a.actual.now a.plan.now (ranks_e x) (ranks_a x) (held x) x.lay_out-count.result e.requires.0 (size_e x) (size_a x) x.lay_out-count.ensures (rest x) (rest x) a.number))
     c.put_laid.ensures
 
 pub put_text_spec : {M : Type 1} → statement M

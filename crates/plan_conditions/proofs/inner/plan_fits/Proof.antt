@@ -27,17 +27,17 @@ returns c = let a = c.args in sym (ap (λ (b : Bool). b && every small a.plan.no
 loop-holds : tie.Need-loop-m-init invariant-loop decreases-loop
 loop-holds c = (refl, omega arith, c.if-plan-n.false, λ i l. absurd (omega arith))
 
-returns-2 : tie.Need-returns-then-plan-m-gt1 invariant-loop decreases-loop
+returns-2 : tie.Need-returns-then-other invariant-loop decreases-loop
 returns-2 c =
     let a = c.args in
     let k = c.loop-m.m in
-    sym (and-out (eqb (length a.plan.now) a.n) (every small a.plan.now) (sym (row-fails small a.plan.now k c.loop-m-test.true (lt-leb (get_or a.plan.now k 0) 1 c.if-plan-m-gt1.true))))
+    sym (and-out (eqb (length a.plan.now) a.n) (every small a.plan.now) (sym (row-fails small a.plan.now k c.loop-m-test.true (lt-leb (get_or a.plan.now k 0) 1 c.if-other.true))))
 
 loop-again : tie.Need-loop-m-preserved invariant-loop decreases-loop
 loop-again c =
     let a = c.args in
     let l = c.before.before.before in
-    (refl, omega arith, l.loop-m.invariant.2, below_more (λ (i : ℕ). small (get_or a.plan.now i 0) ≡ true) _ l.loop-m.invariant.3 (le-leb (get_or a.plan.now l.loop-m.m 0) 1 c.if-plan-m-gt1.false))
+    (refl, omega arith, l.loop-m.invariant.2, below_more (λ (i : ℕ). small (get_or a.plan.now i 0) ≡ true) _ l.loop-m.invariant.3 (le-leb (get_or a.plan.now l.loop-m.m 0) 1 c.if-other.false))
 
 returns-3 : tie.Need-returns invariant-loop decreases-loop
 returns-3 c =

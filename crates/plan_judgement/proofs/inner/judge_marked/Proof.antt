@@ -41,7 +41,7 @@ abbrev entry : tie.After-list_table_roots-count → tie.Start
 entry k = k.before.before.before.before.before.before.before.before.before.before.before.before.before.before
 
 abbrev list : tie.After-list_table_roots-count → List ℕ
-list k = take k.list_table_roots-count.result k.list_table_roots-count.new.1.1.1.1.1.1.1.1.1.0
+list k = take k.list_table_roots-count.result k.list_table_roots-count.new.list
 
 basis : (k : tie.After-list_table_roots-count) → SuffixBasis (of (entry k)) (list k) (entry k).args.sensitive.now (entry k).args.eligible.now
 basis k =
@@ -61,30 +61,30 @@ module _ (k : tie.After-lacking_seed-seed) where
   start1 = k.before.before.before.before.before.before.before.before.before.before.before.before.before.before.before.before.before.before
 
   abbrev array1 : List ℕ
-  array1 = k.lacking_seed-seed.last.1.1.1.0 ++ drop (size start1) array0
+  array1 = k.lacking_seed-seed.new.copy ++ drop (size start1) array0
 
   size1 : length array1 ≡ 4096
-  size1 = back-size array0 4096 (size start1) (few start1) size0 k.lacking_seed-seed.last.1.1.1.0 k.lacking_seed-seed.auto.copy
+  size1 = back-size array0 4096 (size start1) (few start1) size0 k.lacking_seed-seed.new.copy k.lacking_seed-seed.auto.copy
 
 module _ (k : tie.After-lacking_suffix-suffix) where
   abbrev seeded : tie.After-lacking_seed-seed
   seeded = k.before.before.before.before
 
   abbrev array2 : List ℕ
-  array2 = k.lacking_suffix-suffix.last.1.1.1.1.1.1.1.1.1.1.1.1.1.0 ++ drop (size (start1 seeded)) (array1 seeded)
+  array2 = k.lacking_suffix-suffix.new.copy ++ drop (size (start1 seeded)) (array1 seeded)
 
   size2 : length array2 ≡ 4096
-  size2 = back-size (array1 seeded) 4096 (size (start1 seeded)) (few (start1 seeded)) (size1 seeded) k.lacking_suffix-suffix.last.1.1.1.1.1.1.1.1.1.1.1.1.1.0 k.lacking_suffix-suffix.auto.copy
+  size2 = back-size (array1 seeded) 4096 (size (start1 seeded)) (few (start1 seeded)) (size1 seeded) k.lacking_suffix-suffix.new.copy k.lacking_suffix-suffix.auto.copy
 
 module _ (k : tie.After-lacking_member-member) where
   abbrev suffixed : tie.After-lacking_suffix-suffix
   suffixed = k.before.before.before
 
   abbrev array3 : List ℕ
-  array3 = k.lacking_member-member.last.1.1.1.1.1.1.1.1.1.1.1.1.1.0 ++ drop (size (start1 (seeded suffixed))) (array2 suffixed)
+  array3 = k.lacking_member-member.new.copy ++ drop (size (start1 (seeded suffixed))) (array2 suffixed)
 
   size3 : length array3 ≡ 4096
-  size3 = back-size (array2 suffixed) 4096 (size (start1 (seeded suffixed))) (few (start1 (seeded suffixed))) (size2 suffixed) k.lacking_member-member.last.1.1.1.1.1.1.1.1.1.1.1.1.1.0 k.lacking_member-member.auto.copy
+  size3 = back-size (array2 suffixed) 4096 (size (start1 (seeded suffixed))) (few (start1 (seeded suffixed))) (size2 suffixed) k.lacking_member-member.new.copy k.lacking_member-member.auto.copy
 
 list-table-roots-requires : tie.Need-list_table_roots-count-requires
 list-table-roots-requires c κs = record { accepted = c.requires.1.accepted; fits = omega arith }

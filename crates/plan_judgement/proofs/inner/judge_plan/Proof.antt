@@ -40,17 +40,17 @@ few-chunks k = omega (arith, counted k, (entry k).requires.accepted.sizes.order)
 
 -- labels and marks
 
-labels-lent : (k : tie.After-label_table) → Lent 1024 (count k.before.before) k.label_table.new.1.1.1.1.1.1.1.1.1.0
+labels-lent : (k : tie.After-label_table) → Lent 1024 (count k.before.before) k.label_table.new.labels
 labels-lent k = record { fits = few-chunks k.before.before; kept = k.label_table.auto.labels }
 
-sensitives-lent : (k : tie.After-mark_table_sensitive) → Lent 4096 (size k.before.before.before.before.before.before.before.before.before.before.before.before.before.before.before) k.mark_table_sensitive.new.1.1.1.1.1.1.1.1.1.0
+sensitives-lent : (k : tie.After-mark_table_sensitive) → Lent 4096 (size k.before.before.before.before.before.before.before.before.before.before.before.before.before.before.before) k.mark_table_sensitive.new.marks
 sensitives-lent k = record { fits = few k.before.before.before.before.before.before.before.before.before.before.before.before.before.before.before; kept = k.mark_table_sensitive.auto.marks }
 
-eligibles-lent : (k : tie.After-mark_table_eligible) → Lent 4096 (size k.before.before.before.before.before.before.before.before.before.before.before.before.before.before.before.before.before.before) k.mark_table_eligible.new.1.1.1.1.1.1.1.1.1.0
+eligibles-lent : (k : tie.After-mark_table_eligible) → Lent 4096 (size k.before.before.before.before.before.before.before.before.before.before.before.before.before.before.before.before.before.before) k.mark_table_eligible.new.marks
 eligibles-lent k = record { fits = few k.before.before.before.before.before.before.before.before.before.before.before.before.before.before.before.before.before.before; kept = k.mark_table_eligible.auto.marks }
 
 basis : (k : tie.After-mark_table_eligible) → let e = k.before.before.before.before.before.before.before.before.before.before.before.before.before.before.before.before.before.before in let s = k.before.before.before in let l = k.before.before.before.before.before.before in
-    Basis (of e) (view 1024 (count l.before.before) l.label_table.new.1.1.1.1.1.1.1.1.1.0) (view 4096 (size e) s.mark_table_sensitive.new.1.1.1.1.1.1.1.1.1.0) (view 4096 (size e) k.mark_table_eligible.new.1.1.1.1.1.1.1.1.1.0)
+    Basis (of e) (view 1024 (count l.before.before) l.label_table.new.labels) (view 4096 (size e) s.mark_table_sensitive.new.marks) (view 4096 (size e) k.mark_table_eligible.new.marks)
 basis k =
     let s = k.before.before.before in
     let l = k.before.before.before.before.before.before in

@@ -51,25 +51,25 @@ module _ (k : tie.After-list_edges-edges) where
   count = k.list_edges-edges.result
 
   abbrev importers : List ℕ
-  importers = take count k.list_edges-edges.last.1.1.1.1.1.1.1.1.1.0
+  importers = take count k.list_edges-edges.new.from
 
   abbrev targets : List ℕ
-  targets = take count k.list_edges-edges.last.1.1.1.1.1.1.1.1.1.1.0
+  targets = take count k.list_edges-edges.new.to
 
   few-edges : count ≤ 16384
   few-edges = omega (arith, k.list_edges-edges.ensures.few, (ok entry).sizes.record_module)
 
-  importers-room : count ≤ length k.list_edges-edges.last.1.1.1.1.1.1.1.1.1.0
+  importers-room : count ≤ length k.list_edges-edges.new.from
   importers-room = omega (arith, few-edges, k.list_edges-edges.auto.from)
 
-  targets-room : count ≤ length k.list_edges-edges.last.1.1.1.1.1.1.1.1.1.1.0
+  targets-room : count ≤ length k.list_edges-edges.new.to
   targets-room = omega (arith, few-edges, k.list_edges-edges.auto.to)
 
   importers-length : length importers ≡ count
-  importers-length = length-take-le count k.list_edges-edges.last.1.1.1.1.1.1.1.1.1.0 importers-room
+  importers-length = length-take-le count k.list_edges-edges.new.from importers-room
 
   targets-length : length targets ≡ count
-  targets-length = length-take-le count k.list_edges-edges.last.1.1.1.1.1.1.1.1.1.1.0 targets-room
+  targets-length = length-take-le count k.list_edges-edges.new.to targets-room
 
   edges : EdgesOf (of entry) importers targets (length importers)
   edges = subst (EdgesOf (of entry) importers targets) (sym importers-length) (edges-part (of entry).record_module (record_targets (of entry)) k.list_edges-edges.ensures)
@@ -82,7 +82,7 @@ abbrev written : tie.After-choose_candidates → tie.After-list_edges-edges
 written k = k.before.before.before.before.before.before
 
 abbrev candidates : tie.After-choose_candidates → List ℕ
-candidates k = k.choose_candidates.new.1.1.1.1.1.1.1.1.1.1.1.1.1.0
+candidates k = k.choose_candidates.new.candidates
 
 lent : (k : tie.After-choose_candidates) → Lent 4096 (size (entry (written k))) (candidates k)
 lent k = record { fits = few (entry (written k)); kept = k.choose_candidates.auto.candidates }
@@ -95,10 +95,10 @@ abbrev start : tie.After-thread → tie.Start
 start k = entry (written (chosen k))
 
 abbrev heads : tie.After-thread → List ℕ
-heads k = k.thread.new.1.0
+heads k = k.thread.new.heads
 
 abbrev nexts : tie.After-thread → List ℕ
-nexts k = k.thread.new.1.1.0
+nexts k = k.thread.new.nexts
 
 heads-lent : (k : tie.After-thread) → Lent 4096 (size (start k)) (heads k)
 heads-lent k = record { fits = few (start k); kept = k.thread.auto.heads }

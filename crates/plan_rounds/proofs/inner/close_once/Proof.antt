@@ -35,15 +35,15 @@ candidate e = let g = e.requires.0.suffix_sets in record { accepted = g.accepted
 
 -- the plan after each pass
 
-marked1 : (k : tie.After-pass_suffixes-suffixes) → Marked (of (entry k)) k.pass_suffixes-suffixes.new.1.1.1.1.1.1.1.1.1.1.1.1.1.1.0
+marked1 : (k : tie.After-pass_suffixes-suffixes) → Marked (of (entry k)) k.pass_suffixes-suffixes.new.plan
 marked1 k = marked_more (entry k).requires.1.marked k.pass_suffixes-suffixes.ensures.passed
 
-marked2 : (k : tie.After-pass_members-cyclic) → Marked (of (entry (first k))) k.pass_members-cyclic.new.1.1.1.1.1.1.1.1.1.1.1.1.0
+marked2 : (k : tie.After-pass_members-cyclic) → Marked (of (entry (first k))) k.pass_members-cyclic.new.plan
 marked2 k = marked_more (marked1 (first k)) (rule-passed (of (entry (first k))) component_rule (marked1 (first k)).bits k.pass_members-cyclic.ensures)
 
 -- the four passes together
 done : (k : tie.After-pass_readers-readers) → let three = third k in let two = second three in let one = first two in let e = entry one in
-    Once (of e) e.args.plan.now one.pass_suffixes-suffixes.last.1.1.1.1.1.1.1.1.1.1.1.1.1.0 three.pass_importers-imports.last.1.1.1.1.1.1.1.1.1.1.1.1.1.1.0 k.pass_readers-readers.new.1.1.1.1.1.1.1.1.1.1.0 (one.pass_suffixes-suffixes.result || (two.pass_members-cyclic.result || (three.pass_importers-imports.result || k.pass_readers-readers.result)))
+    Once (of e) e.args.plan.now one.pass_suffixes-suffixes.new.settled three.pass_importers-imports.new.leads k.pass_readers-readers.new.plan (one.pass_suffixes-suffixes.result || (two.pass_members-cyclic.result || (three.pass_importers-imports.result || k.pass_readers-readers.result)))
 done k =
     let three = third k in
     let two = second three in
@@ -51,7 +51,7 @@ done k =
     once (entry one).requires.1 one.pass_suffixes-suffixes.auto.settled one.pass_suffixes-suffixes.ensures two.pass_members-cyclic.ensures three.pass_importers-imports.ensures k.pass_readers-readers.ensures
 
 pass-suffixes-requires : tie.Need-pass_suffixes-suffixes-requires
-pass-suffixes-requires c κs = let e = c.before.before.before.before.before.before.before.before.before.before.before.before.before.before.before.before.before.before.before.before.before in (e.requires.0.suffix_sets, (e.requires.1.marked, e.requires.1.settling))
+pass-suffixes-requires c κs = let e = c in (e.requires.0.suffix_sets, (e.requires.1.marked, e.requires.1.settling))
 
 pass-members-requires : tie.Need-pass_members-cyclic-requires
 pass-members-requires c κs =

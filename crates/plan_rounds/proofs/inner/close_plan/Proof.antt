@@ -18,11 +18,11 @@ abbrev decreases-loop : tie.decreases-loop-more
 decreases-loop runtime dynamic bounds columns importers kinds targets dependencies members labels roots sensitive eligible candidates from to heads nexts settled₀ leads₀ plan₀ more₀ settled leads plan more = zeros plan + bit more
 
 loop-holds : tie.Need-loop-more-init invariant-loop decreases-loop
-loop-holds c = (refl, refl, refl, let e = c.before.before.before.before.before.before.before.before.before.before.before.before.before.before.before.before.before.before.before in record { kept = e.requires.1; spread = spread-start _ e.args.plan.now e.requires.1.marked.bits })
+loop-holds c = (refl, refl, refl, let e = c in record { kept = e.requires.1; spread = spread-start _ e.args.plan.now e.requires.1.marked.bits })
 
 close-once-requires : tie.Need-close_once-changed-requires invariant-loop decreases-loop
 close-once-requires c κs =
-    let l = c.before.before.before.before in
+    let l = c in
     (l.requires.0, l.loop-more.invariant.3.kept)
 
 loop-less : tie.Need-loop-more-smaller invariant-loop decreases-loop
@@ -53,7 +53,7 @@ same-length-3 c = c.loop-more.invariant.2
 returns : tie.Need-returns invariant-loop decreases-loop
 returns c =
     let l = c.before in
-    let e = l.before.before.before.before.before.before.before.before.before.before.before.before.before.before.before.before.before.before.before.before in
+    let e = l in
     let a = e.args in
     turning-end e.requires.1.marked.bits (subst (Turning (read (table a.runtime a.dynamic a.bounds.now a.columns.now) a.importers.now a.kinds.now a.targets.now a.dependencies.now a.members.now) l.loop-more.settled l.loop-more.leads e.args.plan.now l.loop-more.plan) c.loop-more-test.false l.loop-more.invariant.3)
 

@@ -31,7 +31,7 @@ entry k = k.before.before.before.before.before.before.before.before.before.befor
 
 -- the members that were made
 abbrev made : tie.After-read_members → List ℕ
-made k = k.read_members.new.1.1.1.1.1.1.1.1.1.1.0
+made k = k.read_members.new.out
 
 array-borrow-prefix-arranged : tie.Need-slice_bounds-arranged-end
 array-borrow-prefix-arranged c = let e = c.before.before.before.before.before.before.before.before.before.before.before in members.members-room (w e) e.args.importers.now e.args.kinds.now e.args.targets.now e.args.dependencies.now e.args.members.now e.args.names.now (ok e)
@@ -64,8 +64,8 @@ returns : tie.Need-returns
 returns c =
     let e = c.before.before.before.before.before.before.before.before.before.before.before.before.before.before.before.before.before.before.before.before.before.before in
     let done = c.list_planned in
-    let order : List ℕ = done.new.1.1.1.1.1.1.1.1.1.1.0 in
-    let noted : List ℕ = done.new.1.1.1.1.1.1.1.1.1.1.1.0 in
+    let order : List ℕ = done.new.order in
+    let noted : List ℕ = done.new.noted in
     subst (λ (p : Project). Listed (planned_run p e.args.plan.now e.args.root) e.args.order.now order noted done.result) (own c.before.before.before.before.before.before.before.before.before) done.ensures
 
 pub list_arranged_spec : {M : Type 1} → statement M

@@ -39,7 +39,7 @@ own k = k.column.ensures
 -- the wraps that are made, at the front of the array
 
 abbrev made : tie.After-read_as_two → List ℕ
-made x = x.read_as_two.new.1.1.0
+made x = x.read_as_two.new.out
 
 made-length : (x : tie.After-read_as_two) → length (made x) ≡ size x.before
 made-length x = x.read_as_two.auto.out ∙ part x.before
@@ -65,7 +65,7 @@ returns c =
     let k = c.before.before.before.before.before.before.before in
     let e = c.before.before.before.before.before.before.before.before.before.before.before.before.before.before.before.before.before.before in
     let call = c.before.before in
-    subst (λ (wraps : List ℕ). PreparedAs (of e) wraps call.prepare_wrapped.new.1.1.1.1.1.1.1.1.1.1.0)
+    subst (λ (wraps : List ℕ). PreparedAs (of e) wraps call.prepare_wrapped.new.prepared)
     (take_at (made x) _ (size k) (made-length x) ∙ x.read_as_two.ensures ∙ ap (read_as_two e.args.plan.now) (own k))
     call.prepare_wrapped.ensures
 

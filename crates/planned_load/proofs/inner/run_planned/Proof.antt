@@ -48,10 +48,10 @@ module _ (x : tie.After-list_arranged-count) where
   count = x.list_arranged-count.result
 
   abbrev steps : List ℕ
-  steps = x.list_arranged-count.last.1.1.1.1.1.1.1.1.1.1.1.0
+  steps = x.list_arranged-count.new.order
 
   abbrev noted : List ℕ
-  noted = x.list_arranged-count.last.1.1.1.1.1.1.1.1.1.1.1.1.0
+  noted = x.list_arranged-count.new.noted
 
   noted-length : length noted ≡ size x.before
   noted-length = x.list_arranged-count.auto.noted ∙ part x.before
@@ -74,17 +74,17 @@ slice-reshare-prefix-name-hosts : tie.Need-slice_bounds-name_hosts-end
 slice-reshare-prefix-name-hosts c = there c.before.before.before
 
 slice-aggregate-name-hosts : tie.Need-slice_bounds-name_hosts-end-2
-slice-aggregate-name-hosts c = let x = c.before.before.before.before in sym (length-take-le (count x) (steps x) (there x))
+slice-aggregate-name-hosts c = let x = c.before.before.before in sym (length-take-le (count x) (steps x) (there x))
 
 array-share-prefix-noted : tie.Need-slice_bounds-noted-end-2
-array-share-prefix-noted c = let x = c.before.before.before.before in front-room (noted x) _ _ (noted-length x)
+array-share-prefix-noted c = let x = c.before.before.before in front-room (noted x) _ _ (noted-length x)
 
 slice-aggregate-name-hosts-2 : tie.Need-slice_bounds-name_hosts-end-3
-slice-aggregate-name-hosts-2 c = let x = c.before.before.before.before.before in sym (front_length (noted x) _ _ (noted-length x))
+slice-aggregate-name-hosts-2 c = let x = c.before.before.before.before in sym (front_length (noted x) _ _ (noted-length x))
 
 name-hosts-requires : tie.Need-name_hosts-requires
 name-hosts-requires c κs =
-    let x = c.before.before.before.before.before.before in
+    let x = c.before.before.before.before.before in
     let e = start x in
     let w = x.list_arranged-count.ensures in (
       held_below (of e) e.args.plan.now e.args.root w _ (front_length (noted x) _ _ (noted-length x) ∙ sized e),
@@ -93,7 +93,7 @@ name-hosts-requires c κs =
 
 returns : tie.Need-returns
 returns c =
-    let x = c.before.before.before.before.before.before.before.before.before in
+    let x = c.before.before.before.before.before.before.before.before in
     let e = start x in
     hosts-written (of e) e.args.plan.now e.args.root x.list_arranged-count.ensures (take_at (noted x) _ (size x.before) (noted-length x)) c.name_hosts.ensures
 

@@ -46,10 +46,10 @@ part k = length-take-le (size k) room (few (entry k))
 -- what is listed, and the noted hosts at the front of the array
 module _ (x : tie.After-list_arranged-count) where
   abbrev order : List ℕ
-  order = x.list_arranged-count.new.1.1.1.1.1.1.1.1.1.1.1.0
+  order = x.list_arranged-count.new.order
 
   abbrev noted : List ℕ
-  noted = x.list_arranged-count.last.1.1.1.1.1.1.1.1.1.1.1.1.0
+  noted = x.list_arranged-count.new.noted
 
   noted-length : length noted ≡ size x.before
   noted-length = x.list_arranged-count.auto.noted ∙ part x.before

@@ -51,7 +51,7 @@ returns c =
     let k = call.before.before in
     let e = entry k in
     let a = e.args in
-    let candidates : List ℕ = call.mark_candidates.new.1.1.1.1.1.0 in
+    let candidates : List ℕ = call.mark_candidates.new.candidates in
     candidates-made (of e) a.from.now a.to.now a.roots.now a.eligible.now a.candidates.now candidates e.requires
     (given1 (λ included. Chosen included a.roots.now a.from.now a.to.now a.eligible.now a.candidates.now candidates) k.column.ensures call.mark_candidates.ensures)
 

@@ -22,14 +22,14 @@ abbrev Loop : Type 0
 Loop = tie.At-loop-row invariant-loop decreases-loop
 
 few : (l : Loop) → l.loop-row.count ≤ l.loop-row.row
-few l = let a = l.args in omega (arith, l.loop-row.invariant.3.counted, roots_few a.included.now a.entry.now a.entry-chunk.now l.loop-row.row)
+few l = let a = l.args in omega (arith, l.loop-row.invariant.3.counted, roots_few a.included.now a.entry.now a.entry_chunk.now l.loop-row.row)
 
-pass : (l : Loop) → let a = l.args in is_root a.included.now a.entry.now a.entry-chunk.now l.loop-row.row ≡ mathlib.Core.Bool.false
-    → Listing a.included.now a.entry.now a.entry-chunk.now a.roots.now (l.loop-row.row + 1) l.loop-row.roots l.loop-row.count
-pass l = let a = l.args in listing-pass a.included.now a.entry.now a.entry-chunk.now a.roots.now l.loop-row.row l.loop-row.roots l.loop-row.count l.loop-row.invariant.3
+pass : (l : Loop) → let a = l.args in is_root a.included.now a.entry.now a.entry_chunk.now l.loop-row.row ≡ mathlib.Core.Bool.false
+    → Listing a.included.now a.entry.now a.entry_chunk.now a.roots.now (l.loop-row.row + 1) l.loop-row.roots l.loop-row.count
+pass l = let a = l.args in listing-pass a.included.now a.entry.now a.entry_chunk.now a.roots.now l.loop-row.row l.loop-row.roots l.loop-row.count l.loop-row.invariant.3
 
 loop-holds : tie.Need-loop-row-init invariant-loop decreases-loop
-loop-holds c = (refl, omega arith, refl, listing_start c.args.included.now c.args.entry.now c.args.entry-chunk.now c.args.roots.now)
+loop-holds c = (refl, omega arith, refl, listing_start c.args.included.now c.args.entry.now c.args.entry_chunk.now c.args.roots.now)
 
 mul-if1 : tie.Need-offset_bounds-entry_chunk-row invariant-loop decreases-loop
 mul-if1 c = search rules
@@ -48,7 +48,7 @@ loop-again c =
     let l = c.before.before.before in
     let a = l.args in
     let row = l.loop-row.row in
-    (refl, omega arith, l.loop-row.invariant.2, pass l (and-out (flagged a.included.now (get_or a.entry.now row 0)) (not (eqb (get_or a.entry-chunk.now row 0) missing)) (ap not (eq-eqb (get_or a.entry-chunk.now row 0) missing c.if-entry_chunk-row.true))))
+    (refl, omega arith, l.loop-row.invariant.2, pass l (and-out (flagged a.included.now (get_or a.entry.now row 0)) (not (eqb (get_or a.entry_chunk.now row 0) missing)) (ap not (eq-eqb (get_or a.entry_chunk.now row 0) missing c.if-entry_chunk-row.true))))
 
 mul-m : tie.Need-offset_bounds-entry-row invariant-loop decreases-loop
 mul-m c = search rules
@@ -76,7 +76,7 @@ loop-again-2 c =
     let l = c.before.before.before.before.before.before in
     let a = l.args in
     let row = l.loop-row.row in
-    (refl, omega arith, l.loop-row.invariant.2, pass l (ap (λ (b : Bool). b && not (eqb (get_or a.entry-chunk.now row 0) missing)) (ne_eqb (get_or a.included.now (get_or a.entry.now row 0) 0) 1 c.if-included-m-ne1.true)))
+    (refl, omega arith, l.loop-row.invariant.2, pass l (ap (λ (b : Bool). b && not (eqb (get_or a.entry_chunk.now row 0) missing)) (ne_eqb (get_or a.included.now (get_or a.entry.now row 0) 0) 1 c.if-included-m-ne1.true)))
 
 mul-roots : tie.Need-offset_bounds-roots-count invariant-loop decreases-loop
 mul-roots c = let l = c.before.before.before.before.before.before in omega (arith, few l, c.loop-row-test.true, l.requires.1.1, l.well_formed)
@@ -101,8 +101,8 @@ loop-again-3 c =
       refl,
       omega arith,
       lib.ListN.length-set l.loop-row.roots l.loop-row.count (get_or a.entry.now row 0) ∙ l.loop-row.invariant.2,
-      listing-put a.included.now a.entry.now a.entry-chunk.now a.roots.now row l.loop-row.roots l.loop-row.count l.loop-row.invariant.3
-          (and-join (flagged a.included.now (get_or a.entry.now row 0)) (not (eqb (get_or a.entry-chunk.now row 0) missing)) (eq-eqb (get_or a.included.now (get_or a.entry.now row 0) 0) 1 c.if-included-m-ne1.false) (ap not (ne_eqb (get_or a.entry-chunk.now row 0) missing c.if-entry_chunk-row.false)))
+      listing-put a.included.now a.entry.now a.entry_chunk.now a.roots.now row l.loop-row.roots l.loop-row.count l.loop-row.invariant.3
+          (and-join (flagged a.included.now (get_or a.entry.now row 0)) (not (eqb (get_or a.entry_chunk.now row 0) missing)) (eq-eqb (get_or a.included.now (get_or a.entry.now row 0) 0) 1 c.if-included-m-ne1.false) (ap not (ne_eqb (get_or a.entry_chunk.now row 0) missing c.if-entry_chunk-row.false)))
           (omega (arith, c.loop-row-test.true, l.requires.1.1)),
     )
 
@@ -113,7 +113,7 @@ returns : tie.Need-returns invariant-loop decreases-loop
 returns c =
     let l = c.before in
     let a = l.args in
-    listing-end a.included.now a.entry.now a.entry-chunk.now a.roots.now l.loop-row.row l.loop-row.roots l.loop-row.count l.loop-row.invariant.3 (omega (arith, c.loop-row-test.false, l.loop-row.invariant.0, l.loop-row.invariant.1))
+    listing-end a.included.now a.entry.now a.entry_chunk.now a.roots.now l.loop-row.row l.loop-row.roots l.loop-row.count l.loop-row.invariant.3 (omega (arith, c.loop-row-test.false, l.loop-row.invariant.0, l.loop-row.invariant.1))
 
 pub list_roots_spec : {M : Type 1} → statement M
 list_roots_spec =

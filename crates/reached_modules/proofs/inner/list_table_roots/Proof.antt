@@ -41,8 +41,8 @@ returns c =
     let k = call.before.before in
     let e = entry k in
     let done = call.list_roots in
-    given1 (λ list. Written list e.args.list.now done.new.1.1.1.0 done.result) (roots-over (of e))
-    (given3 (λ included entries entry_chunks. Written (roots_over included entries entry_chunks) e.args.list.now done.new.1.1.1.0 done.result) k.column.ensures k.column-2.ensures k.column-3.ensures done.ensures)
+    given1 (λ list. Written list e.args.list.now done.new.roots done.result) (roots-over (of e))
+    (given3 (λ included entries entry_chunks. Written (roots_over included entries entry_chunks) e.args.list.now done.new.roots done.result) k.column.ensures k.column-2.ensures k.column-3.ensures done.ensures)
 
 pub list_table_roots_spec : {M : Type 1} → statement M
 list_table_roots_spec =

@@ -19,7 +19,7 @@ abbrev entry : tie.After-source_reachable_modules → tie.Start
 entry k = k.before.before.before.before.before.before.before.before
 
 abbrev marks : tie.After-source_reachable_modules → List ℕ
-marks k = k.source_reachable_modules.new.1.1.1.1.0
+marks k = k.source_reachable_modules.new.reached
 
 lent : (k : tie.After-source_reachable_modules) → Lent 4096 (size (entry k)) (marks k)
 lent k = record { fits = (entry k).requires.0.few; kept = k.source_reachable_modules.auto.reached }
@@ -43,7 +43,7 @@ slice-aggregate-add : tie.Need-slice_bounds-add-end
 slice-aggregate-add c = sym (view-length (lent c.before.before))
 
 add-requires : tie.Need-add-requires
-add-requires c κs = let k = c.before.before.before in let e = entry k in let m = e.requires.modules in (view-length (lent k), (m, m))
+add-requires c κs = let k = c.before.before.before in let e = entry k in let m = e.requires.1.1.1.0 in (view-length (lent k), (m, m))
 
 same_length : tie.Need-shape_of-candidates
 same_length c = search rules
@@ -54,16 +54,16 @@ returns c =
     let e = entry k in
     let a = e.args in
     let o = c.add in
-    let added : Added (InAll (marks k) a.eligible.now a.eligible.now) a.candidates.now o.new.1.1.1.0 o.result =
-    subst (λ (s : List ℕ). Added (InAll s a.eligible.now a.eligible.now) a.candidates.now o.new.1.1.1.0 o.result) (view-is (lent k)) o.ensures
+    let added : Added (InAll (marks k) a.eligible.now a.eligible.now) a.candidates.now o.new.set o.result =
+    subst (λ (s : List ℕ). Added (InAll s a.eligible.now a.eligible.now) a.candidates.now o.new.set o.result) (view-is (lent k)) o.ensures
     in
     record {
       reached_set = marks k;
-      reaching = subst (λ (n : ℕ). Reaching a.included.now a.roots.now a.importers.now a.targets.now n (marks k)) (part_length 4096 (size e) e.requires.edges.few) k.source_reachable_modules.ensures;
+      reaching = subst (λ (n : ℕ). Reaching a.included.now a.roots.now a.importers.now a.targets.now n (marks k)) (part_length 4096 (size e) e.requires.0.few) k.source_reachable_modules.ensures;
       len = added.len;
       bits = added.bits;
       all = λ m l h g. added.all m l (h, g, g);
-      only = λ m h. ⊎_elim (λ q. absurd (e.requires.none m q)) (λ q. (q.0, q.1)) (added.only m h);
+      only = λ m h. ⊎_elim (λ q. absurd (e.requires.1.1.1.1 m q)) (λ q. (q.0, q.1)) (added.only m h);
     }
 
 pub mark_candidates_spec : {M : Type 1} → statement M

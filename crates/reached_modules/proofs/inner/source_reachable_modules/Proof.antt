@@ -25,7 +25,7 @@ abbrev marked : tie.After-mark_owners → tie.Start
 marked k = k.before.before.before.before.before.before.before
 
 abbrev start : tie.After-mark_owners → List ℕ
-start k = k.mark_owners.new.1.1.1.0
+start k = k.mark_owners.new.marks
 
 start-lent : (k : tie.After-mark_owners) → Lent 4096 (size (marked k)) (start k)
 start-lent k = record { fits = (marked k).requires.0.few; kept = k.mark_owners.auto.marks }
@@ -35,10 +35,10 @@ abbrev threaded : tie.After-thread → tie.Start
 threaded k = k.before.before.before.before.before.before.before.before.before.before.before
 
 abbrev heads : tie.After-thread → List ℕ
-heads k = k.thread.new.1.0
+heads k = k.thread.new.heads
 
 abbrev nexts : tie.After-thread → List ℕ
-nexts k = k.thread.new.1.1.0
+nexts k = k.thread.new.nexts
 
 heads-lent : (k : tie.After-thread) → Lent 4096 (size (threaded k)) (heads k)
 heads-lent k = record { fits = (threaded k).requires.0.few; kept = k.thread.auto.heads }
@@ -114,7 +114,7 @@ returns c =
     let a = e.args in
     let k = c.before.before.before.before.before.before.before.before.before.before.before.before.before in
     let s = c.spread in
-    let reached = s.new.1.1.1.1.1.0 in
+    let reached = s.new.marks in
     subst (λ (n : ℕ). Reaching a.included.now a.roots.now a.importers.now a.targets.now n reached) (part_length 4096 (size e) e.requires.0.few)
     (reaching a.included.now a.roots.now a.importers.now a.targets.now (take (size e) (replicate 4096 0)) (start k) reached (part_none 4096 (size e)) k.mark_owners.ensures
     (subst (λ (x : List ℕ). Spreads a.importers.now a.targets.now x reached) (view-is (start-lent k)) s.ensures))

@@ -23,7 +23,7 @@ entry l = l.before.before.before.before
 
 -- a symbol's canonical has a place
 named : (l : Loop) → l.loop-y.y < length (entry l).args.symbols.now → get_or (entry l).args.canonical.now l.loop-y.y 0 < length (entry l).args.chains.now
-named l inside = (entry l).requires.inside l.loop-y.y (omega (arith, (entry l).requires.canonicals, inside))
+named l inside = (entry l).requires.1.1 l.loop-y.y (omega (arith, (entry l).requires.1.0, inside))
 
 loop-holds : tie.Need-loop-y-init invariant-loop decreases-loop
 loop-holds c = (refl, omega arith, refl, λ i l. absurd (omega arith))

@@ -16,17 +16,17 @@ abbrev start : tie.After-look_up → tie.Start
 start k = k.before.before.before.before.before.before.before.before
 
 abbrev owners : tie.After-look_up → List ℕ
-owners k = k.look_up.new.1.1.0
+owners k = k.look_up.new.out
 
 owners-length : (k : tie.After-look_up) → length (owners k) ≡ length (start k).args.owner.now
 owners-length k = k.look_up.auto.out ∙ (start k).requires.0
 
 -- the same, copied
 abbrev first : tie.After-copy_to → tie.After-look_up
-first k = k.before.before.before.before.before
+first k = k.before.before.before.before
 
 abbrev copied : tie.After-copy_to → List ℕ
-copied k = k.copy_to.new.1.0
+copied k = k.copy_to.new.target
 
 copied-length : (k : tie.After-copy_to) → length (copied k) ≡ length (start (first k)).args.owner.now
 copied-length k = k.copy_to.auto.target ∙ (start (first k)).requires.1.0
@@ -47,10 +47,10 @@ copy-to-requires c κs = search rules
 
 mark-owners-requires : tie.Need-mark_owners-requires
 mark-owners-requires c κs =
-    let k = c.before.before.before.before in
+    let k = c.before.before.before in
     let e = start (first k) in
-    let links = e.requires.links in
-    (links.links, (subst (λ (n : ℕ). Below n e.args.chain_link.now) (sym (owners-length (first k))) links.linked, subst (λ (n : ℕ). Below n e.args.chain-symbol.now) (sym (copied-length k)) links.symbols))
+    let links = e.requires.1.1 in
+    (links.links, (subst (λ (n : ℕ). Below n e.args.chain_link.now) (sym (owners-length (first k))) links.linked, subst (λ (n : ℕ). Below n e.args.chain_symbol.now) (sym (copied-length k)) links.symbols))
 
 same_length : tie.Need-shape_of-owners
 same_length c = search rules
@@ -61,12 +61,12 @@ same-length-2 c = search rules
 returns : tie.Need-returns
 returns c =
     let o = c.mark_owners in
-    let k = c.before.before.before.before.before.before.before in
+    let k = c.before.before.before.before.before.before in
     let f = first k in
     let e = start f in
     let a = e.args in
-    chains-marked a.owner.now a.chain-symbol.now a.chain_link.now a.plan.now (owners f) o.new.1.1.1.0 e.requires.links f.look_up.ensures
-    (subst (λ (s : List ℕ). Owners a.chain-symbol.now (looked 0 (owners f) a.chain_link.now) (length a.chain-symbol.now) s o.new.1.1.1.0) (same k) o.ensures)
+    chains-marked a.owner.now a.chain_symbol.now a.chain_link.now a.plan.now (owners f) o.new.marks e.requires.1.1 f.look_up.ensures
+    (subst (λ (s : List ℕ). Owners a.chain_symbol.now (looked 0 (owners f) a.chain_link.now) (length a.chain_symbol.now) s o.new.marks) (same k) o.ensures)
 
 pub mark_chains_spec : {M : Type 1} → statement M
 mark_chains_spec =

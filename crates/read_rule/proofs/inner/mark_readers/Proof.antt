@@ -13,10 +13,10 @@ same_length c = search rules
 
 returns : tie.Need-returns
 returns c =
-    let e = c.before.before.before.before.before.before.before.before in
+    let e = c in
     let a = e.args in
     let o = c.mark_rows in
-    readers-marked a.statement-module.now a.reference-statement.now a.references.now a.readers.now o.new.1.1.1.0 e.requires.1.1.1 o.ensures
+    readers-marked a.statement_module.now a.reference_statement.now a.references.now a.readers.now o.new.marks e.requires.1.1.1 o.ensures
 
 pub mark_readers_spec : {M : Type 1} → statement M
 mark_readers_spec = tie.close (tie.spec mark-rows-requires same_length returns)

@@ -18,12 +18,12 @@ abbrev entry : tie.After-mark_chains → tie.Start
 entry k = k.before.before.before.before.before.before.before.before.before
 
 abbrev chains : tie.After-mark_chains → List ℕ
-chains k = k.mark_chains.new.1.1.1.1.1.0
+chains k = k.mark_chains.new.chains
 
 lent : (k : tie.After-mark_chains) → Lent 16384 (size (entry k)) (chains k)
 lent k = record { fits = (entry k).requires.0.few; kept = k.mark_chains.auto.chains }
 
-rows : (k : tie.After-mark_chains) → length k.mark_chains.new.1.1.1.1.0 ≡ size (entry k)
+rows : (k : tie.After-mark_chains) → length k.mark_chains.new.owners ≡ size (entry k)
 rows k = k.mark_chains.auto.owners ∙ (entry k).requires.1
 
 array-borrow-prefix-chains : tie.Need-slice_bounds-chains-end
@@ -45,7 +45,7 @@ mark-canonicals-requires : tie.Need-mark_canonicals-requires
 mark-canonicals-requires c κs =
     let k = c.before.before.before.before.before in
     let e = entry k in
-    (view-length (lent k) ∙ sym (rows k), (e.requires.columns.canonicals ∙ sym (rows k), subst (λ (n : ℕ). Below n e.args.canonical.now) (sym (view-length (lent k))) e.requires.columns.inside))
+    (view-length (lent k) ∙ sym (rows k), (e.requires.0.canonicals ∙ sym (rows k), subst (λ (n : ℕ). Below n e.args.canonical.now) (sym (view-length (lent k))) e.requires.0.inside))
 
 same_length : tie.Need-shape_of-symbols
 same_length c = search rules
@@ -56,8 +56,8 @@ returns c =
     let e = entry k in
     let a = e.args in
     let m = c.mark_canonicals in
-    symbols-marked a.owner.now a.canonical.now a.chain-symbol.now a.chain_link.now a.plan.now (chains k) m.new.1.1.0 (made-length (lent k)) (m.auto.1.1.0 ∙ rows k) e.requires.columns.canonicals e.requires.columns.inside k.mark_chains.ensures
-    (subst (λ (s : List ℕ). Marks (λ (y : ℕ). (has s y ≡ true) ⊎ (has s (get_or a.canonical.now y 0) ≡ true)) m.new.1.1.0) (view-is (lent k)) m.ensures)
+    symbols-marked a.owner.now a.canonical.now a.chain_symbol.now a.chain_link.now a.plan.now (chains k) m.new.symbols (made-length (lent k)) (m.auto.symbols ∙ rows k) e.requires.0.canonicals e.requires.0.inside k.mark_chains.ensures
+    (subst (λ (s : List ℕ). Marks (λ (y : ℕ). (has s y ≡ true) ⊎ (has s (get_or a.canonical.now y 0) ≡ true)) m.new.symbols) (view-is (lent k)) m.ensures)
 
 pub mark_symbols_spec : {M : Type 1} → statement M
 mark_symbols_spec =

@@ -14,7 +14,7 @@ abbrev size : tie.Start → ℕ
 size e = length e.args.owner.now
 
 abbrev symbols : tie.After-mark_symbols → List ℕ
-symbols k = k.mark_symbols.new.1.1.1.1.1.0
+symbols k = k.mark_symbols.new.symbols
 
 lent : (k : tie.After-mark_symbols) → Lent 16384 (size k.before.before.before.before.before.before.before.before.before.before.before) (symbols k)
 lent k = record { fits = k.requires.0.few; kept = k.mark_symbols.auto.symbols }
@@ -36,8 +36,8 @@ slice-aggregate-mark-references c = sym (view-length (lent c.before.before))
 
 mark-references-requires : tie.Need-mark_references-requires
 mark-references-requires c κs =
-    let e = c.before.before.before.before.before.before.before.before.before.before.before.before.before.before in
-    (e.requires.1.0, subst (Depending e.args.depended-reference.now e.args.depended.now (length e.args.references.now)) (sym (view-length (lent c.before.before.before))) e.requires.1.1)
+    let e = c in
+    (e.requires.1.0, subst (Depending e.args.depended_reference.now e.args.depended.now (length e.args.references.now)) (sym (view-length (lent c.before.before.before))) e.requires.1.1)
 
 same_length : tie.Need-shape_of-references
 same_length c = search rules
@@ -47,8 +47,8 @@ returns c =
     let a = c.args in
     let k = c.before.before.before.before.before.before in
     let r = c.mark_references in
-    touching-marked a.owner.now a.canonical.now a.chain-symbol.now a.chain_link.now a.reference-symbol.now a.depended-reference.now a.depended.now a.plan.now (symbols k) r.new.1.1.1.1.0 (made-length (lent k)) k.mark_symbols.ensures
-    (subst (λ (s : List ℕ). Marks (ReferenceTouch a.reference-symbol.now a.depended-reference.now a.depended.now s) r.new.1.1.1.1.0) (view-is (lent k)) r.ensures)
+    touching-marked a.owner.now a.canonical.now a.chain_symbol.now a.chain_link.now a.reference_symbol.now a.depended_reference.now a.depended.now a.plan.now (symbols k) r.new.references (made-length (lent k)) k.mark_symbols.ensures
+    (subst (λ (s : List ℕ). Marks (ReferenceTouch a.reference_symbol.now a.depended_reference.now a.depended.now s) r.new.references) (view-is (lent k)) r.ensures)
 
 pub mark_touching_spec : {M : Type 1} → statement M
 mark_touching_spec =

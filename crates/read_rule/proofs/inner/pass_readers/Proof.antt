@@ -44,7 +44,7 @@ returns c =
     let sets = e.requires.0 in
     let plan = e.args.plan.now in
     read-pass p sets.accepted plan
-    (given11 (λ reads statement_module owner canonical chain_symbol chain_link reference_statement reference_symbol depended_reference depended candidates. Added (TopLevelRead reads statement_module owner canonical chain_symbol chain_link reference_statement reference_symbol depended_reference depended candidates plan) plan call.close_top_level_readers.new.1.1.1.1.1.1.1.1.1.1.1.0 call.close_top_level_readers.result)
+    (given11 (λ reads statement_module owner canonical chain_symbol chain_link reference_statement reference_symbol depended_reference depended candidates. Added (TopLevelRead reads statement_module owner canonical chain_symbol chain_link reference_statement reference_symbol depended_reference depended candidates plan) plan call.close_top_level_readers.new.plan call.close_top_level_readers.result)
     k.column.ensures k.column-2.ensures k.column-3.ensures k.column-4.ensures k.column-5.ensures k.column-6.ensures k.column-7.ensures k.column-8.ensures k.column-9.ensures k.column-10.ensures sets.candidate_set call.close_top_level_readers.ensures)
 
 pub pass_readers_spec : {M : Type 1} → statement M

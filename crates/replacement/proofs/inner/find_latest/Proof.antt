@@ -27,8 +27,8 @@ sub-m c = omega arith
 -- src/inner.rt:60:20
 latest-of-requires : tie.Need-latest_of-requires invariant-loop decreases-loop
 latest-of-requires c κs =
-    let k = c.before.before in
-    let e = c.before.before.before.before.before in
+    let k = c in
+    let e = c in
     let q : k.loop-m.m ≡ k.loop-m.m - 1 + 1 = omega arith in
     (subst (Found e.args.newer.now k.loop-m.found) q k.loop-m.invariant.1, omega arith)
 
@@ -47,8 +47,8 @@ loop-less c = omega arith
 -- src/inner.rt:58:5
 loop-again : tie.Need-loop-m-preserved invariant-loop decreases-loop
 loop-again c =
-    let k = c.before.before.before in
-    let e = c.before.before.before.before.before.before in
+    let k = c in
+    let e = c in
     let q : k.loop-m.m ≡ k.loop-m.m - 1 + 1 = omega arith in
     (omega arith, found-more e.args.newer.now k.loop-m.found (k.loop-m.m - 1) (omega arith) c.latest_of.result (subst (Found e.args.newer.now k.loop-m.found) q k.loop-m.invariant.1) c.latest_of.ensures)
 
@@ -59,7 +59,7 @@ same_length c = c.loop-m.invariant.1.size ∙ sym c.requires.1.0
 -- src/inner.rt:51:1
 returns : tie.Need-returns invariant-loop decreases-loop
 returns c =
-    let e = c.before.before.before.before in
+    let e = c in
     let q : c.loop-m.m ≡ 0 = omega arith in
     found_all e.args.newer.now c.loop-m.found (subst (Found e.args.newer.now c.loop-m.found) q c.loop-m.invariant.1)
 

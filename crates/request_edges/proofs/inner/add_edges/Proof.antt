@@ -23,7 +23,7 @@ entry l = l.before
 
 -- there is room for an edge
 room : (l : Loop) → l.loop-row.row < length (entry l).args.sources.now → l.loop-row.end < length (entry l).args.from.now
-room l t = omega (arith, l.loop-row.invariant.2.few, t, (entry l).requires.room)
+room l t = omega (arith, l.loop-row.invariant.2.few, t, (entry l).requires.1.0)
 
 loop-holds : tie.Need-loop-row-init invariant-loop decreases-loop
 loop-holds c = let a = c.args in (refl, omega arith, adding-start a.from.now a.to.now a.count a.sources.now a.a a.targets.now a.b)
@@ -55,20 +55,20 @@ mul-target c = search rules
 shared-slice-read-target : tie.Need-bounds-targets-row invariant-loop decreases-loop
 shared-slice-read-target c = omega (arith, c.loop-row-test.true, c.requires.0)
 
-cast-if2 : tie.Need-overflow_cast-target invariant-loop decreases-loop
+cast-if2 : tie.Need-overflow_cast-marked invariant-loop decreases-loop
 cast-if2 c = omega (arith, c.shared_slice_known-in-loop-row-1.given c.loop-row.row)
 
-add-row-2 : tie.Need-overflow_step-row-then-target-ge-ROW_LIMIT invariant-loop decreases-loop
+add-row-2 : tie.Need-overflow_step-row-then-marked invariant-loop decreases-loop
 add-row-2 c = search rules
 
-loop-less-2 : tie.Need-loop-row-smaller-then-target-ge-ROW_LIMIT invariant-loop decreases-loop
+loop-less-2 : tie.Need-loop-row-smaller-then-marked invariant-loop decreases-loop
 loop-less-2 c = search rules
 
-loop-again-2 : tie.Need-loop-row-preserved-then-target-ge-ROW_LIMIT invariant-loop decreases-loop
+loop-again-2 : tie.Need-loop-row-preserved-then-marked invariant-loop decreases-loop
 loop-again-2 c =
     let l = c.before.before.before.before.before in
     let a = (entry l).args in
-    (refl, omega (arith, c.loop-row-test.true), adding-pass a.from.now a.to.now a.count a.sources.now a.a a.targets.now a.b l.loop-row.row l.loop-row.from l.loop-row.to l.loop-row.end l.loop-row.invariant.2 (λ s t. omega (arith, t, c.if-target-ge-ROW_LIMIT.true)))
+    (refl, omega (arith, c.loop-row-test.true), adding-pass a.from.now a.to.now a.count a.sources.now a.a a.targets.now a.b l.loop-row.row l.loop-row.from l.loop-row.to l.loop-row.end l.loop-row.invariant.2 (λ s t. omega (arith, t, c.if-marked.true)))
 
 add-from : tie.Need-overflow_add-from invariant-loop decreases-loop
 add-from c = let e = c.before.before.before.before.before.before in record { fits = omega (arith, c.if-source-ge-ROW_LIMIT.false, e.requires.1.1.1.0) }
@@ -80,7 +80,7 @@ slice-write-from : tie.Need-bounds-from-end invariant-loop decreases-loop
 slice-write-from c = let l = c.before.before.before.before.before in omega (arith, room l c.loop-row-test.true, l.loop-row.invariant.2.froms)
 
 add-to : tie.Need-overflow_add-to invariant-loop decreases-loop
-add-to c = let e = c.before.before.before.before.before.before in record { fits = omega (arith, c.if-target-ge-ROW_LIMIT.false, e.requires.1.1.1.1) }
+add-to c = let e = c.before.before.before.before.before.before in record { fits = omega (arith, c.if-marked.false, e.requires.1.1.1.1) }
 
 mul-to : tie.Need-offset_bounds-to-end invariant-loop decreases-loop
 mul-to c = let l = c.before.before.before.before.before in record { fits = omega (arith, room l c.loop-row-test.true, (entry l).well_formed) }
@@ -105,7 +105,7 @@ loop-again-3 c =
     let t = c.loop-row-test.true in (
       refl,
       omega (arith, t),
-      adding-put a.from.now a.to.now a.count a.sources.now a.a a.targets.now a.b l.loop-row.row l.loop-row.from l.loop-row.to l.loop-row.end l.loop-row.invariant.2 (omega (arith, c.if-source-ge-ROW_LIMIT.false)) (omega (arith, c.if-target-ge-ROW_LIMIT.false)) (room l t) e.requires.same,
+      adding-put a.from.now a.to.now a.count a.sources.now a.a a.targets.now a.b l.loop-row.row l.loop-row.from l.loop-row.to l.loop-row.end l.loop-row.invariant.2 (omega (arith, c.if-source-ge-ROW_LIMIT.false)) (omega (arith, c.if-marked.false)) (room l t) e.requires.1.1.0,
     )
 
 same_length : tie.Need-shape_of-from invariant-loop decreases-loop

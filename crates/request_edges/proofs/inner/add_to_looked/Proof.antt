@@ -18,7 +18,7 @@ few : (e : tie.Start) → size e ≤ 16384
 few e = omega (arith, e.requires.0, e.requires.1.0)
 
 abbrev made : tie.After-look_up → List ℕ
-made k = k.look_up.new.1.1.0
+made k = k.look_up.new.out
 
 lent : (k : tie.After-look_up) → Lent 16384 (size (entry k)) (made k)
 lent k = record { fits = few (entry k); kept = k.look_up.auto.out }
@@ -42,7 +42,7 @@ add-edges-requires : tie.Need-add_edges-requires
 add-edges-requires c κs =
     let k = c.before.before.before.before in
     let e = entry k in
-    (view-length (lent k) ∙ e.requires.rows, (e.requires.room, (e.requires.same, (e.requires.source, e.requires.target))))
+    (view-length (lent k) ∙ e.requires.0, (e.requires.1.1.0, (e.requires.1.1.1.0, (e.requires.1.1.1.1.0, e.requires.1.1.1.1.1))))
 
 same_length : tie.Need-shape_of-from
 same_length c = c.add_edges.ensures.froms
@@ -56,7 +56,7 @@ returns c =
     let e = entry k in
     let a = e.args in
     let v = c.add_edges in
-    subst (λ (s : List ℕ). Adds (Rows a.sources.now a.a s a.b) (length a.sources.now) a.from.now a.to.now a.count v.new.1.1.0 v.new.1.1.1.0 v.result) (view-is (lent k) ∙ k.look_up.ensures) v.ensures
+    subst (λ (s : List ℕ). Adds (Rows a.sources.now a.a s a.b) (length a.sources.now) a.from.now a.to.now a.count v.new.from v.new.to v.result) (view-is (lent k) ∙ k.look_up.ensures) v.ensures
 
 pub add_to_looked_spec : {M : Type 1} → statement M
 add_to_looked_spec =

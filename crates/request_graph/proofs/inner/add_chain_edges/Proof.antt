@@ -19,7 +19,7 @@ column-requires c κs = search rules
 add-edges-requires : tie.Need-add_edges-own-requires
 unfolding table
 add-edges-requires c κs =
-    let e = c.before.before.before.before.before.before.before.before in
+    let e = c in
     let ok = e.requires.0 in
     let q = c.column-owner.ensures in (
       asked1 (λ (owner : List ℕ). length e.args.symbols.now ≡ length owner) q e.requires.1,
@@ -35,7 +35,7 @@ column-requires-3 c κs = search rules
 add-from-looked-requires : tie.Need-add_from_looked-requires
 unfolding table
 add-from-looked-requires c κs =
-    let e = c.before.before.before.before.before.before.before.before.before.before.before.before.before.before.before.before.before in
+    let e = c in
     let ok = e.requires.0 in
     let q = c.column.ensures in
     let v = c.add_edges-own.ensures in
@@ -44,7 +44,7 @@ add-from-looked-requires c κs =
       (
         asked1 (λ (link : List ℕ). length link ≤ 16384) q (omega (arith, ok.sizes.chain_link, ok.sizes.chain_symbol)),
         (
-          asked1 (λ (link : List ℕ). c.add_edges-own.result + length link ≤ length c.add_edges-own.new.1.1.0) q (omega (arith, e.requires.0.room, few, ok.sizes.chain_link, ok.sizes.chain_symbol, v.froms)),
+          asked1 (λ (link : List ℕ). c.add_edges-own.result + length link ≤ length c.add_edges-own.new.from) q (omega (arith, e.requires.0.room, few, ok.sizes.chain_link, ok.sizes.chain_symbol, v.froms)),
           (v.tos ∙ e.requires.0.same ∙ sym v.froms, (omega arith, omega arith)),
         ),
       ),
@@ -59,15 +59,15 @@ same-length-2 c = c.add_from_looked.ensures.tos ∙ c.add_edges-own.ensures.tos
 returns : tie.Need-returns
 unfolding table
 returns c =
-    let e = c.before.before.before.before.before.before.before.before.before.before.before.before.before.before.before.before.before.before.before.before.before.before in
+    let e = c in
     let a = e.args in
     let ok = e.requires.0 in
     let v = c.add_edges-own in
     let w = c.add_from_looked in
     adds-wide a.from.now a.to.now a.count (omega (arith, ok.sizes.owner, ok.sizes.chain_link, ok.sizes.chain_symbol))
     (adds_on a.from.now a.to.now a.count
-    (given1 (λ (owner : List ℕ). Adds (Rows owner 0 a.symbols.now 32768) (length owner) a.from.now a.to.now a.count v.new.1.1.0 v.new.1.1.1.0 v.result) c.column-owner.ensures v.ensures)
-    (given3 (λ (link owner symbol : List ℕ). Adds (Rows (looked missing owner link) 0 symbol 32768) (length link) v.new.1.1.0 v.new.1.1.1.0 v.result w.new.1.1.1.0 w.new.1.1.1.1.0 w.result) c.column.ensures c.column-owner.ensures c.column-2.ensures w.ensures))
+    (given1 (λ (owner : List ℕ). Adds (Rows owner 0 a.symbols.now 32768) (length owner) a.from.now a.to.now a.count v.new.from v.new.to v.result) c.column-owner.ensures v.ensures)
+    (given3 (λ (link owner symbol : List ℕ). Adds (Rows (looked missing owner link) 0 symbol 32768) (length link) v.new.from v.new.to v.result w.new.from w.new.to w.result) c.column.ensures c.column-owner.ensures c.column-2.ensures w.ensures))
 
 pub add_chain_edges_spec : {M : Type 1} → statement M
 add_chain_edges_spec =

@@ -44,7 +44,7 @@ add-from-looked-requires c κs =
       (
         asked1 (λ (symbol : List ℕ). length symbol ≤ 16384) q (omega (arith, ok.sizes.reference_symbol, ok.sizes.reference_statement)),
         (
-          asked1 (λ (symbol : List ℕ). c.add_edges-own.result + length symbol ≤ length c.add_edges-own.new.1.1.0) q (omega (arith, e.requires.0.room, few, ok.sizes.reference_symbol, ok.sizes.reference_statement, v.froms)),
+          asked1 (λ (symbol : List ℕ). c.add_edges-own.result + length symbol ≤ length c.add_edges-own.new.from) q (omega (arith, e.requires.0.room, few, ok.sizes.reference_symbol, ok.sizes.reference_statement, v.froms)),
           (v.tos ∙ e.requires.0.same ∙ sym v.froms, (omega arith, omega arith)),
         ),
       ),
@@ -68,10 +68,10 @@ module _ (k : tie.After-add_from_looked-first) where
       let q = k.column-symbols.ensures in
       omega (arith, k.add_edges-own.ensures.few, k.add_from_looked-first.ensures.few, ap length q, ok.sizes.reference_symbol, ok.sizes.reference_statement)
 
-  froms : length k.add_from_looked-first.last.1.1.1.0 ≡ length start.args.from.now
+  froms : length k.add_from_looked-first.new.from ≡ length start.args.from.now
   froms = k.add_from_looked-first.ensures.froms ∙ k.add_edges-own.ensures.froms
 
-  tos : length k.add_from_looked-first.last.1.1.1.1.0 ≡ length start.args.to.now
+  tos : length k.add_from_looked-first.new.to ≡ length start.args.to.now
   tos = k.add_from_looked-first.ensures.tos ∙ k.add_edges-own.ensures.tos
 
 add-to-looked-requires : tie.Need-add_to_looked-more-requires
@@ -86,7 +86,7 @@ add-to-looked-requires c κs =
       (
         asked1 (λ (reference : List ℕ). length reference ≤ 16384) r ok.sizes.depended_reference,
         (
-          asked1 (λ (depended : List ℕ). k.add_from_looked-first.result + length depended ≤ length k.add_from_looked-first.new.1.1.1.0) d (omega (arith, e.requires.0.room, few-first k, froms k, ok.sizes.depended, ok.sizes.depended_reference)),
+          asked1 (λ (depended : List ℕ). k.add_from_looked-first.result + length depended ≤ length k.add_from_looked-first.new.from) d (omega (arith, e.requires.0.room, few-first k, froms k, ok.sizes.depended, ok.sizes.depended_reference)),
           (tos k ∙ e.requires.0.same ∙ sym (froms k), (omega arith, omega arith)),
         ),
       ),
@@ -106,7 +106,7 @@ add-looked-requires c κs =
       (
         asked1 (λ (depended : List ℕ). length depended ≤ 16384) d (omega (arith, ok.sizes.depended, ok.sizes.depended_reference)),
         (
-          asked1 (λ (depended : List ℕ). c.add_to_looked-more.result + length depended ≤ length c.add_to_looked-more.new.1.1.1.0) d (omega (arith, e.requires.0.room, few, v.froms, froms k, ok.sizes.depended, ok.sizes.depended_reference)),
+          asked1 (λ (depended : List ℕ). c.add_to_looked-more.result + length depended ≤ length c.add_to_looked-more.new.from) d (omega (arith, e.requires.0.room, few, v.froms, froms k, ok.sizes.depended, ok.sizes.depended_reference)),
           (v.tos ∙ tos k ∙ e.requires.0.same ∙ sym (v.froms ∙ froms k), (omega arith, omega arith)),
         ),
       ),
@@ -135,12 +135,12 @@ returns c =
     let v4 = c.add_looked in
     adds-wide a.from.now a.to.now a.count (omega (arith, ok.sizes.reference_symbol, ok.sizes.reference_statement, ok.sizes.depended, ok.sizes.depended_reference))
     (adds_on a.from.now a.to.now a.count {j = length p.reference_symbol} {k = length p.reference_symbol + (length p.depended + length p.depended)}
-    (given1 (λ (symbol : List ℕ). Adds (Rows symbol 32768 a.readers.now 4096) (length symbol) a.from.now a.to.now a.count v1.new.1.1.0 v1.new.1.1.1.0 v1.result) s v1.ensures)
-    (adds_on v1.new.1.1.0 v1.new.1.1.1.0 v1.result
-    (given2 (λ (symbol canonical : List ℕ). Adds (Rows (looked missing canonical symbol) 32768 a.readers.now 4096) (length symbol) v1.new.1.1.0 v1.new.1.1.1.0 v1.result v2.new.1.1.1.0 v2.new.1.1.1.1.0 v2.result) s n v2.ensures)
-    (adds_on v2.new.1.1.1.0 v2.new.1.1.1.1.0 v2.result
-    (given2 (λ (depended reference : List ℕ). Adds (Rows depended 32768 (looked missing a.readers.now reference) 4096) (length depended) v2.new.1.1.1.0 v2.new.1.1.1.1.0 v2.result v3.new.1.1.1.0 v3.new.1.1.1.1.0 v3.result) d r v3.ensures)
-    (given3 (λ (depended canonical reference : List ℕ). Adds (Rows (looked missing canonical depended) 32768 (looked missing a.readers.now reference) 4096) (length depended) v3.new.1.1.1.0 v3.new.1.1.1.1.0 v3.result v4.new.1.1.1.1.0 v4.new.1.1.1.1.1.0 v4.result) d n r v4.ensures))))
+    (given1 (λ (symbol : List ℕ). Adds (Rows symbol 32768 a.readers.now 4096) (length symbol) a.from.now a.to.now a.count v1.new.from v1.new.to v1.result) s v1.ensures)
+    (adds_on v1.new.from v1.new.to v1.result
+    (given2 (λ (symbol canonical : List ℕ). Adds (Rows (looked missing canonical symbol) 32768 a.readers.now 4096) (length symbol) v1.new.from v1.new.to v1.result v2.new.from v2.new.to v2.result) s n v2.ensures)
+    (adds_on v2.new.from v2.new.to v2.result
+    (given2 (λ (depended reference : List ℕ). Adds (Rows depended 32768 (looked missing a.readers.now reference) 4096) (length depended) v2.new.from v2.new.to v2.result v3.new.from v3.new.to v3.result) d r v3.ensures)
+    (given3 (λ (depended canonical reference : List ℕ). Adds (Rows (looked missing canonical depended) 32768 (looked missing a.readers.now reference) 4096) (length depended) v3.new.from v3.new.to v3.result v4.new.from v4.new.to v4.result) d n r v4.ensures))))
 
 pub add_read_edges_spec : {M : Type 1} → statement M
 add_read_edges_spec =

@@ -31,10 +31,10 @@ few-symbols k = omega (arith, symbols-are k, k.requires.0.sizes.owner)
 few-references : (k : tie.After-rows-references) → k.rows-references.result ≤ 16384
 few-references k = omega (arith, references-are k, k.requires.0.sizes.reference_statement)
 
-names-lent : (k : tie.After-number) → Lent 16384 k.rows-symbols.result k.number.new.0
+names-lent : (k : tie.After-number) → Lent 16384 k.rows-symbols.result k.number.new.out
 names-lent k = record { fits = few-symbols k.before.before; kept = k.number.auto.out }
 
-readers-lent : (k : tie.After-find_readers) → Lent 16384 k.rows-references.result k.find_readers.new.1.1.1.0
+readers-lent : (k : tie.After-find_readers) → Lent 16384 k.rows-references.result k.find_readers.new.readers
 readers-lent k = record { fits = few-references k.before.before; kept = k.find_readers.auto.readers }
 
 rows-requires : tie.Need-rows-symbols-requires
@@ -57,7 +57,7 @@ slice-aggregate-add-chain-edges c = sym (view-length (names-lent c.before.before
 
 add-chain-edges-requires : tie.Need-add_chain_edges-chains-requires
 add-chain-edges-requires c κs =
-    let e = c.before.before.before.before.before.before.before.before.before.before.before.before in
+    let e = c in
     (record { sizes = e.requires.0.sizes; room = omega (arith, e.requires.0.room); same = e.requires.0.same }, view-length (names-lent c.before.before.before.before) ∙ symbols-are c.before.before.before.before.before.before)
 
 rows-requires-2 : tie.Need-rows-references-requires
@@ -72,7 +72,7 @@ slice-aggregate-find-readers c = let k = c.before in sym (part_length 16384 k.ro
 find-readers-requires : tie.Need-find_readers-requires
 find-readers-requires c κs =
     let k = c.before in
-    let e = c.before.before.before.before.before.before.before.before.before.before.before.before.before.before.before.before.before.before.before in
+    let e = c in
     record { sizes = e.requires.0.sizes; size = e.requires.1; places = part_length 16384 k.rows-references.result (few-references k) ∙ references-are k }
 
 array-share-prefix-readers : tie.Need-slice_bounds-readers-end-2
@@ -83,7 +83,7 @@ slice-aggregate-add-read-edges c = sym (view-length (readers-lent c.before.befor
 
 add-read-edges-requires : tie.Need-add_read_edges-requires
 add-read-edges-requires c κs =
-    let e = c.before.before.before.before.before.before.before.before.before.before.before.before.before.before.before.before.before.before.before.before.before.before.before.before in
+    let e = c in
     let v = c.add_chain_edges-chains.ensures in (
       record { sizes = e.requires.0.sizes; room = omega (arith, e.requires.0.room, v.few, v.froms); same = v.tos ∙ e.requires.0.same ∙ sym v.froms },
       view-length (readers-lent c.before.before.before.before) ∙ references-are c.before.before.before.before.before.before,
@@ -104,13 +104,13 @@ returns c =
     let h = c.before.before.before.before.before.before.before.before.before.before.before in
     let n = c.before.before.before.before.before.before.before.before.before.before.before.before.before.before.before.before.before.before.before.before.before in
     let f = c.before.before.before.before.before.before.before.before.before in
-    let named : view 16384 k.rows-symbols.result n.number.new.0 ≡ numbered (length p.owner) = view-is (names-lent n) ∙ n.number.ensures ∙ ap numbered (part_length 16384 k.rows-symbols.result (few-symbols k) ∙ symbols-are k) in
-    let readers : view 16384 h.rows-references.result f.find_readers.new.1.1.1.0 ≡ readers_of p a.candidates.now = view-is (readers-lent f) ∙ f.find_readers.ensures in
+    let named : view 16384 k.rows-symbols.result n.number.new.out ≡ numbered (length p.owner) = view-is (names-lent n) ∙ n.number.ensures ∙ ap numbered (part_length 16384 k.rows-symbols.result (few-symbols k) ∙ symbols-are k) in
+    let readers : view 16384 h.rows-references.result f.find_readers.new.readers ≡ readers_of p a.candidates.now = view-is (readers-lent f) ∙ f.find_readers.ensures in
     let v = c.add_chain_edges-chains in
     let w = c.add_read_edges in
     adds_on a.from.now a.to.now a.count {j = 32768} {k = 65536}
-    (given1 (λ (numbers : List ℕ). Adds (ChainEdge p numbers) 32768 a.from.now a.to.now a.count v.new.1.1.1.0 v.new.1.1.1.1.0 v.result) named v.ensures)
-    (given1 (λ (reading : List ℕ). Adds (ReadEdge p reading) 65536 v.new.1.1.1.0 v.new.1.1.1.1.0 v.result w.new.1.1.1.0 w.new.1.1.1.1.0 w.result) readers w.ensures)
+    (given1 (λ (numbers : List ℕ). Adds (ChainEdge p numbers) 32768 a.from.now a.to.now a.count v.new.from v.new.to v.result) named v.ensures)
+    (given1 (λ (reading : List ℕ). Adds (ReadEdge p reading) 65536 v.new.from v.new.to v.result w.new.from w.new.to w.result) readers w.ensures)
 
 pub add_symbol_edges_spec : {M : Type 1} → statement M
 add_symbol_edges_spec =

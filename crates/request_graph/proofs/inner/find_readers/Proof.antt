@@ -28,10 +28,10 @@ few e = omega (arith, e.requires.size, e.requires.sizes.normal)
 few-rows : (e : tie.Start) → rows e ≤ 16384
 few-rows e = omega (arith, e.requires.places, e.requires.sizes.reference_statement)
 
-reading-lent : (k : tie.After-number_chosen) → Lent 4096 (size k.before.before.before.before.before.before.before) k.number_chosen.new.1.1.0
+reading-lent : (k : tie.After-number_chosen) → Lent 4096 (size k.before.before.before.before.before.before.before) k.number_chosen.new.out
 reading-lent k = record { fits = few k.before.before.before.before.before.before.before; kept = k.number_chosen.auto.out }
 
-modules-lent : (k : tie.After-look_up) → Lent 16384 (rows k.before.before.before.before.before.before.before.before.before.before.before.before) k.look_up.new.1.1.0
+modules-lent : (k : tie.After-look_up) → Lent 16384 (rows k.before.before.before.before.before.before.before.before.before.before.before.before) k.look_up.new.out
 modules-lent k = record { fits = few-rows k.before.before.before.before.before.before.before.before.before.before.before.before; kept = k.look_up.auto.out }
 
 column-requires : tie.Need-column-requires
@@ -92,11 +92,11 @@ returns c =
     let e = c.before.before.before.before.before.before.before.before.before.before.before.before.before.before.before.before.before.before.before in
     let k = c.before.before.before.before.before.before.before in
     let h = c.before.before.before.before.before.before.before.before.before.before.before.before in
-    let modules : view 16384 (rows e) k.look_up.new.1.1.0 ≡ looked missing (of e).statement_module (of e).reference_statement =
-    view-is (modules-lent k) ∙ given2 (λ (statement owner : List ℕ). k.look_up.new.1.1.0 ≡ looked missing owner statement) c.column-2.ensures c.column-3.ensures k.look_up.ensures in
-    let reading : view 4096 (size e) h.number_chosen.new.1.1.0 ≡ chosen e.args.candidates.now (of e).reads =
-    view-is (reading-lent h) ∙ given1 (λ (reads : List ℕ). h.number_chosen.new.1.1.0 ≡ chosen e.args.candidates.now reads) c.column.ensures h.number_chosen.ensures in
-    given2 (λ (column table : List ℕ). c.look_up-2.new.1.1.0 ≡ looked missing table column) modules reading c.look_up-2.ensures
+    let modules : view 16384 (rows e) k.look_up.new.out ≡ looked missing (of e).statement_module (of e).reference_statement =
+    view-is (modules-lent k) ∙ given2 (λ (statement owner : List ℕ). k.look_up.new.out ≡ looked missing owner statement) c.column-2.ensures c.column-3.ensures k.look_up.ensures in
+    let reading : view 4096 (size e) h.number_chosen.new.out ≡ chosen e.args.candidates.now (of e).reads =
+    view-is (reading-lent h) ∙ given1 (λ (reads : List ℕ). h.number_chosen.new.out ≡ chosen e.args.candidates.now reads) c.column.ensures h.number_chosen.ensures in
+    given2 (λ (column table : List ℕ). c.look_up-2.new.out ≡ looked missing table column) modules reading c.look_up-2.ensures
 
 pub find_readers_spec : {M : Type 1} → statement M
 find_readers_spec =

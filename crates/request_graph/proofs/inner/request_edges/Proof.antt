@@ -30,10 +30,10 @@ sized e = ap length e.requires.1.1.candidate_set ∙ length-candidates (of e)
 few : (e : tie.Start) → size e ≤ 4096
 few e = omega (arith, sized e, e.requires.0.accepted.sizes.normal)
 
-numbers-lent : (k : tie.After-number) → Lent 4096 (size k.before.before.before.before.before.before.before.before.before.before.before.before.before.before.before.before.before) k.number.new.0
+numbers-lent : (k : tie.After-number) → Lent 4096 (size k.before.before.before.before.before.before.before.before.before.before.before.before.before.before.before.before.before) k.number.new.out
 numbers-lent k = record { fits = few k.before.before.before.before.before.before.before.before.before.before.before.before.before.before.before.before.before; kept = k.number.auto.out }
 
-asked-lent : (k : tie.After-number_chosen) → Lent 4096 (size k.before.before.before.before.before.before.before.before.before.before.before.before.before.before.before.before.before.before.before.before) k.number_chosen.new.1.1.0
+asked-lent : (k : tie.After-number_chosen) → Lent 4096 (size k.before.before.before.before.before.before.before.before.before.before.before.before.before.before.before.before.before.before.before.before) k.number_chosen.new.out
 asked-lent k = record { fits = few k.before.before.before.before.before.before.before.before.before.before.before.before.before.before.before.before.before.before.before.before; kept = k.number_chosen.auto.out }
 
 array-borrow-prefix-numbers : tie.Need-slice_bounds-numbers-end
@@ -146,13 +146,13 @@ returns c =
     let a = e.args in
     let k = c.before.before.before.before.before.before.before.before.before.before.before.before.before.before.before.before.before.before.before.before.before.before.before.before.before.before.before.before.before.before.before in
     let h = c.before.before.before.before.before.before.before.before.before.before.before.before.before.before.before.before.before.before.before.before.before.before.before.before.before.before.before.before in
-    let own : view 4096 (size e) k.number.new.0 ≡ numbered (modules (of e)) = view-is (numbers-lent k) ∙ k.number.ensures ∙ ap numbered (part_length 4096 (size e) (few e) ∙ sized e) in
-    let asked : view 4096 (size e) h.number_chosen.new.1.1.0 ≡ chosen a.sensitive.now a.eligible.now = view-is (asked-lent h) ∙ h.number_chosen.ensures in
+    let own : view 4096 (size e) k.number.new.out ≡ numbered (modules (of e)) = view-is (numbers-lent k) ∙ k.number.ensures ∙ ap numbered (part_length 4096 (size e) (few e) ∙ sized e) in
+    let asked : view 4096 (size e) h.number_chosen.new.out ≡ chosen a.sensitive.now a.eligible.now = view-is (asked-lent h) ∙ h.number_chosen.ensures in
     let v = c.add_component_edges-components in
     let w = c.add_import_edges-leads in
     let z = c.add_symbol_edges in
     requests-on (of e) e.requires.0.accepted e.requires.1.1 e.requires.1.0 c.column.ensures c.column-2.ensures c.column-3.ensures own asked
-    {from = a.from.now} {to = a.to.now} {from₁ = v.new.1.1.1.1.1.1.0} {to₁ = v.new.1.1.1.1.1.1.1.0} {from₂ = w.new.1.1.1.1.1.0} {to₂ = w.new.1.1.1.1.1.1.0} {from₃ = z.new.1.1.1.0} {to₃ = z.new.1.1.1.1.0} {count₁ = v.result} {count₂ = w.result} {count₃ = z.result}
+    {from = a.from.now} {to = a.to.now} {from₁ = v.new.from} {to₁ = v.new.to} {from₂ = w.new.from} {to₂ = w.new.to} {from₃ = z.new.from} {to₃ = z.new.to} {count₁ = v.result} {count₂ = w.result} {count₃ = z.result}
     v.ensures w.ensures z.ensures
 
 pub request_edges_spec : {M : Type 1} → statement M

@@ -39,20 +39,20 @@ mul-push : tie.Need-offset_bounds-to-row invariant-loop decreases-loop
 mul-push c = search rules
 
 shared-slice-read-push : tie.Need-bounds-to-row invariant-loop decreases-loop
-shared-slice-read-push c = omega (arith, c.loop-row-test.true, (entry c.before.before.before.before).requires.rows.lengths)
+shared-slice-read-push c = omega (arith, c.loop-row-test.true, (entry c.before.before.before.before).requires.0.lengths)
 
 push-requires : tie.Need-push-end-requires invariant-loop decreases-loop
 push-requires c κs =
     let l = c.before.before.before.before in
     let e = entry l in
     let g = l.loop-row.invariant.grew in
-    (g.listed, (omega (arith, g.size, e.requires.few), omega (arith, g.size, e.requires.rows.tos l.loop-row.row c.loop-row-test.true)))
+    (g.listed, (omega (arith, g.size, e.requires.1.1.0), omega (arith, g.size, e.requires.0.tos l.loop-row.row c.loop-row-test.true)))
 
 mul-row-2 : tie.Need-offset_bounds-nexts-row invariant-loop decreases-loop
 mul-row-2 c = search rules
 
 shared-slice-read-row-2 : tie.Need-bounds-nexts-row invariant-loop decreases-loop
-shared-slice-read-row-2 c = omega (arith, c.loop-row-test.true, (entry c.before.before.before.before.before.before.before.before.before.before).requires.rows.threads.room)
+shared-slice-read-row-2 c = omega (arith, c.loop-row-test.true, (entry c.before.before.before.before.before.before.before.before.before.before).requires.0.threads.room)
 
 cast-row-2 : tie.Need-overflow_cast-row-in-loop-row invariant-loop decreases-loop
 cast-row-2 c = omega (arith, c.shared_slice_known-in-loop-row-2-1.given c.loop-row.row)
@@ -70,7 +70,7 @@ loop-again c =
     let t = c.loop-row-test.true in
     let v = c.push-end in
     following-next a.from.now a.to.now a.x a.marks.now a.queue.now a.count l.loop-row.marks l.loop-row.queue _ _ l.loop-row.end v.result l.loop-row.row (get_or a.nexts.now l.loop-row.row 0)
-    l.loop-row.invariant t v.ensures (e.requires.rows.threads.next l.loop-row.row t)
+    l.loop-row.invariant t v.ensures (e.requires.0.threads.next l.loop-row.row t)
 
 same_length : tie.Need-shape_of-marks invariant-loop decreases-loop
 same_length c = c.loop-row.invariant.grew.size
@@ -82,7 +82,7 @@ returns : tie.Need-returns invariant-loop decreases-loop
 returns c =
     let l = c.before in
     let a = (entry l).args in
-    following-end a.from.now a.to.now a.x a.marks-1.now a.queue-1.now a.count l.loop-row.marks l.loop-row.queue l.loop-row.end l.loop-row.row l.loop-row.invariant c.loop-row-test.false
+    following-end a.from.now a.to.now a.x a.marks.now a.queue.now a.count l.loop-row.marks l.loop-row.queue l.loop-row.end l.loop-row.row l.loop-row.invariant c.loop-row-test.false
 
 pub follow_spec : {M : Type 1} → statement M
 follow_spec =

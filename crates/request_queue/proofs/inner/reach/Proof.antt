@@ -24,8 +24,8 @@ Loop = tie.At-loop-at invariant-loop decreases-loop
 abbrev entry : Loop → tie.Start invariant-loop decreases-loop
 entry l = l.before.before.before.before.before.before.before.before.before.before.before.before.before.before
 
-holds : (l : Loop) → let a = (entry l).args in Reaching a.from.now a.to.now a.x a.marks-1.now a.queue-1.now a.count l.loop-at.marks l.loop-at.queue l.loop-at.end l.loop-at.at
-holds l = let e = entry l in l.loop-at.invariant e.args.marks.now e.args.queue.now e.requires.listed e.requires.along l.follow-end.ensures
+holds : (l : Loop) → let a = (entry l).args in Reaching a.from.now a.to.now a.x a.marks.now a.queue.now a.count l.loop-at.marks l.loop-at.queue l.loop-at.end l.loop-at.at
+holds l = let e = entry l in l.loop-at.invariant e.args.marks.now e.args.queue.now e.requires.1.0 e.requires.1.1.1.1 l.follow-end.ensures
 
 follow-requires : tie.Need-follow-end-requires invariant-loop decreases-loop
 follow-requires c κs = let e = c.before.before.before.before.before.before.before.before in (e.requires.0, (e.requires.1.0, (e.requires.1.1.0, e.requires.1.1.1.0)))
@@ -48,8 +48,8 @@ follow-requires-2 c κs =
     let e = entry l in
     let a = e.args in
     let g = (holds l).grew in (
-      subst (Linked a.from.now a.to.now a.heads.now a.nexts.now) (sym g.size) e.requires.rows,
-      (g.listed, (omega (arith, g.size, e.requires.few), (g.listed.placed l.loop-at.at c.loop-at-test.true).0)),
+      subst (Linked a.from.now a.to.now a.heads.now a.nexts.now) (sym g.size) e.requires.0,
+      (g.listed, (omega (arith, g.size, e.requires.1.1.0), (g.listed.placed l.loop-at.at c.loop-at-test.true).0)),
     )
 
 add_at : tie.Need-overflow_add-at invariant-loop decreases-loop
@@ -75,7 +75,7 @@ returns c =
     let l = c.before in
     let e = entry l in
     let a = e.args in
-    reaching-end a.from.now a.to.now a.x a.marks.now a.queue.now a.count l.loop-at.marks l.loop-at.queue l.loop-at.end l.loop-at.at (holds l) e.requires.along c.loop-at-test.false
+    reaching-end a.from.now a.to.now a.x a.marks.now a.queue.now a.count l.loop-at.marks l.loop-at.queue l.loop-at.end l.loop-at.at (holds l) e.requires.1.1.1.1 c.loop-at-test.false
 
 pub reach_spec : {M : Type 1} → statement M
 reach_spec =

@@ -36,13 +36,13 @@ unfolding cycle_risk
 returns c = let t = c.before.before.before.before in
     let a = t.args in
     c.mark_listed.ensures
-    ∙ join-cong a.out.now (listed a.expected.now a.eligible.now) (cycle_risk (has a.eligible.now) a.expected.now a.reaches-cycle)
+    ∙ join-cong a.out.now (listed a.expected.now a.eligible.now) (cycle_risk (has a.eligible.now) a.expected.now a.reaches_cycle)
     (λ m l. listed-elem a.expected.now a.eligible.now m ∙ ap (λ (b : Bool). b && (has a.eligible.now m && elem m a.expected.now)) (sym t.if-reaches_cycle.true))
 
 returns-2 : tie.Need-returns-else-reaches_cycle
 unfolding cycle_risk
 returns-2 c = let a = c.args in
-    join-none a.out.now (cycle_risk (has a.eligible.now) a.expected.now a.reaches-cycle) (λ m l. ap (λ (b : Bool). b && (has a.eligible.now m && elem m a.expected.now)) c.if-reaches_cycle.false)
+    join-none a.out.now (cycle_risk (has a.eligible.now) a.expected.now a.reaches_cycle) (λ m l. ap (λ (b : Bool). b && (has a.eligible.now m && elem m a.expected.now)) c.if-reaches_cycle.false)
 
 pub add_cycle_risk_spec : {M : Type 1} → statement M
 add_cycle_risk_spec = tie.close (tie.spec mark-listed-requires same_length returns returns-2)

@@ -34,7 +34,7 @@ abbrev placing : tie.After-wanted-1 → tie.After-place_sensitive
 placing c = c.before.before
 
 abbrev places : tie.After-place_sensitive → List ℕ
-places k = k.place_sensitive.new.1.1.0
+places k = k.place_sensitive.new.places
 
 places-length : (k : tie.After-place_sensitive) → length (places k) ≡ size k.before
 places-length k = k.place_sensitive.auto.places ∙ part k.before
@@ -44,7 +44,7 @@ abbrev marked : tie.After-flag_unmet → tie.After-mark_listed
 marked f = f.before.before.before.before
 
 abbrev wanted : tie.After-mark_listed → List ℕ
-wanted k = k.mark_listed.new.1.1.0
+wanted k = k.mark_listed.new.marks
 
 wanted-length : (k : tie.After-mark_listed) → length (wanted k) ≡ size (placing k.before).before
 wanted-length k = k.mark_listed.auto.marks ∙ part (placing k.before).before
@@ -54,24 +54,24 @@ abbrev first : tie.After-flag_unmet → tie.After-places-1
 first f = (placing (marked f).before).before
 
 abbrev out1 : tie.After-flag_unmet → List ℕ
-out1 f = f.flag_unmet.new.1.1.1.1.1.0
+out1 f = f.flag_unmet.new.out
 
 out1-length : (f : tie.After-flag_unmet) → length (out1 f) ≡ size (first f)
 out1-length f = f.flag_unmet.auto.out
 
 out1-is : (f : tie.After-flag_unmet) → let a = (entry (first f)).args in
-    out1 f ≡ join a.out-1.now (puts_of a.eligible.now a.hosts.now (unmet a.sensitive.now (places (placing (marked f).before))) a.expected.now)
+    out1 f ≡ join a.out.now (puts_of a.eligible.now a.hosts.now (unmet a.sensitive.now (places (placing (marked f).before))) a.expected.now)
 out1-is f =
     let a = (entry (first f)).args in
     let k = placing (marked f).before in
     f.flag_unmet.ensures
-    ∙ ap (λ (p : List ℕ). join a.out-1.now (puts_of a.eligible.now a.hosts.now (unmet a.sensitive.now p) a.expected.now)) (take_at (places k) (drop (size (first f)) room) (size (first f)) (places-length k))
+    ∙ ap (λ (p : List ℕ). join a.out.now (puts_of a.eligible.now a.hosts.now (unmet a.sensitive.now p) a.expected.now)) (take_at (places k) (drop (size (first f)) room) (size (first f)) (places-length k))
 
 abbrev before-second : tie.After-flag_unmet-2 → tie.After-flag_unmet
 before-second g = g.before.before.before.before.before
 
 abbrev out2 : tie.After-flag_unmet-2 → List ℕ
-out2 g = g.flag_unmet-2.last.1.1.1.1.1.0
+out2 g = g.flag_unmet-2.new.out
 
 out2-length : (g : tie.After-flag_unmet-2) → length (out2 g) ≡ size (first (before-second g))
 out2-length g = g.flag_unmet-2.auto.out ∙ out1-length (before-second g)
@@ -88,7 +88,7 @@ abbrev before-third : tie.After-flag_overtaken → tie.After-flag_unmet-2
 before-third h = h.before.before.before.before.before
 
 abbrev out3 : tie.After-flag_overtaken → List ℕ
-out3 h = h.flag_overtaken.new.1.1.1.1.1.0
+out3 h = h.flag_overtaken.new.out
 
 out3-is : (h : tie.After-flag_overtaken) → let f = before-second (before-third h) in let a = (entry (first f)).args in
     out3 h ≡ join (out2 (before-third h)) (puts_of a.eligible.now a.hosts.now (overtaken a.sensitive.now (places (placing (marked f).before)) a.expected.now) a.expected.now)
@@ -107,8 +107,8 @@ slice-aggregate-place-sensitive c = sym (part c)
 
 place-sensitive-requires : tie.Need-place_sensitive-requires
 place-sensitive-requires c κs = let e = entry c in (
-  subst (Order e.args.actual.now) (sym (part c)) e.requires.orders.1,
-  (e.requires.columns.sensitive_rows ∙ sym (part c), take-replicate (size c) module_limit 0),
+  subst (Order e.args.actual.now) (sym (part c)) e.requires.0.1,
+  (e.requires.1.0.sensitive_rows ∙ sym (part c), take-replicate (size c) module_limit 0),
 )
 
 array-borrow-prefix-wanted : tie.Need-slice_bounds-wanted-end
@@ -119,8 +119,8 @@ slice-aggregate-mark-listed c = sym (part (placing c).before)
 
 mark-listed-requires : tie.Need-mark_listed-requires
 mark-listed-requires c κs = let p = (placing c).before in let e = entry p in (
-  subst (Order e.args.expected.now) (sym (part p)) e.requires.orders.0,
-  e.requires.columns.sensitive_rows ∙ sym (part p),
+  subst (Order e.args.expected.now) (sym (part p)) e.requires.0.0,
+  e.requires.1.0.sensitive_rows ∙ sym (part p),
 )
 
 array-share-prefix-places : tie.Need-slice_bounds-places-end-2
@@ -132,7 +132,7 @@ slice-aggregate-flag-unmet c = let k = placing c.before.before.before in sym (fr
 flag-unmet-requires : tie.Need-flag_unmet-requires
 flag-unmet-requires c κs = let k = placing c.before.before.before.before in
     let e = entry k.before in
-    (e.requires.orders.0, (e.requires.columns, front_length (places k) _ _ (places-length k)))
+    (e.requires.0.0, (e.requires.1.0, front_length (places k) _ _ (places-length k)))
 
 array-share-prefix-wanted : tie.Need-slice_bounds-wanted-end-2
 array-share-prefix-wanted c = let k = marked c.before.before in front-room (wanted k) _ _ (wanted-length k)
@@ -144,9 +144,9 @@ flag-unmet-requires-2 : tie.Need-flag_unmet-requires-2
 flag-unmet-requires-2 c κs = let f = c.before.before.before.before in
     let k = marked f in
     let e = entry (first f) in (
-      subst (Order e.args.actual.now) (sym (out1-length f)) e.requires.orders.1,
+      subst (Order e.args.actual.now) (sym (out1-length f)) e.requires.0.1,
       (
-        subst (Columns e.args.hosts.now e.args.sensitive.now e.args.eligible.now) (sym (out1-length f)) e.requires.columns,
+        subst (Columns e.args.hosts.now e.args.sensitive.now e.args.eligible.now) (sym (out1-length f)) e.requires.1.0,
         front_length (wanted k) _ _ (wanted-length k) ∙ sym (out1-length f),
       ),
     )
@@ -162,9 +162,9 @@ flag-overtaken-requires c κs = let g = c.before.before.before.before in
     let f = before-second g in
     let k = placing (marked f).before in
     let e = entry (first f) in (
-      subst (Order e.args.expected.now) (sym (out2-length g)) e.requires.orders.0,
+      subst (Order e.args.expected.now) (sym (out2-length g)) e.requires.0.0,
       (
-        subst (Columns e.args.hosts.now e.args.sensitive.now e.args.eligible.now) (sym (out2-length g)) e.requires.columns,
+        subst (Columns e.args.hosts.now e.args.sensitive.now e.args.eligible.now) (sym (out2-length g)) e.requires.1.0,
         front_length (places k) _ _ (places-length k) ∙ sym (out2-length g),
       ),
     )
@@ -180,7 +180,7 @@ returns c = let h = c.before.before in
     let e = entry (first f) in
     let a = e.args in
     let n = size (first f) in
-    passed-risk a.sensitive.now a.eligible.now a.expected.now a.actual.now a.hosts.now n (places k) (wanted (marked f)) e.requires.orders.0.members e.requires.orders.1.members (places-length k) k.place_sensitive.ensures
+    passed-risk a.sensitive.now a.eligible.now a.expected.now a.actual.now a.hosts.now n (places k) (wanted (marked f)) e.requires.0.0.members e.requires.0.1.members (places-length k) k.place_sensitive.ensures
     ((marked f).mark_listed.ensures ∙ ap (λ (z : List ℕ). join z (listed a.expected.now a.sensitive.now)) (take-replicate n module_limit 0 ∙ ap (λ (j : ℕ). replicate j 0) (part (first f))))
     a.out.now (out1 f) (out2 g) (out3 h) (out1-is f) (out2-is g) (out3-is h)
 

@@ -100,7 +100,7 @@ mul-if1 : tie.Need-offset_bounds-sensitive-at invariant-loop decreases-loop
 mul-if1 c = omega (arith, c.shared_slice_known-in-loop-k-1.given c.loop-k.k)
 
 shared-slice-read-if1 : tie.Need-bounds-sensitive-at invariant-loop decreases-loop
-shared-slice-read-if1 c = let i = c.before.before in omega (arith, there i, (entry i.before).requires.tables.sensitive_rows)
+shared-slice-read-if1 c = let i = c.before.before in omega (arith, there i, (entry i.before).requires.1.0.sensitive_rows)
 
 add-k : tie.Need-overflow_step-k invariant-loop decreases-loop
 add-k c = search rules
@@ -121,7 +121,7 @@ mul-place : tie.Need-offset_bounds-places-at invariant-loop decreases-loop
 mul-place c = let k = c.before.before in omega (arith, k.shared_slice_known-in-loop-k-1.given k.loop-k.k)
 
 shared-slice-read-place : tie.Need-bounds-places-at invariant-loop decreases-loop
-shared-slice-read-place c = let i = c.before.before.before.before in omega (arith, there i, (entry i.before).requires.rows)
+shared-slice-read-place c = let i = c.before.before.before.before in omega (arith, there i, (entry i.before).requires.1.1)
 
 greater-requires : tie.Need-greater-latest-requires invariant-loop decreases-loop
 greater-requires c κs = search rules
@@ -181,7 +181,7 @@ loop-again-4 c =
     let l = i.before in
     let a = (entry l).args in
     let s = has-yes a.sensitive.now (member l) g.if-sensitive-at-eq0.false in (
-      added_more (test l) (put l) (entry l).args.expected.now (entry l).args.out.now l.loop-k.k l.loop-k.out l.loop-k.invariant.0 f.flag.new.1.1.0 i.loop-k-test.true
+      added_more (test l) (put l) (entry l).args.expected.now (entry l).args.out.now l.loop-k.k l.loop-k.out l.loop-k.invariant.0 f.flag.new.out i.loop-k-test.true
           (decided i s ∙ ap (λ (b : Bool). b && ltb (get_or a.places.now (member l) 0) l.loop-k.latest) (has-yes a.places.now (member l) e.if-place-eq0.false) ∙ lt-ltb _ _ e.if-passed-place.false)
           f.flag.ensures,
       raised i g.greater-latest.result s g.greater-latest.ensures,

@@ -62,7 +62,7 @@ mul-if1 : tie.Need-offset_bounds-sensitive-at invariant-loop decreases-loop
 mul-if1 c = omega (arith, c.shared_slice_known-in-loop-k-1.given c.loop-k.k)
 
 shared-slice-read-if1 : tie.Need-bounds-sensitive-at invariant-loop decreases-loop
-shared-slice-read-if1 c = let i = c.before.before in omega (arith, there i, (entry i.before).requires.tables.sensitive_rows)
+shared-slice-read-if1 c = let i = c.before.before in omega (arith, there i, (entry i.before).requires.1.0.sensitive_rows)
 
 add-k : tie.Need-overflow_step-k invariant-loop decreases-loop
 add-k c = search rules
@@ -79,7 +79,7 @@ mul-if2 : tie.Need-offset_bounds-other-at invariant-loop decreases-loop
 mul-if2 c = let k = c.before.before in omega (arith, k.shared_slice_known-in-loop-k-1.given k.loop-k.k)
 
 shared-slice-read-if2 : tie.Need-bounds-other-at invariant-loop decreases-loop
-shared-slice-read-if2 c = let i = c.before.before.before.before in omega (arith, there i, (entry i.before).requires.rows)
+shared-slice-read-if2 c = let i = c.before.before.before.before in omega (arith, there i, (entry i.before).requires.1.1)
 
 add-k-2 : tie.Need-overflow_step-k-then-other-at-ne0 invariant-loop decreases-loop
 add-k-2 c = search rules
@@ -109,7 +109,7 @@ loop-again-3 c = let f = c.before.before in
     let e = f.before.before in
     let i = e.before.before.before.before.before in
     let l = i.before in
-    added_more (test l) (put l) (entry l).args.order.now (entry l).args.out.now l.loop-k.k l.loop-k.out l.loop-k.invariant f.flag.new.1.1.0 i.loop-k-test.true
+    added_more (test l) (put l) (entry l).args.order.now (entry l).args.out.now l.loop-k.k l.loop-k.out l.loop-k.invariant f.flag.new.out i.loop-k-test.true
     (ap (λ (b : Bool). b && not (has (entry l).args.other.now (member l))) (has-yes (entry l).args.sensitive.now (member l) e.if-sensitive-at-eq0.false)
     ∙ ap not (has-not (entry l).args.other.now (member l) e.if-other-at-ne0.false))
     f.flag.ensures

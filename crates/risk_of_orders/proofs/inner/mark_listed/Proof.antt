@@ -28,7 +28,7 @@ len l = added-length (test l) (λ (x m : ℕ). eqb m x) l.args.order.now l.args.
 
 -- the member at k has a row
 there : (l : Loop) → l.loop-k.k < length l.args.order.now → get_or l.args.order.now l.loop-k.k 0 < length l.args.marks.now
-there l h = l.requires.members.members l.loop-k.k h
+there l h = l.requires.0.members l.loop-k.k h
 
 loop-holds : tie.Need-loop-k-init invariant-loop decreases-loop
 loop-holds c = added-start (has c.args.which.now) (λ (x m : ℕ). eqb m x) c.args.order.now c.args.marks.now

@@ -29,8 +29,8 @@ of e = let a = e.args in read (table a.runtime a.dynamic a.bounds.now a.columns.
 abbrev entry : tie.After-copy_to → tie.Start
 entry k = k.before.before.before.before.before.before.before.before.before.before.before.before.before.before.before.before.before
 
-is-plan : (k : tie.After-copy_to) → k.copy_to.new.1.0 ≡ (entry k).args.plan.now
-is-plan k = let a = (entry k).args in copied a.plan.now a.copy-1.now k.copy_to.new.1.0 (entry k).requires.1.1.1.1 k.copy_to.ensures
+is-plan : (k : tie.After-copy_to) → k.copy_to.new.target ≡ (entry k).args.plan.now
+is-plan k = let a = (entry k).args in copied a.plan.now a.copy.now k.copy_to.new.target (entry k).requires.1.1.1.1 k.copy_to.ensures
 
 -- what the rule added to it
 
@@ -38,7 +38,7 @@ abbrev first : tie.After-pass_importers → tie.After-copy_to
 first k = k.before.before.before.before.before
 
 abbrev copy : tie.After-pass_importers → List ℕ
-copy k = k.pass_importers.new.1.1.1.1.1.1.1.1.1.1.1.1.1.1.1.0
+copy k = k.pass_importers.new.plan
 
 added : (k : tie.After-pass_importers) → let e = entry (first k) in ImportAdded (of e) e.args.plan.now (copy k) k.pass_importers.result
 added k = let e = entry (first k) in subst (λ (s : List ℕ). ImportAdded (of e) s (copy k) k.pass_importers.result) (is-plan (first k)) k.pass_importers.ensures.added
@@ -54,14 +54,14 @@ pass-importers-requires c κs =
 
 lowest-lacking-requires : tie.Need-lowest_lacking-requires
 lowest-lacking-requires c κs =
-    let k = c.before.before.before.before.before in
+    let k = c.before.before.before.before in
     let e = entry (first k) in
     let n = (added k).len in
     (sym n, omega (arith, e.requires.1.1.0.size, e.requires.0.accepted.sizes.normal))
 
 returns : tie.Need-returns
 returns c =
-    let k = c.before.before.before.before.before.before in
+    let k = c.before.before.before.before.before in
     let e = entry (first k) in
     c.lowest_lacking.ensures ∙ lacking-rule (of e) import_rule e.args.plan.now e.requires.1.1.0.size (added k)
 

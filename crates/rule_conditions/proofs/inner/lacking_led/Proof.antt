@@ -7,7 +7,7 @@ use Rattle.rule_conditions.proofs.inner.lacking_led.Tie as tie
 
 lacking-reader-requires : tie.Need-lacking_reader-reader-requires
 lacking-reader-requires c κs =
-    let e = c.before.before.before.before.before.before.before.before.before.before.before.before.before.before.before.before.before.before.before.before.before.before.before in
+    let e = c in
     (e.requires.0, (e.requires.1.1.0, c.lacking_importer-importer.auto.copy ∙ e.requires.1.1.1.1))
 
 returns : tie.Need-returns

@@ -44,25 +44,25 @@ module _ (k : tie.After-list_edges-edges) where
   count = k.list_edges-edges.result
 
   abbrev importers : List ℕ
-  importers = take count k.list_edges-edges.last.1.1.1.1.1.1.1.1.1.0
+  importers = take count k.list_edges-edges.new.from
 
   abbrev targets : List ℕ
-  targets = take count k.list_edges-edges.last.1.1.1.1.1.1.1.1.1.1.0
+  targets = take count k.list_edges-edges.new.to
 
   few-edges : count ≤ 16384
   few-edges = omega (arith, k.list_edges-edges.ensures.few, (ok entry).sizes.record_module)
 
-  importers-room : count ≤ length k.list_edges-edges.last.1.1.1.1.1.1.1.1.1.0
+  importers-room : count ≤ length k.list_edges-edges.new.from
   importers-room = omega (arith, few-edges, k.list_edges-edges.auto.from)
 
-  targets-room : count ≤ length k.list_edges-edges.last.1.1.1.1.1.1.1.1.1.1.0
+  targets-room : count ≤ length k.list_edges-edges.new.to
   targets-room = omega (arith, few-edges, k.list_edges-edges.auto.to)
 
   importers-length : length importers ≡ count
-  importers-length = length-take-le count k.list_edges-edges.last.1.1.1.1.1.1.1.1.1.0 importers-room
+  importers-length = length-take-le count k.list_edges-edges.new.from importers-room
 
   targets-length : length targets ≡ count
-  targets-length = length-take-le count k.list_edges-edges.last.1.1.1.1.1.1.1.1.1.1.0 targets-room
+  targets-length = length-take-le count k.list_edges-edges.new.to targets-room
 
   edges : EdgesOf (of entry) importers targets (length importers)
   edges = subst (EdgesOf (of entry) importers targets) (sym importers-length) (edges-part (of entry).record_module (record_targets (of entry)) k.list_edges-edges.ensures)
@@ -74,7 +74,7 @@ module _ (k : tie.After-list_edges-edges) where
 abbrev written : tie.After-choose_candidates → tie.After-list_edges-edges
 written k = k.before.before.before.before.before.before
 
-lent : (k : tie.After-choose_candidates) → Lent 4096 (size (entry (written k))) k.choose_candidates.new.1.1.1.1.1.1.1.1.1.1.1.1.1.0
+lent : (k : tie.After-choose_candidates) → Lent 4096 (size (entry (written k))) k.choose_candidates.new.candidates
 lent k = record { fits = few (entry (written k)); kept = k.choose_candidates.auto.candidates }
 
 -- the threads
@@ -84,22 +84,22 @@ chosen k = k.before.before.before.before.before
 abbrev start : tie.After-thread → tie.Start
 start k = entry (written (chosen k))
 
-heads-lent : (k : tie.After-thread) → Lent 4096 (size (start k)) k.thread.new.1.0
+heads-lent : (k : tie.After-thread) → Lent 4096 (size (start k)) k.thread.new.heads
 heads-lent k = record { fits = few (start k); kept = k.thread.auto.heads }
 
-nexts-lent : (k : tie.After-thread) → Lent 16384 (count (written (chosen k))) k.thread.new.1.1.0
+nexts-lent : (k : tie.After-thread) → Lent 16384 (count (written (chosen k))) k.thread.new.nexts
 nexts-lent k = record { fits = few-edges (written (chosen k)); kept = k.thread.auto.nexts }
 
 abbrev heads : tie.After-thread → List ℕ
-heads k = view 4096 (size (start k)) k.thread.new.1.0
+heads k = view 4096 (size (start k)) k.thread.new.heads
 
 abbrev nexts : tie.After-thread → List ℕ
-nexts k = view 16384 (count (written (chosen k))) k.thread.new.1.1.0
+nexts k = view 16384 (count (written (chosen k))) k.thread.new.nexts
 
 threads : (k : tie.After-thread) → Threads (targets (written (chosen k))) (heads k) (nexts k)
 threads k =
     let to = targets (written (chosen k)) in
-    subst (λ (h : List ℕ). Threads to h (nexts k)) (sym (view-is (heads-lent k))) (subst (Threads to k.thread.new.1.0) (sym (view-is (nexts-lent k))) k.thread.ensures)
+    subst (λ (h : List ℕ). Threads to h (nexts k)) (sym (view-is (heads-lent k))) (subst (Threads to k.thread.new.heads) (sym (view-is (nexts-lent k))) k.thread.ensures)
 
 edged : (k : tie.After-thread) → let w = written (chosen k) in Edged (of (start k)) (importers w) (targets w) (heads k) (nexts k)
 edged k =

@@ -21,8 +21,8 @@ of e = let a = e.args in read (table a.runtime a.dynamic a.bounds.now a.columns.
 abbrev entry : tie.After-copy_to → tie.Start
 entry k = k.before.before.before.before.before.before.before.before.before.before.before.before
 
-is-plan : (k : tie.After-copy_to) → k.copy_to.new.1.0 ≡ (entry k).args.plan.now
-is-plan k = let a = (entry k).args in copied a.plan.now a.copy-1.now k.copy_to.new.1.0 (entry k).requires.1.1 k.copy_to.ensures
+is-plan : (k : tie.After-copy_to) → k.copy_to.new.target ≡ (entry k).args.plan.now
+is-plan k = let a = (entry k).args in copied a.plan.now a.copy.now k.copy_to.new.target (entry k).requires.1.1 k.copy_to.ensures
 
 -- what the rule added to it
 
@@ -30,7 +30,7 @@ abbrev first : tie.After-pass_readers → tie.After-copy_to
 first k = k.before.before.before.before
 
 abbrev copy : tie.After-pass_readers → List ℕ
-copy k = k.pass_readers.new.1.1.1.1.1.1.1.1.1.1.0
+copy k = k.pass_readers.new.plan
 
 added : (k : tie.After-pass_readers) → let e = entry (first k) in ReadPassed (of e) e.args.plan.now (copy k) k.pass_readers.result
 added k = let e = entry (first k) in subst (λ (s : List ℕ). ReadPassed (of e) s (copy k) k.pass_readers.result) (is-plan (first k)) k.pass_readers.ensures
@@ -46,14 +46,14 @@ pass-readers-requires c κs =
 
 lowest-lacking-requires : tie.Need-lowest_lacking-requires
 lowest-lacking-requires c κs =
-    let k = c.before.before.before in
+    let k = c.before.before in
     let e = entry (first k) in
     let n = (added k).len in
     (sym n, omega (arith, e.requires.1.0.size, e.requires.0.accepted.sizes.normal))
 
 returns : tie.Need-returns
 returns c =
-    let k = c.before.before.before.before in
+    let k = c.before.before.before in
     let e = entry (first k) in
     c.lowest_lacking.ensures ∙ lacking-rule (of e) read_rule e.args.plan.now e.requires.1.0.size (added k)
 

@@ -33,7 +33,7 @@ returns c =
     let call = c.before.before in
     let k = call.before.before in
     let a = (entry k).args in
-    given1 (λ seeds. Owners seeds (looked 0 a.eligible.now seeds) (length seeds) a.plan-1.now call.mark_seeds.new.1.1.0) k.column.ensures call.mark_seeds.ensures
+    given1 (λ seeds. Owners seeds (looked 0 a.eligible.now seeds) (length seeds) a.plan.now call.mark_seeds.new.plan) k.column.ensures call.mark_seeds.ensures
 
 pub mark_table_seeds_spec : {M : Type 1} → statement M
 mark_table_seeds_spec = tie.close (tie.spec (λ c κs. search rules) mark-seeds-requires (λ c. search rules) returns)

@@ -20,10 +20,10 @@ entry c = c.before.before.before.before.before.before.before.before.before.befor
 abbrev start : tie.Start → ℕ → ℕ
 start e m = get_or e.args.starts.now m 0
 
-first : (e : tie.Start) → FirstRow e.args.statement-module.now e.args.m (start e e.args.m)
+first : (e : tie.Start) → FirstRow e.args.statement_module.now e.args.m (start e e.args.m)
 first e = e.requires.1.1.1.0.firsts e.args.m (omega (arith, e.requires.1.1.0.1, e.requires.1.1.1.1))
 
-next : (e : tie.Start) → FirstRow e.args.statement-module.now (e.args.m + 1) (start e (e.args.m + 1))
+next : (e : tie.Start) → FirstRow e.args.statement_module.now (e.args.m + 1) (start e (e.args.m + 1))
 next e = e.requires.1.1.1.0.firsts (e.args.m + 1) (omega (arith, e.requires.1.1.0.1, e.requires.1.1.1.1))
 
 mul-first : tie.Need-offset_bounds-starts-m
@@ -55,7 +55,7 @@ search-uses-requires c κs =
       (
         p.1.0,
         (
-          run-ordered e.args.statement-module.now e.args.m _ _ (first e) (next e),
+          run-ordered e.args.statement_module.now e.args.m _ _ (first e) (next e),
           omega (arith, (next e).within, p.1.1.0.0.includeds),
         ),
       ),
@@ -67,7 +67,7 @@ returns c =
     let e = entry c.before in
     let a = e.args in
     c.search_uses.ensures
-    ∙ sym (ap (any (statement_wakes a.normal.now a.wrap.now a.record-kind.now a.record-target.now a.statement-included.now a.use-statement.now a.use-record.now)) (rows-of-run a.statement-module.now a.m _ _ (first e) (next e)))
+    ∙ sym (ap (any (statement_wakes a.normal.now a.wrap.now a.record_kind.now a.record_target.now a.statement_included.now a.use_statement.now a.use_record.now)) (rows-of-run a.statement_module.now a.m _ _ (first e) (next e)))
 
 pub eagerly_triggers_interop_module_spec : {M : Type 1} → statement M
 eagerly_triggers_interop_module_spec =

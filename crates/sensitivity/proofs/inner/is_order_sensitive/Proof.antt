@@ -41,14 +41,14 @@ shared-slice-read-acts c = search rules
 eagerly-triggers-interop-module-requires : tie.Need-eagerly_triggers_interop_module-wakes-requires
 eagerly-triggers-interop-module-requires c κs = search rules
 
-ground_of-by-requires : tie.Need-ground_of-by-requires
-ground_of-by-requires c κs = search rules
+ground_by-requires : tie.Need-ground_by-requires
+ground_by-requires c κs = search rules
 
 returns-4 : tie.Need-returns
 returns-4 c =
     let a = c.args in
     rw (ne_eqb _ _ c.if-m-runtime.false, eq-eqb _ _ c.if-normal-m-ne1.false, eq-eqb _ _ c.if-included-m-ne1.false)
-    (c.ground_of-by.ensures ∙ ap (ground_by (flagged a.sensitive.now a.m)) c.eagerly_triggers_interop_module-wakes.ensures)
+    (c.ground_by.ensures ∙ ap (ground_by (flagged a.sensitive.now a.m)) c.eagerly_triggers_interop_module-wakes.ensures)
 
 pub is_order_sensitive_spec : {M : Type 1} → statement M
 is_order_sensitive_spec =
@@ -64,5 +64,5 @@ is_order_sensitive_spec =
     mul-acts
     shared-slice-read-acts
     eagerly-triggers-interop-module-requires
-    ground_of-by-requires
+    ground_by-requires
     returns-4)

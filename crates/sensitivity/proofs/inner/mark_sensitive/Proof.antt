@@ -23,20 +23,20 @@ abbrev entry : tie.After-nexts-1 → tie.Start
 entry c = c.before.before.before.before.before.before.before.before.before.before.before.before.before
 
 abbrev statements : tie.After-nexts-1 → ℕ
-statements c = length (entry c).args.statement-included.now
+statements c = length (entry c).args.statement_included.now
 
 abbrev room : List ℕ
 room = replicate row_limit 0
 
 heads-part : (c : tie.After-heads-1) → let s = c.before.before.before.before.before.before.before.before.before.before.before.before in
-    length (take (length s.args.statement-included.now) room) ≡ length s.args.statement-included.now
+    length (take (length s.args.statement_included.now) room) ≡ length s.args.statement_included.now
 heads-part c =
     let s = c.before.before.before.before.before.before.before.before.before.before.before.before in
-    length-take-le (length s.args.statement-included.now) room (omega (arith, s.requires.1.1.1.0.0.includeds, s.requires.1.1.1.0.0.few))
+    length-take-le (length s.args.statement_included.now) room (omega (arith, s.requires.1.1.1.0.0.includeds, s.requires.1.1.1.0.0.few))
 
 -- the threads that are made, and the part of the array that their heads are read from
 abbrev heads : tie.After-thread → List ℕ
-heads k = k.thread.new.1.0
+heads k = k.thread.new.heads
 
 heads-length : (k : tie.After-thread) → length (heads k) ≡ statements k.before
 heads-length k = k.thread.auto.heads ∙ heads-part k.before.before
@@ -62,7 +62,7 @@ starts-part : (c : tie.After-starts-1) → length (take (places c) starts-room) 
 starts-part c = length-take-le (places c) starts-room (omega (arith, (entry (threaded c).before).requires.1.1.1.1))
 
 abbrev starts : tie.After-first_rows → List ℕ
-starts k = k.first_rows.new.1.0
+starts k = k.first_rows.new.starts
 
 starts-length : (k : tie.After-first_rows) → length (starts k) ≡ places k.before
 starts-length k = k.first_rows.auto.starts ∙ starts-part k.before
@@ -124,7 +124,7 @@ mark-with-threads-requires c κs = let r = c.before.before.before.before.before 
           (
             p.1.1.1.0,
             (
-              subst (FirstRows e.args.statement-module.now) (sym (take_at (starts r) _ (places r.before) (starts-length r))) r.first_rows.ensures,
+              subst (FirstRows e.args.statement_module.now) (sym (take_at (starts r) _ (places r.before) (starts-length r))) r.first_rows.ensures,
               front_length (starts r) _ _ (starts-length r) ∙ ap (λ (n : ℕ). n + 1) p.1.1.1.0.1,
             ),
           ),

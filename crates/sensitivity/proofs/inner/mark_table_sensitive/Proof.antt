@@ -46,7 +46,7 @@ returns c =
     let k = call.before.before in
     let e = entry k in
     let n = length e.args.marks.now in
-    let made : List ℕ = call.mark_sensitive.new.1.1.1.1.1.1.1.1.1.1.0 in
+    let made : List ℕ = call.mark_sensitive.new.marks in
     given8 (λ normal included flags wraps statements includeds users used. made ≡ map (ground_at e.args.runtime normal included flags (uses_wrapped normal wraps (of e).record_kind (of e).record_target statements includeds users used)) (up_to n))
     k.column.ensures k.column-2.ensures k.column-3.ensures k.column-4.ensures k.column-5.ensures k.column-6.ensures k.column-7.ensures k.column-8.ensures call.mark_sensitive.ensures
     ∙ made-sensitive (of e) n e.requires.size

@@ -28,14 +28,14 @@ entry l = l.before.before.before.before.before.before.before.before.before.befor
 
 abbrev ground_of-at : Loop → ℕ → ℕ
 ground_of-at l = let a = (entry l).args in
-    ground_at a.runtime a.normal.now a.included.now a.sensitive.now (uses_wrapped a.normal.now a.wrap.now a.record-kind.now a.record-target.now a.statement-module.now a.statement-included.now a.use-statement.now a.use-record.now)
+    ground_at a.runtime a.normal.now a.included.now a.sensitive.now (uses_wrapped a.normal.now a.wrap.now a.record_kind.now a.record_target.now a.statement_module.now a.statement_included.now a.use_statement.now a.use_record.now)
 
 len : (l : Loop) → length l.loop-m.marks ≡ length (entry l).args.marks.now
 len l = l.loop-m.invariant.len
 
 -- the next place is a number
 more : (l : Loop) → l.loop-m.m < length l.loop-m.marks → l.loop-m.m + 1 ≤ length (entry l).args.normal.now
-more l h = omega (arith, len l, (entry l).requires.statements.1)
+more l h = omega (arith, len l, (entry l).requires.1.1.1.0.1)
 
 loop-holds : tie.Need-loop-m-init invariant-loop decreases-loop
 loop-holds c = written_start _ _

@@ -24,11 +24,11 @@ entry c = c.before.before.before.before.before
 
 -- an import leads to what its target resolves to
 found-led : (c : lts.After-resolve-found (resolve-reads.Asked, resolve-reads.Learnt) reads.Pre reads.Post) → let a = (entry c.before.before).args in
-    wakes a.normal.now a.wrap.now a.record-kind.now a.record-target.now a.row ≡ any (wrapped a.wrap.now) (normal_target c.resolve-found.result)
+    wakes a.normal.now a.wrap.now a.record_kind.now a.record_target.now a.row ≡ any (wrapped a.wrap.now) (normal_target c.resolve-found.result)
 unfolding wakes
 found-led c =
     let a = (entry c.before.before).args in
-    ap (any (wrapped a.wrap.now)) (led-import a.normal.now a.record-kind.now a.record-target.now a.row c.resolve-found.result (eq-eqb _ _ c.if-record_kind-row-ne0.false) (sym c.resolve-found.ensures))
+    ap (any (wrapped a.wrap.now)) (led-import a.normal.now a.record_kind.now a.record_target.now a.row c.resolve-found.result (eq-eqb _ _ c.if-record_kind-row-ne0.false) (sym c.resolve-found.ensures))
 
 mul-if1 : tie.Need-offset_bounds-record_kind-row
 mul-if1 c = search rules
@@ -40,7 +40,7 @@ returns : tie.Need-returns-then-record_kind-row-ne0
 unfolding wakes
 returns c =
     let a = (entry c.before).args in
-    sym (ap (any (wrapped a.wrap.now)) (led-kind a.normal.now a.record-kind.now a.record-target.now a.row (ne_eqb _ _ c.if-record_kind-row-ne0.true)))
+    sym (ap (any (wrapped a.wrap.now)) (led-kind a.normal.now a.record_kind.now a.record_target.now a.row (ne_eqb _ _ c.if-record_kind-row-ne0.true)))
 
 resolve-requires : tie.Need-resolve-found-requires
 resolve-requires c κs = search rules
@@ -50,7 +50,7 @@ enum-known-found c = search rules
 
 returns-2 : tie.Need-returns-in_default
 unfolding wakes
-returns-2 c = sym (found-led c.before ∙ ap (any (wrapped (entry c.before.before.before).args.wrap.now)) (led-nowhere c.resolve-found.result c.in_default.keys2))
+returns-2 c = sym (found-led c.before ∙ ap (any (wrapped (entry c.before.before.before).args.wrap.now)) (led-nowhere c.resolve-found.result c.in_default.in_default-own.keys2))
 
 cast-at : tie.Need-overflow_cast-at
 cast-at c = search rules
@@ -60,20 +60,18 @@ mul-result c = search rules
 
 shared-slice-read-result : tie.Need-bounds-wrap-at
 shared-slice-read-result c =
-    let f = c.before.before in
-    let r = f.before.before in
+    let r = c.before.before in
     let e = entry r.before.before in
     let a = e.args in
-    let t = target-in a.normal.now a.record-kind.now a.record-target.now a.row f.found-1.given.0.0 (sym r.resolve-found.ensures ∙ f.found-1.given.1) in
+    let t = target-in a.normal.now a.record_kind.now a.record_target.now a.row c.in-Normal.t (sym r.resolve-found.ensures ∙ c.in-Normal.is) in
     omega (arith, t, e.requires.0.wraps)
 
 returns-3 : tie.Need-returns
 unfolding wakes
 returns-3 c =
-    let f = c.before.before in
-    let r = f.before.before in
+    let r = c.before.before in
     let wrap = (entry r.before.before).args.wrap.now in
-    sym (found-led r ∙ ap (λ (t : Target). any (wrapped wrap) (normal_target t)) f.found-1.given.1 ∙ same (wrapped wrap f.found-1.given.0.0))
+    sym (found-led r ∙ ap (λ (t : Target). any (wrapped wrap) (normal_target t)) c.in-Normal.is ∙ same (wrapped wrap c.in-Normal.t))
   where
     same : (b : Bool) → cond b true false ≡ b
     same true = refl

@@ -2,7 +2,6 @@
 -- Assumes nothing.
 use Rattle.std.specs.Prelude.{◌≡◌, ℕ, ◌+◌, ◌-◌, ◌<◌, ◌≤◌, Bool, false, length, get_or}
 use mathlib.Core.Path.{refl, sym, ◌∙◌}
-use mathlib.Core.Logic.{⊎_elim}
 use native.Mathlib.Omega.{arith}
 use borrow.Author.Rules.{rules}
 use borrow.Author.Tests.{eq-eqb, ne_eqb}
@@ -16,6 +15,7 @@ use Rattle.sensitivity.proofs.inner.search_uses.Statement.{statement}
 use Rattle.sensitivity.proofs.inner.search_uses.Tie as tie
 use Rattle.sensitivity.proofs.inner.search_uses.Reads as reads
 use Rattle.sensitivity.proofs.inner.search_uses.Lts as lts
+use Rattle.sensitivity.proofs.inner.search_uses.Lts.{then-statement_included-s-eq1+else-loop-u-test, else-statement_included-s-eq1}
 use Rattle.sensitivity.proofs.inner.row_wakes.Reads as row-wakes-reads
 
 abbrev invariant-loop : tie.invariant-loop-u
@@ -54,22 +54,22 @@ abbrev known : Loop → Known
 known l = l.before.before.before
 
 abbrev wakes-of : Start → ℕ → Bool
-wakes-of e = wakes e.args.normal.now e.args.wrap.now e.args.record-kind.now e.args.record-target.now
+wakes-of e = wakes e.args.normal.now e.args.wrap.now e.args.record_kind.now e.args.record_target.now
 
 abbrev asks_of : Start → ℕ → Bool
-asks_of e = statement_wakes e.args.normal.now e.args.wrap.now e.args.record-kind.now e.args.record-target.now e.args.statement-included.now e.args.use-statement.now e.args.use-record.now
+asks_of e = statement_wakes e.args.normal.now e.args.wrap.now e.args.record_kind.now e.args.record_target.now e.args.statement_included.now e.args.use_statement.now e.args.use_record.now
 
 -- the next use of the same statement
-next : (l : Loop) → l.loop-u.u < length (entry (known l)).args.use-statement.now → let a = (entry (known l)).args in
-    NextRow a.use-statement.now (get_or a.use-statement.now l.loop-u.u 0) (l.loop-u.u + 1) (get_or a.nexts.now l.loop-u.u 0)
+next : (l : Loop) → l.loop-u.u < length (entry (known l)).args.use_statement.now → let a = (entry (known l)).args in
+    NextRow a.use_statement.now (get_or a.use_statement.now l.loop-u.u 0) (l.loop-u.u + 1) (get_or a.nexts.now l.loop-u.u 0)
 next l h = (entry (known l)).requires.1.0.threads.next l.loop-u.u h
 
 -- a statement that is included asks what its uses ask
-asks-included : (k : Known) → get_or (entry k).args.statement-included.now (outer k).search.s 0 ≡ 1
-    → asks_of (entry k) (outer k).search.s ≡ any (wakes-of (entry k)) (values_of (entry k).args.use-statement.now (entry k).args.use-record.now (outer k).search.s)
+asks-included : (k : Known) → get_or (entry k).args.statement_included.now (outer k).search.s 0 ≡ 1
+    → asks_of (entry k) (outer k).search.s ≡ any (wakes-of (entry k)) (values_of (entry k).args.use_statement.now (entry k).args.use_record.now (outer k).search.s)
 asks-included k e = rw (eq-eqb _ _ e)
 
-asks-excluded : (k : Known) → (get_or (entry k).args.statement-included.now (outer k).search.s 0 ≡ 1 → ⊥) → asks_of (entry k) (outer k).search.s ≡ false
+asks-excluded : (k : Known) → (get_or (entry k).args.statement_included.now (outer k).search.s 0 ≡ 1 → ⊥) → asks_of (entry k) (outer k).search.s ≡ false
 asks-excluded k n = rw (ne_eqb _ _ n)
 
 search-holds : tie.Need-search-init invariant-loop decreases-loop invariant-search decreases-search
@@ -95,7 +95,7 @@ loop-holds c =
     let k = c.before.before in
     let e = entry k in
     let s = (outer k).search.s in
-    (refl, searching-start e.args.use-statement.now e.args.use-record.now s (wakes-of e) _ (e.requires.uses.threads.first s (omega (arith, e.requires.uses.statements))))
+    (refl, searching-start e.args.use_statement.now e.args.use_record.now s (wakes-of e) _ (e.requires.1.0.threads.first s (omega (arith, e.requires.1.0.statements))))
 
 mul-row : tie.Need-offset_bounds-use_record-u invariant-loop decreases-loop invariant-search decreases-search
 mul-row c = search rules
@@ -130,7 +130,7 @@ loop-again c =
     let i = w.before.before in
     let l = i.before in
     let e = entry (known l) in
-    (l.loop-u.invariant.0, searching-next e.args.use-statement.now e.args.use-record.now (outer (known l)).search.s (wakes-of e) l.loop-u.u l.loop-u.invariant.1 _ i.loop-u-test.true (sym w.row_wakes.ensures ∙ c.if-row_wakes.false) (next l i.loop-u-test.true))
+    (l.loop-u.invariant.0, searching-next e.args.use_statement.now e.args.use_record.now (outer (known l)).search.s (wakes-of e) l.loop-u.u l.loop-u.invariant.1 _ i.loop-u-test.true (sym w.row_wakes.ensures ∙ c.if-row_wakes.false) (next l i.loop-u-test.true))
 
 add-s : tie.Need-overflow_add-s invariant-loop decreases-loop invariant-search decreases-search
 add-s c = search rules
@@ -145,16 +145,16 @@ search-again c =
     let s = (outer k).search.s in
     let inv = (outer k).search.invariant in
     let pass = any-pass (asks_of e) s e.args.end k.search-test.true in
-    ⊎_elim
-    (λ w. (omega arith, w.4 ∙ w.2.invariant.0 ∙ inv.1, sym (pass (asks-included k w.0.taken ∙ sym (searching-end e.args.use-statement.now e.args.use-record.now s (wakes-of e) w.2.u w.2.invariant.1 w.3.left))) ∙ inv.2))
-    (λ w. (omega arith, w.1 ∙ inv.1, sym (pass (asks-excluded k w.0.left)) ∙ inv.2))
-    c.if-statement_included-s-eq1.branch
+    elim c.if-statement_included-s-eq1.branch [
+      | then-statement_included-s-eq1+else-loop-u-test w ↦ (omega arith, w.found-is ∙ w.loop-u.invariant.0 ∙ inv.1, sym (pass (asks-included k w.if-statement_included-s-eq1.true ∙ sym (searching-end e.args.use_statement.now e.args.use_record.now s (wakes-of e) w.loop-u.u w.loop-u.invariant.1 w.loop-u-test.false))) ∙ inv.2)
+      | else-statement_included-s-eq1 w ↦ (omega arith, w.found-is ∙ inv.1, sym (pass (asks-excluded k w.if-statement_included-s-eq1.false)) ∙ inv.2)
+    ]
 
 returns : tie.Need-returns-after-search invariant-loop decreases-loop invariant-search decreases-search
 returns c =
     let o = c.search in
     let a = c.args in
-    o.invariant.1 ∙ sym (any-end (statement_wakes a.normal.now a.wrap.now a.record-kind.now a.record-target.now a.statement-included.now a.use-statement.now a.use-record.now) o.s a.end c.search-test.false) ∙ o.invariant.2
+    o.invariant.1 ∙ sym (any-end (statement_wakes a.normal.now a.wrap.now a.record_kind.now a.record_target.now a.statement_included.now a.use_statement.now a.use_record.now) o.s a.end c.search-test.false) ∙ o.invariant.2
 
 returns-2 : tie.Need-returns-then-row_wakes invariant-loop decreases-loop invariant-search decreases-search
 returns-2 c =
@@ -163,8 +163,8 @@ returns-2 c =
     let l = i.before in
     let k = known l in
     let e = entry k in
-    let hit = sym (searching-found e.args.use-statement.now e.args.use-record.now (outer k).search.s (wakes-of e) l.loop-u.u l.loop-u.invariant.1 i.loop-u-test.true (sym w.row_wakes.ensures ∙ c.if-row_wakes.true)) in
-    sym (any-hit (asks_of e) (outer k).search.s e.args.end k.search-test.taken (asks-included k l.if-statement_included-s-eq1.true ∙ hit)) ∙ (outer k).search.invariant.2
+    let hit = sym (searching-found e.args.use_statement.now e.args.use_record.now (outer k).search.s (wakes-of e) l.loop-u.u l.loop-u.invariant.1 i.loop-u-test.true (sym w.row_wakes.ensures ∙ c.if-row_wakes.true)) in
+    sym (any-hit (asks_of e) (outer k).search.s e.args.end k.search-test.true (asks-included k l.if-statement_included-s-eq1.true ∙ hit)) ∙ (outer k).search.invariant.2
 
 pub search_uses_spec : {M : Type 1} → statement M
 search_uses_spec =

@@ -8,7 +8,7 @@ use Rattle.size_tests.proofs.inner.two_at.Statement.{statement}
 use Rattle.size_tests.proofs.inner.two_at.Tie as tie
 
 returns : tie.Need-returns
-returns c = given2 (λ column other. c.two-Sized.result ≡ sized c.args.limit column (other ∷ [])) c.column.ensures c.column-2.ensures c.two-Sized.ensures
+returns c = given2 (λ column other. c.two_sized.result ≡ sized c.args.limit column (other ∷ [])) c.column.ensures c.column-2.ensures c.two_sized.ensures
 
 pub two_at_spec : {M : Type 1} → statement M
 two_at_spec =

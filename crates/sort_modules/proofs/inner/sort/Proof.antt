@@ -27,17 +27,17 @@ abbrev entry : tie.After-fill-2 → tie.Start
 entry k = (first-fill k).before.before.before.before.before.before.before.before.before.before
 
 -- nothing is met, and nothing is numbered
-zeroed : (k : tie.After-fill-2) → (first-fill k).fill.new.0 ≡ replicate (length (entry k).args.normal.now) 0
+zeroed : (k : tie.After-fill-2) → (first-fill k).fill.new.slots ≡ replicate (length (entry k).args.normal.now) 0
 zeroed k = (first-fill k).fill.ensures ∙ ap (λ (n : ℕ). replicate n 0) (sym (entry k).requires.0.normals)
 
-unnumbered : (k : tie.After-fill-2) → k.fill-2.new.0 ≡ replicate (length (entry k).args.normal.now) missing
+unnumbered : (k : tie.After-fill-2) → k.fill-2.new.slots ≡ replicate (length (entry k).args.normal.now) missing
 unnumbered k = let p = (entry k).requires in k.fill-2.ensures ∙ ap (λ (n : ℕ). replicate n missing) (p.1.1.0 ∙ sym p.0.normals)
 
 -- there is room for every module
-roomy : (k : tie.After-fill-2) → Room (first-fill k).fill.new.0 k.fill-2.new.0 (entry k).args.sorted.now 0 0
+roomy : (k : tie.After-fill-2) → Room (first-fill k).fill.new.slots k.fill-2.new.slots (entry k).args.sorted.now 0 0
 roomy k =
     let p = (entry k).requires in
-    let z : zeros (first-fill k).fill.new.0 ≡ length (entry k).args.normal.now = ap zeros (zeroed k) ∙ zeros-replicate (length (entry k).args.normal.now) in
+    let z : zeros (first-fill k).fill.new.slots ≡ length (entry k).args.normal.now = ap zeros (zeroed k) ∙ zeros-replicate (length (entry k).args.normal.now) in
     record {
       places = k.fill-2.auto.slots ∙ p.1.1.0 ∙ sym (first-fill k).fill.auto.slots;
       lists = omega (arith, z, p.0.normals, p.1.1.1);
@@ -63,7 +63,7 @@ module _ (r : tie.After-first_rows) where
   filled = r.before.before.before.before
 
   abbrev firsts : List ℕ
-  firsts = r.first_rows.last.1.0
+  firsts = r.first_rows.new.starts
 
   firsts-length : length firsts ≡ count filled
   firsts-length = r.first_rows.auto.starts ∙ part filled
@@ -110,8 +110,8 @@ visit-roots-requires c κs =
     let p = (entry k).requires in
     let len = sym (first-fill k).fill.auto.slots in (
       record {
-        fit = subst (Fit a.normal.now a.record-module.now a.record-kind.now a.record-target.now) len p.0;
-        firsts = subst (FirstRows a.record-module.now) (sym (firsts-read r)) r.first_rows.ensures;
+        fit = subst (Fit a.normal.now a.record_module.now a.record_kind.now a.record_target.now) len p.0;
+        firsts = subst (FirstRows a.record_module.now) (sym (firsts-read r)) r.first_rows.ensures;
         places = omega (arith, ap length (firsts-read r), firsts-length r, len, p.0.normals);
       },
       subst (λ (n : ℕ). a.runtime < n) len p.1.0.0,
@@ -138,14 +138,14 @@ returns c =
     let e = entry k in
     let a = e.args in
     let r = w.visit_roots-last in
-    let succ : ℕ → List ℕ = statics_of a.dynamic a.normal.now a.record-module.now a.record-kind.now a.record-target.now in
-    let after : St Numbered = held r.new.1.1.1.1.1.1.0 r.new.1.1.1.1.1.1.1.0 r.new.1.1.1.1.1.1.1.1.0 r.result.placed r.result.next in
-    walk-sorted a.dynamic a.normal.now a.record-module.now a.record-kind.now a.record-target.now a.runtime a.entry.now a.marks.now a.sorted.now
-    r.new.1.1.1.1.1.1.0 c.fill-3.new.0 r.new.1.1.1.1.1.1.1.0 r.new.1.1.1.1.1.1.1.1.0 r.result.placed r.result.next
-    (omega (arith, e.requires.fit.normals, e.requires.room.1))
-    (c.fill-3.ensures ∙ ap (λ (n : ℕ). replicate n 0) (r.auto.1.1.1.1.1.1.0 ∙ (first-fill k).fill.auto.slots))
+    let succ : ℕ → List ℕ = statics_of a.dynamic a.normal.now a.record_module.now a.record_kind.now a.record_target.now in
+    let after : St Numbered = held r.new.marks r.new.numbers r.new.sorted r.result.placed r.result.next in
+    walk-sorted a.dynamic a.normal.now a.record_module.now a.record_kind.now a.record_target.now a.runtime a.entry.now a.marks.now a.sorted.now
+    r.new.marks c.fill-3.new.slots r.new.numbers r.new.sorted r.result.placed r.result.next
+    (omega (arith, e.requires.0.normals, e.requires.1.1.1))
+    (c.fill-3.ensures ∙ ap (λ (n : ℕ). replicate n 0) (r.auto.marks ∙ (first-fill k).fill.auto.slots))
     (subst (λ (x : List ℕ). Visits succ everywhere (number a.normal.now) (held (replicate (length a.normal.now) 0) x a.sorted.now 0 0) (a.runtime ∷ a.entry.now) after) (unnumbered k)
-    (subst (λ (x : List ℕ). Visits succ everywhere (number a.normal.now) (held x k.fill-2.last.0 a.sorted.now 0 0) (a.runtime ∷ a.entry.now) after) (zeroed k) r.ensures))
+    (subst (λ (x : List ℕ). Visits succ everywhere (number a.normal.now) (held x k.fill-2.new.slots a.sorted.now 0 0) (a.runtime ∷ a.entry.now) after) (zeroed k) r.ensures))
 
 pub sort_spec : {M : Type 1} → statement M
 sort_spec =

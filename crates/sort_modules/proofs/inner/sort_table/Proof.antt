@@ -40,7 +40,7 @@ unfolding table read numbers_of sorted_of
 returns c =
     let a = c.args in
     let done = c.sort in
-    given2 (λ normal entry. Sorted (numbers a.dynamic normal a.importers.now a.kinds.now a.targets.now a.runtime entry) (sorted a.dynamic normal a.importers.now a.kinds.now a.targets.now a.runtime entry) a.marks.now a.sorted.now done.new.1.1.1.1.1.0 done.new.1.1.1.1.1.1.0 done.new.1.1.1.1.1.1.1.0 done.result)
+    given2 (λ normal entry. Sorted (numbers a.dynamic normal a.importers.now a.kinds.now a.targets.now a.runtime entry) (sorted a.dynamic normal a.importers.now a.kinds.now a.targets.now a.runtime entry) a.marks.now a.sorted.now done.new.marks done.new.numbers done.new.sorted done.result)
     c.column.ensures c.column-2.ensures
     done.ensures
 

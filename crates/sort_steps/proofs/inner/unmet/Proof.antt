@@ -24,14 +24,14 @@ module _ (c : tie.Else-t) where
   abbrev marks : List ℕ
   marks = start.args.marks.now
 
-  leads : let a = start.args in led a.dynamic a.normal.now a.record-kind.now a.record-target.now a.row ≡ target ∷ []
+  leads : let a = start.args in led a.dynamic a.normal.now a.record_kind.now a.record_target.now a.row ≡ target ∷ []
   leads = c.led-t.ensures ∙ unless-one target (ne_eqb _ _ c.if-t.false)
 
   below : target < length marks
   below =
       let a = start.args in
       let p = start.requires in
-      led-in a.dynamic a.normal.now a.record-kind.now a.record-target.now a.row (length marks) target p.2 p.1 leads
+      led-in a.dynamic a.normal.now a.record_kind.now a.record_target.now a.row (length marks) target p.2 p.1 leads
 
 led-requires : tie.Need-led-t-requires
 led-requires c κs = search rules

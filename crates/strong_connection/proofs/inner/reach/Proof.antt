@@ -15,23 +15,18 @@ fill-requires : tie.Need-fill-requires
 fill-requires c κs = search rules
 
 visit-requires : tie.Need-visit-requires
-visit-requires c κs =
-    let f = c.before.before.before in
-    let e = f.before.before.before.before.before.before.before in (
-      threaded-linked (subst (Threaded e.args.from.now e.args.to.now e.args.heads.now e.args.nexts.now) (sym f.fill.auto.slots) e.requires.0),
-      subst (λ (n : ℕ). e.args.c < n) (sym f.fill.auto.slots) e.requires.1,
-    )
+visit-requires c κs = (
+  threaded-linked (subst (Threaded c.args.from.now c.args.to.now c.args.heads.now c.args.nexts.now) (sym c.fill.auto.slots) c.requires.0),
+  subst (λ (n : ℕ). c.args.c < n) (sym c.fill.auto.slots) c.requires.1,
+)
 
 same_length : tie.Need-shape_of-marks
 same_length c = search rules
 
 returns : tie.Need-returns
 returns c =
-    let v = c.before.before in
-    let f = v.before.before.before.before in
-    let a = f.args in
-    marked-reached (values_of a.from.now a.to.now) (length a.marks.now) a.c v.visit.new.1.1.1.1.1.0
-    (subst (λ (x : List ℕ). Marked (values_of a.from.now a.to.now) x a.c v.visit.new.1.1.1.1.1.0) f.fill.ensures v.visit.ensures)
+    marked-reached (values_of c.args.from.now c.args.to.now) (length c.args.marks.now) c.args.c c.visit.new.marks
+    (subst (λ (x : List ℕ). Marked (values_of c.args.from.now c.args.to.now) x c.args.c c.visit.new.marks) c.fill.ensures c.visit.ensures)
 
 pub reach_spec : {M : Type 1} → statement M
 reach_spec = tie.close (tie.spec fill-requires visit-requires same_length returns)

@@ -24,7 +24,7 @@ abbrev entry : Loop → tie.Start invariant-loop decreases-loop
 entry l = l.before
 
 member : (l : Loop) → l.loop-k.k < length (entry l).args.order.now → get_or (entry l).args.order.now l.loop-k.k 0 < length (entry l).args.sensitive.now
-member l t = (entry l).requires.members l.loop-k.k t
+member l t = (entry l).requires.0 l.loop-k.k t
 
 -- one member more
 more : (l : Loop) → let a = (entry l).args in (has a.sensitive.now (get_or a.order.now l.loop-k.k 0) ≡ true → has a.eligible.now (get_or a.order.now l.loop-k.k 0) ≡ true → has a.placed.now (get_or a.order.now l.loop-k.k 0) ≡ true)

@@ -4,7 +4,7 @@ use Rattle.std.specs.Prelude.{◌≡◌, ℕ, ◌-◌, ◌<◌, ◌≤◌, lengt
 use mathlib.Core.Path.{refl, sym, subst, ◌∙◌}
 use native.Mathlib.Omega.{arith}
 use borrow.Author.Rules.{rules}
-use Rattle.lists.proofs.Laws.{mark-in, not-false}
+use Rattle.lists.proofs.Laws.{mark-in}
 use Rattle.suffix_places.specs.inner.Places.{Small, LowestBelow}
 use Rattle.suffix_places.proofs.Lowering.{lowest_start, lowest-skip, lowest-open, lowest-settled}
 use Rattle.tables.specs.Project.{Project}
@@ -41,9 +41,9 @@ small l m = omega (arith, l.loop-k.invariant.2.low m, (entry l).requires.1.1.0 m
 
 loop-holds : tie.Need-loop-k-init invariant-loop decreases-loop
 loop-holds c =
-    let e = c.before.before.before.before.before.before.before.before.before.before.before.before.before in
-    let a = e.args in
-    (refl, omega arith, lowest_start (of e) a.roots.now a.sensitive.now a.eligible.now a.placed.now a.asked.now a.settled.now e.requires.1.1.1.1.0 e.requires.1.1.1.1.1)
+    let a = c.args in
+    let e = c.requires in
+    (refl, omega arith, lowest_start (read (table a.runtime a.dynamic a.bounds.now a.columns.now) a.importers.now a.kinds.now a.targets.now a.dependencies.now a.members.now) a.roots.now a.sensitive.now a.eligible.now a.placed.now a.asked.now a.settled.now e.1.1.1.1.0 e.1.1.1.1.1)
 
 mul-if1 : tie.Need-offset_bounds-settled-k invariant-loop decreases-loop
 mul-if1 c = omega (arith, c.loop-k-test.true, c.well_formed)
@@ -61,7 +61,7 @@ loop-again : tie.Need-loop-k-preserved-then-settled-k-ne0 invariant-loop decreas
 loop-again c =
     let l = c.before.before.before in
     let a = (entry l).args in
-    (refl, omega (arith, c.loop-k-test.true), lowest-skip (of (entry l)) a.roots.now a.sensitive.now a.eligible.now a.placed.now a.asked-1.now l.loop-k.k l.loop-k.settled l.loop-k.asked l.loop-k.invariant.2 c.loop-k-test.true (mark-in (get_or l.loop-k.settled l.loop-k.k 0) c.if-settled-k-ne0.true))
+    (refl, omega (arith, c.loop-k-test.true), lowest-skip (of (entry l)) a.roots.now a.sensitive.now a.eligible.now a.placed.now a.asked.now l.loop-k.k l.loop-k.settled l.loop-k.asked l.loop-k.invariant.2 c.loop-k-test.true (mark-in (get_or l.loop-k.settled l.loop-k.k 0) c.if-settled-k-ne0.true))
 
 mul-lower-entry : tie.Need-offset_bounds-roots-k invariant-loop decreases-loop
 mul-lower-entry c = search rules
@@ -91,7 +91,7 @@ loop-again-2 c =
     let a = (entry l).args in
     let t = c.loop-k-test.true in
     let x = c.lower_entry in
-    (refl, omega (arith, t), lowest-open (of (entry l)) a.roots.now a.sensitive.now a.eligible.now a.placed.now a.asked-1.now l.loop-k.k l.loop-k.settled l.loop-k.asked l.loop-k.invariant.2 t _ x.ensures.lowered)
+    (refl, omega (arith, t), lowest-open (of (entry l)) a.roots.now a.sensitive.now a.eligible.now a.placed.now a.asked.now l.loop-k.k l.loop-k.settled l.loop-k.asked l.loop-k.invariant.2 t _ x.ensures.lowered)
 
 mul-settled : tie.Need-offset_bounds-settled-k-in-loop-k invariant-loop decreases-loop
 mul-settled c = omega (arith, c.loop-k-test.true, c.well_formed)
@@ -111,7 +111,7 @@ loop-again-3 c =
     let a = (entry l).args in
     let t = c.loop-k-test.true in
     let x = c.lower_entry in
-    (refl, omega (arith, t), lowest-settled (of (entry l)) a.roots.now a.sensitive.now a.eligible.now a.placed.now a.asked-1.now l.loop-k.k l.loop-k.settled l.loop-k.asked l.loop-k.invariant.2 t _ x.ensures.lowered (x.ensures.all (not-false x.result c.if-not-lower_entry.false)))
+    (refl, omega (arith, t), lowest-settled (of (entry l)) a.roots.now a.sensitive.now a.eligible.now a.placed.now a.asked.now l.loop-k.k l.loop-k.settled l.loop-k.asked l.loop-k.invariant.2 t _ x.ensures.lowered (x.ensures.all c.if-not-lower_entry.false))
 
 same_length : tie.Need-shape_of-settled invariant-loop decreases-loop
 same_length c = let l = c.before in l.loop-k.invariant.2.size ∙ sym (entry l).requires.1.1.1.1.0
@@ -123,7 +123,7 @@ returns : tie.Need-returns invariant-loop decreases-loop
 returns c =
     let l = c.before in
     let a = (entry l).args in
-    subst (λ (n : ℕ). LowestBelow (of (entry l)) a.roots.now a.sensitive.now a.eligible.now a.placed.now a.asked-1.now n l.loop-k.settled l.loop-k.asked) (let z : l.loop-k.k ≡ length a.roots.now = omega (arith, c.loop-k-test.false, l.loop-k.invariant.0, l.loop-k.invariant.1) in z) l.loop-k.invariant.2
+    subst (λ (n : ℕ). LowestBelow (of (entry l)) a.roots.now a.sensitive.now a.eligible.now a.placed.now a.asked.now n l.loop-k.settled l.loop-k.asked) (let z : l.loop-k.k ≡ length a.roots.now = omega (arith, c.loop-k-test.false, l.loop-k.invariant.0, l.loop-k.invariant.1) in z) l.loop-k.invariant.2
 
 pub lower_entries_spec : {M : Type 1} → statement M
 lower_entries_spec =

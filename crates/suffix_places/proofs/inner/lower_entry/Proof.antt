@@ -12,7 +12,7 @@ use Rattle.tables.specs.Project.{Project}
 use Rattle.table.specs.Table.{table, read}
 use Rattle.expected_order.specs.OfProject.{expected_of}
 use Rattle.expected_order.proofs.Laws.{expected-in, expected-length}
-use Rattle.marks-1.proofs.Parts.{part_length}
+use Rattle.marks.proofs.Parts.{part_length}
 use Rattle.suffix_rule.specs.inner.Suffix.{AllPlanned}
 use Rattle.suffix_places.proofs.inner.lower_entry.Statement.{statement}
 use Rattle.suffix_places.proofs.inner.lower_entry.Tie as tie
@@ -45,7 +45,7 @@ abbrev entry : tie.After-list_expected-count → tie.Start
 entry k = k.before.before.before.before.before.before.before.before.before.before.before.before.before.before
 
 abbrev made : tie.After-list_expected-count → List ℕ
-made k = k.list_expected-count.new.1.1.1.1.1.1.1.1.1.1.0
+made k = k.list_expected-count.new.order
 
 abbrev count : tie.After-list_expected-count → ℕ
 count k = k.list_expected-count.result
@@ -111,7 +111,7 @@ returns c =
     let x = c.lower_order in
     let y = c.is_listed in
     record {
-      lowered = subst (λ (xs : List ℕ). Lowered xs a.sensitive.now a.placed.now a.asked-1.now x.new.1.1.1.0) (back k) x.ensures;
+      lowered = subst (λ (xs : List ℕ). Lowered xs a.sensitive.now a.placed.now a.asked.now x.new.asked) (back k) x.ensures;
       all = λ q. subst (λ (xs : List ℕ). AllPlanned xs a.sensitive.now a.eligible.now a.placed.now) (back k) (y.ensures q);
     }
 

@@ -23,7 +23,7 @@ abbrev entry : Loop → tie.Start invariant-loop decreases-loop
 entry l = l.before.before.before.before.before
 
 member : (l : Loop) → l.loop-k.k < length (entry l).args.order.now → get_or (entry l).args.order.now l.loop-k.k 0 < length (entry l).args.asked.now
-member l t = (entry l).requires.members l.loop-k.k t
+member l t = (entry l).requires.0 l.loop-k.k t
 
 loop-holds : tie.Need-loop-k-init invariant-loop decreases-loop
 loop-holds c = let a = c.args in (refl, omega arith, lowering-start a.order.now a.sensitive.now a.placed.now a.asked.now)
@@ -93,7 +93,7 @@ loop-again-2 c =
     let t = c.loop-k-test.true in (
       refl,
       omega (arith, t),
-      lowering-put a.order.now a.sensitive.now a.placed.now a.asked.now l.loop-k.k l.loop-k.least l.loop-k.asked l.loop-k.invariant.2 e.requires.small (member l t) (mark-in (get_or a.sensitive.now (get_or a.order.now l.loop-k.k 0) 0) c.if-sensitive-m-eq0.false) c.earlier-least.result c.earlier.result c.earlier-least.ensures c.earlier.ensures,
+      lowering-put a.order.now a.sensitive.now a.placed.now a.asked.now l.loop-k.k l.loop-k.least l.loop-k.asked l.loop-k.invariant.2 e.requires.1.1.1 (member l t) (mark-in (get_or a.sensitive.now (get_or a.order.now l.loop-k.k 0) 0) c.if-sensitive-m-eq0.false) c.earlier-least.result c.earlier.result c.earlier-least.ensures c.earlier.ensures,
     )
 
 same_length : tie.Need-shape_of-asked invariant-loop decreases-loop

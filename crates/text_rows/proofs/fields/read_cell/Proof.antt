@@ -17,9 +17,9 @@ enum-known-f c = search rules
 returns : tie.Need-returns-then-s-i
 returns c =
     let a = c.args in
-    let f = c.f-1.given in
-    let told : Told a.s.now (front (drop a.at a.s.now)) (Value f.0.0 f.0.1.0) = rw f.1 at c.read_field-f.ensures in
-    cell-end a.s.now a.at a.end f.0.0 f.0.1.0 told.0 (omega arith) c.if-s-i.true
+    let f = c.in-Value in
+    let told : Told a.s.now (front (drop a.at a.s.now)) (Value f.v f.i) = f.ensures in
+    cell-end a.s.now a.at a.end f.v f.i told.0 (omega arith) c.if-s-i.true
 
 shared-slice-read-if2 : tie.Need-bounds-s-i
 shared-slice-read-if2 c = search rules
@@ -27,9 +27,9 @@ shared-slice-read-if2 c = search rules
 returns-2 : tie.Need-returns-then-s-i-2
 returns-2 c =
     let a = c.args in
-    let f = c.f-1.given in
-    let told : Told a.s.now (front (drop a.at a.s.now)) (Value f.0.0 f.0.1.0) = rw f.1 at c.read_field-f.ensures in
-    cell_other a.s.now a.at a.end f.0.0 f.0.1.0 told.0 (omega arith) (omega arith) c.if-s-i-2.true
+    let f = c.in-Value in
+    let told : Told a.s.now (front (drop a.at a.s.now)) (Value f.v f.i) = f.ensures in
+    cell_other a.s.now a.at a.end f.v f.i told.0 (omega arith) (omega arith) c.if-s-i-2.true
 
 add-t8 : tie.Need-overflow_add-result
 add-t8 c = search rules
@@ -40,14 +40,14 @@ enum_told c = search rules
 returns-3 : tie.Need-returns-else-s-i-2
 returns-3 c =
     let a = c.args in
-    let f = c.f-1.given in
-    let told : Told a.s.now (front (drop a.at a.s.now)) (Value f.0.0 f.0.1.0) = rw f.1 at c.read_field-f.ensures in
-    cell-some a.s.now a.at a.end f.0.0 f.0.1.0 told.0 (omega arith) (omega arith) c.if-s-i-2.false
+    let f = c.in-Value in
+    let told : Told a.s.now (front (drop a.at a.s.now)) (Value f.v f.i) = f.ensures in
+    cell-some a.s.now a.at a.end f.v f.i told.0 (omega arith) (omega arith) c.if-s-i-2.false
 
 returns-4 : tie.Need-returns-in-Broken
 returns-4 c =
     let a = c.args in
-    cell-none a.s.now a.at a.end (rw c.enum_told-1.given.1 at c.read_field-f.ensures) (omega arith)
+    cell-none a.s.now a.at a.end c.in-Broken.ensures (omega arith)
 
 pub read_cell_spec : {M : Type 1} → statement M
 read_cell_spec =

@@ -25,10 +25,10 @@ sub-result-2 c =
     let n = name-here s.args.lines.now s.args.l c.start.result c.start-2.result s.requires.0 s.requires.1 c.start.ensures c.start-2.ensures in
     omega (arith, n.order)
 
-part-result-start : tie.Need-slice-bounds-result-start
+part-result-start : tie.Need-slice_bounds-result-start
 part-result-start = sub-result-2
 
-part-result-end : tie.Need-slice-bounds-result-end
+part-result-end : tie.Need-slice_bounds-result-end
 part-result-end c =
     let s = c.before.before.before in
     let n = name-here s.args.lines.now s.args.l c.start.result c.start-2.result s.requires.0 s.requires.1 c.start.ensures c.start-2.ensures in

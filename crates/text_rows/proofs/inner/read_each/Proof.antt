@@ -41,7 +41,7 @@ loop-again c =
     let n = c.name_at in
     let w = c.width in
     let r = c.read_noted-c in
-    begun_more s.args.s.now s.args.out.now s.args.ends.now l.out l.ends l.c l.l l.invariant n.result.now w.result r.new.1.1.1.1.0 r.new.1.1.1.1.1.0 r.result c.loop-l-test.true n.ensures w.ensures r.ensures
+    begun_more s.args.s.now s.args.out.now s.args.ends.now l.out l.ends l.c l.l l.invariant n.result.now w.result r.new.out r.new.ends r.result c.loop-l-test.true n.ensures w.ensures r.ensures
 
 returns : tie.Need-returns invariant-loop decreases-loop
 returns c =

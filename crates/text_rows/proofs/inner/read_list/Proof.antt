@@ -18,13 +18,13 @@ enum_told c = search rules
 returns : tie.Need-returns-in_default
 returns c =
     let a = c.args in
-    (list-off a.s.now (head a.name.now a.last) a.out.now a.out.now a.c c.enum_told-1.given.1, tt)
+    (list-off a.s.now (head a.name.now a.last) a.out.now a.out.now a.c c.in_default.is, tt)
 
 match-line-requires : tie.Need-match_line-p-requires
 match-line-requires c κs =
     let a = c.args in
-    let g = c.c-1.given in
-    let o : Room a.s.now (On g.0.0 g.0.1.0) = rw g.1 at c.requires in
+    let g = c.in-On in
+    let o : Room a.s.now (On g.at g.k) = rw g.is at c.requires in
     o.0
 
 enum-known-p : tie.Need-enum_known-p
@@ -36,17 +36,17 @@ enum-told-2 c = search rules
 returns-2 : tie.Need-returns-in_default-p
 returns-2 c =
     let a = c.args in
-    let g = c.c-1.given in
-    (list-no-line a.s.now (head a.name.now a.last) a.out.now a.out.now a.c g.0.0 g.0.1.0 g.1 (rw c.enum_told-in_default-p-1.given.1 at c.match_line-p.ensures), tt)
+    let g = c.in-On in
+    (list-no-line a.s.now (head a.name.now a.last) a.out.now a.out.now a.c g.at g.k g.is c.in_default-p.ensures, tt)
 
 read-rows-requires : tie.Need-read_rows-r-requires
 read-rows-requires c κs =
     let a = c.args in
-    let g = c.c-1.given in
-    let p = c.p-1.given in
-    let l : LineIs a.s.now g.0.0 a.name.now (At p.0.0) = rw p.1 at c.match_line-p.ensures in
-    let o : Room a.s.now (On g.0.0 g.0.1.0) = rw g.1 at c.requires in
-    (l.1, omega (arith, o.0, o.1, line_on a.s.now g.0.0 a.name.now p.0.0 l))
+    let g = c.in-On in
+    let p = c.in-At in
+    let l : LineIs a.s.now g.at a.name.now (At p.next) = p.ensures in
+    let o : Room a.s.now (On g.at g.k) = rw g.is at c.requires in
+    (l.1, omega (arith, o.0, o.1, line_on a.s.now g.at a.name.now p.next l))
 
 enum-known-r : tie.Need-enum_known-r
 enum-known-r c = search rules
@@ -57,21 +57,21 @@ enum-told-3 c = search rules
 returns-3 : tie.Need-returns-in-Done
 returns-3 c =
     let a = c.args in
-    let g = c.c-1.given in
-    let p = c.p-1.given in
-    let l : LineIs a.s.now g.0.0 a.name.now (At p.0.0) = rw p.1 at c.match_line-p.ensures in
-    let r = c.r-1.given in
+    let g = c.in-On in
+    let p = c.in-At in
+    let l : LineIs a.s.now g.at a.name.now (At p.next) = p.ensures in
+    let r = c.in-Done in
     let rr = c.read_rows-r in
-    list-yes a.s.now (head a.name.now a.last) a.out.now rr.new.1.1.1.0 a.c g.0.0 g.0.1.0 g.1 p.0.0 r.0.0 r.0.1.0 c.requires l (rw r.1 at rr.ensures)
+    list-yes a.s.now (head a.name.now a.last) a.out.now rr.new.out a.c g.at g.k g.is p.next r.e r.n c.requires l r.ensures
 
 returns-4 : tie.Need-returns-in-Bad
 returns-4 c =
     let a = c.args in
-    let g = c.c-1.given in
-    let p = c.p-1.given in
-    let l : LineIs a.s.now g.0.0 a.name.now (At p.0.0) = rw p.1 at c.match_line-p.ensures in
+    let g = c.in-On in
+    let p = c.in-At in
+    let l : LineIs a.s.now g.at a.name.now (At p.next) = p.ensures in
     let rr = c.read_rows-r in
-    (list-no-rows a.s.now (head a.name.now a.last) a.out.now rr.new.1.1.1.0 a.c g.0.0 g.0.1.0 g.1 p.0.0 l (rw c.enum_told-in-Bad-1.given.1 at rr.ensures), tt)
+    (list-no-rows a.s.now (head a.name.now a.last) a.out.now rr.new.out a.c g.at g.k g.is p.next l c.in-Bad.ensures, tt)
 
 pub read_list_spec : {M : Type 1} → statement M
 read_list_spec =

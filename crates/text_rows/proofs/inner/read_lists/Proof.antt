@@ -4,9 +4,6 @@ use Rattle.text_rows.specs.inner.Cells.{name_lines}
 use Rattle.text_rows.proofs.inner.read_lists.Statement.{statement}
 use Rattle.text_rows.proofs.inner.read_lists.Tie as tie
 
-slice-aggregate-read-each : tie.Need-slice-aggregate-read-each
-slice-aggregate-read-each c = search rules
-
 read-each-requires : tie.Need-read_each-requires
 unfolding name_lines
 read-each-requires c κs = (search rules, refl)
@@ -15,4 +12,4 @@ returns : tie.Need-returns
 returns c = search rules
 
 pub read_lists_spec : {M : Type 1} → statement M
-read_lists_spec = tie.close (tie.spec slice-aggregate-read-each read-each-requires returns)
+read_lists_spec = tie.close (tie.spec read-each-requires returns)

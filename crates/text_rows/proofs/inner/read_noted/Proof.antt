@@ -20,14 +20,14 @@ enum_told c = search rules
 
 returns : tie.Need-returns-in-On
 returns c =
-    let g = c.r-1.given in
+    let g = c.in-On in
     let rl = c.read_list-r in
-    record { list = rw g.1 at rl.ensures.0; room = rw g.1 at rl.ensures.1; noted = refl }
+    record { list = g.ensures.0; room = g.ensures.1; noted = refl }
 
 returns-2 : tie.Need-returns-in-Off
 returns-2 c =
     let rl = c.read_list-r in
-    record { list = rw c.enum_told-1.given.1 at rl.ensures.0; room = tt; noted = tt }
+    record { list = c.in-Off.ensures.0; room = tt; noted = tt }
 
 pub read_noted_spec : {M : Type 1} → statement M
 read_noted_spec =

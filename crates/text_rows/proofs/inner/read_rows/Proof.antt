@@ -26,7 +26,7 @@ end-of-requires c κs =
 
 read-cell-requires : tie.Need-read_cell-f-requires invariant-loop decreases-loop
 read-cell-requires c κs =
-    c.end_of_lem.ensures.1
+    c.end_of.ensures.1
 
 enum-known-f : tie.Need-enum_known-f invariant-loop decreases-loop
 enum-known-f c =
@@ -36,9 +36,9 @@ mul-out : tie.Need-offset_bounds-out-k invariant-loop decreases-loop
 mul-out c =
     let a = c.args in
     let l = c.loop-i in
-    let f = c.f-1.given in
-    let cell : CellIs a.s.now l.i (ender l.left) (Value f.0.0 f.0.1.0) =
-    rw c.end_of_lem.ensures.0 at (rw f.1 at c.read_cell-f.ensures) in
+    let f = c.in-Value in
+    let cell : CellIs a.s.now l.i (ender l.left) (Value f.v f.next) =
+    rw c.end_of.ensures.0 at f.ensures in
     let h : l.k < 32768 = omega (arith, cell.1, cell.2, l.invariant.room, l.invariant.count, c.requires.1) in
     omega arith
 
@@ -46,9 +46,9 @@ element-write-out : tie.Need-bounds-out-k invariant-loop decreases-loop
 element-write-out c =
     let a = c.args in
     let l = c.loop-i in
-    let f = c.f-1.given in
-    let cell : CellIs a.s.now l.i (ender l.left) (Value f.0.0 f.0.1.0) =
-    rw c.end_of_lem.ensures.0 at (rw f.1 at c.read_cell-f.ensures) in
+    let f = c.in-Value in
+    let cell : CellIs a.s.now l.i (ender l.left) (Value f.v f.next) =
+    rw c.end_of.ensures.0 at f.ensures in
     let h : l.k < 32768 = omega (arith, cell.1, cell.2, l.invariant.room, l.invariant.count, c.requires.1) in
     h
 
@@ -56,9 +56,9 @@ add-k : tie.Need-overflow_add-k invariant-loop decreases-loop
 add-k c =
     let a = c.args in
     let l = c.loop-i in
-    let f = c.f-1.given in
-    let cell : CellIs a.s.now l.i (ender l.left) (Value f.0.0 f.0.1.0) =
-    rw c.end_of_lem.ensures.0 at (rw f.1 at c.read_cell-f.ensures) in
+    let f = c.in-Value in
+    let cell : CellIs a.s.now l.i (ender l.left) (Value f.v f.next) =
+    rw c.end_of.ensures.0 at f.ensures in
     let h : l.k < 32768 = omega (arith, cell.1, cell.2, l.invariant.room, l.invariant.count, c.requires.1) in
     omega arith
 
@@ -70,19 +70,19 @@ loop-less : tie.Need-loop-i-smaller invariant-loop decreases-loop
 loop-less c =
     let a = c.args in
     let l = c.loop-i in
-    let f = c.f-1.given in
-    let cell : CellIs a.s.now l.i (ender l.left) (Value f.0.0 f.0.1.0) =
-    rw c.end_of_lem.ensures.0 at (rw f.1 at c.read_cell-f.ensures) in
+    let f = c.in-Value in
+    let cell : CellIs a.s.now l.i (ender l.left) (Value f.v f.next) =
+    rw c.end_of.ensures.0 at f.ensures in
     omega (arith, cell.1, cell.2, c.loop-i-test.true)
 
 loop-again : tie.Need-loop-i-preserved invariant-loop decreases-loop
 loop-again c =
     let a = c.args in
     let l = c.loop-i in
-    let f = c.f-1.given in
-    let cell : CellIs a.s.now l.i (ender l.left) (Value f.0.0 f.0.1.0) =
-    rw c.end_of_lem.ensures.0 at (rw f.1 at c.read_cell-f.ensures) in
-    rw c.next_left-left.ensures (step a.s.now a.at a.last a.out.now a.from l.out l.i l.k l.left f.0.0 f.0.1.0 l.invariant cell)
+    let f = c.in-Value in
+    let cell : CellIs a.s.now l.i (ender l.left) (Value f.v f.next) =
+    rw c.end_of.ensures.0 at f.ensures in
+    rw c.next_left-left.ensures (step a.s.now a.at a.last a.out.now a.from l.out l.i l.k l.left f.v f.next l.invariant cell)
 
 enum_told : tie.Need-enum_told-1 invariant-loop decreases-loop
 enum_told c =
@@ -93,7 +93,7 @@ returns c =
     let a = c.args in
     let l = c.loop-i in
     let cell : CellIs a.s.now l.i (ender l.left) Broken =
-    rw c.end_of_lem.ensures.0 at (rw c.enum_told-1.given.1 at c.read_cell-f.ensures) in
+    rw c.end_of.ensures.0 at c.in-Broken.ensures in
     refuse-row a.s.now a.at a.last a.out.now a.from l.out l.i l.k l.left l.invariant cell c.if-left-last.true
 
 shared-slice-read-if2 : tie.Need-bounds-s-i invariant-loop decreases-loop
@@ -105,7 +105,7 @@ returns-2 c =
     let a = c.args in
     let l = c.loop-i in
     let cell : CellIs a.s.now l.i (ender l.left) Broken =
-    rw c.end_of_lem.ensures.0 at (rw c.enum_told-1.given.1 at c.read_cell-f.ensures) in
+    rw c.end_of.ensures.0 at c.in-Broken.ensures in
     refuse-byte a.s.now a.at a.last a.out.now a.from l.out l.i l.k l.left l.invariant cell (omega arith) c.if-s-i-ne10.true
 
 add-t21 : tie.Need-overflow_add-result invariant-loop decreases-loop

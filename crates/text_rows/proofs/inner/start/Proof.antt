@@ -6,7 +6,7 @@ use Rattle.text_rows.proofs.inner.start.Tie as tie
 mul-result : tie.Need-offset_bounds-l
 mul-result c = search rules
 
-array-read-result : tie.Need-array-read-result
+array-read-result : tie.Need-bounds-l
 array-read-result c = search rules
 
 returns : tie.Need-returns

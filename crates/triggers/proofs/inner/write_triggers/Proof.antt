@@ -22,10 +22,10 @@ abbrev entry : Loop → tie.Start invariant-loop decreases-loop
 entry l = l.before.before.before.before.before.before.before
 
 abbrev trigger : Loop → ℕ → ℕ
-trigger l = let a = (entry l).args in row_trigger a.normal.now a.included.now a.wrap.now a.record-kind.now a.record-target.now
+trigger l = let a = (entry l).args in row_trigger a.normal.now a.included.now a.wrap.now a.record_kind.now a.record_target.now
 
 loop-holds : tie.Need-loop-row-init invariant-loop decreases-loop
-loop-holds c = let a = c.args in written_start (row_trigger a.normal.now a.included.now a.wrap.now a.record-kind.now a.record-target.now) a.triggers.now
+loop-holds c = let a = c.args in written_start (row_trigger a.normal.now a.included.now a.wrap.now a.record_kind.now a.record_target.now) a.triggers.now
 
 trigger-of-requires : tie.Need-trigger_of-requires invariant-loop decreases-loop
 trigger-of-requires c κs =

@@ -48,7 +48,7 @@ loop-less : tie.Need-loop-m-smaller invariant-loop decreases-loop
 loop-less c = simp length-set (omega arith)
 
 loop-again : tie.Need-loop-m-preserved invariant-loop decreases-loop
-loop-again c = let l = c.before.before in written-more (way l) (entry l).args.ways.now l.loop-m.m l.loop-m.ways c.Way-of.result l.loop-m.invariant c.loop-m-test.true c.Way-of.ensures
+loop-again c = let l = c.before.before in written-more (way l) (entry l).args.ways.now l.loop-m.m l.loop-m.ways c.way_of.result l.loop-m.invariant c.loop-m-test.true c.way_of.ensures
 
 same_length : tie.Need-shape_of-ways invariant-loop decreases-loop
 same_length c = c.loop-m.invariant.len

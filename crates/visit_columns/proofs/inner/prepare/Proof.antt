@@ -30,25 +30,25 @@ module _ (e : tie.Start) where
   chunks = length e.args.order.now
 
   abbrev records : ℕ
-  records = length e.args.record-module.now
+  records = length e.args.record_module.now
 
   abbrev loads : ℕ
-  loads = length e.args.import-chunk.now
+  loads = length e.args.import_chunk.now
 
   few : modules ≤ 4096
-  few = e.requires.room.0
+  few = e.requires.1.1.1.0
 
   few-chunks : chunks ≤ 1024
-  few-chunks = e.requires.imports.limit
+  few-chunks = e.requires.1.1.0.limit
 
   few-records : records ≤ 16384
-  few-records = e.requires.fit.rows
+  few-records = e.requires.0.rows
 
   few-loads : loads ≤ 16384
-  few-loads = e.requires.imports.rows
+  few-loads = e.requires.1.1.0.rows
 
   size : length e.args.prepared.now ≡ 43011
-  size = e.requires.room.1
+  size = e.requires.1.1.1.1
 
   front-size : length (take modules e.args.prepared.now) ≡ modules
   front-size = length-take-le modules e.args.prepared.now (omega (arith, few, size))
@@ -60,7 +60,7 @@ module _ (x : tie.After-write_ways) where
   start₁ = entry x.before
 
   abbrev made₁ : List ℕ
-  made₁ = x.write_ways.last.1.1.1.0
+  made₁ = x.write_ways.new.ways
 
   abbrev list₁ : List ℕ
   list₁ = made₁ ++ drop (modules start₁) start₁.args.prepared.now
@@ -88,7 +88,7 @@ module _ (x : tie.After-first_rows) where
   end₂ = 4096 + modules start₂ + 1
 
   abbrev made₂ : List ℕ
-  made₂ = x.first_rows.last.1.0
+  made₂ = x.first_rows.new.starts
 
   abbrev list₂ : List ℕ
   list₂ = put_mid 4096 (end₂ - 4096) (list₁ before₂) made₂
@@ -116,7 +116,7 @@ module _ (x : tie.After-first_rows-2) where
   end₃ = 8193 + chunks start₃ + 1
 
   abbrev made₃ : List ℕ
-  made₃ = x.first_rows-2.last.1.0
+  made₃ = x.first_rows-2.new.starts
 
   abbrev list₃ : List ℕ
   list₃ = put_mid 8193 (end₃ - 8193) (list₂ before₃) made₃
@@ -148,7 +148,7 @@ module _ (x : tie.After-first_rows-3) where
   end₄ = 9218 + chunks start₄ + 1
 
   abbrev made₄ : List ℕ
-  made₄ = x.first_rows-3.last.1.0
+  made₄ = x.first_rows-3.new.starts
 
   abbrev list₄ : List ℕ
   list₄ = put_mid 9218 (end₄ - 9218) (list₃ before₄) made₄
@@ -180,7 +180,7 @@ module _ (x : tie.After-write_triggers) where
   end₅ = 10243 + records start₅
 
   abbrev made₅ : List ℕ
-  made₅ = x.write_triggers.last.1.1.1.1.1.0
+  made₅ = x.write_triggers.new.triggers
 
   abbrev list₅ : List ℕ
   list₅ = put_mid 10243 (end₅ - 10243) (list₄ before₅) made₅
@@ -212,7 +212,7 @@ module _ (x : tie.After-arrange) where
   end₆ = 26627 + loads start₆
 
   abbrev made₆ : List ℕ
-  made₆ = x.arrange.last.1.1.1.0
+  made₆ = x.arrange.new.loads
 
   abbrev list₆ : List ℕ
   list₆ = put_mid 26627 (end₆ - 26627) (list₅ before₆) made₆
@@ -259,28 +259,28 @@ module _ (x : tie.After-arrange) where
       front₆ x (modules start) (omega arith) ∙ front₅ at₅ (modules start) (omega arith) ∙ front₄ at₄ (modules start) (omega arith) ∙ front₃ at₃ (modules start) (omega arith) ∙ front₂ at₂ (modules start) (omega arith)
       ∙ written₁ at₁
 
-  starts : FirstRows start.args.record-module.now (starts_in (modules start) (list₆ x))
+  starts : FirstRows start.args.record_module.now (starts_in (modules start) (list₆ x))
   starts =
       let l = few start in
-      subst (FirstRows start.args.record-module.now)
+      subst (FirstRows start.args.record_module.now)
       (sym (kept₆ x 4096 (4096 + modules start + 1) (omega arith) ∙ kept₅ at₅ 4096 (4096 + modules start + 1) (omega arith) ∙ kept₄ at₄ 4096 (4096 + modules start + 1) (omega arith) ∙ kept₃ at₃ 4096 (4096 + modules start + 1) (omega arith) ∙ part₂ at₂))
       at₂.first_rows.ensures
 
-  member-starts : FirstRows start.args.member-chunk.now (member_starts_in (chunks start) (list₆ x))
+  member-starts : FirstRows start.args.member_chunk.now (member_starts_in (chunks start) (list₆ x))
   member-starts =
       let l = few-chunks start in
-      subst (FirstRows start.args.member-chunk.now)
+      subst (FirstRows start.args.member_chunk.now)
       (sym (kept₆ x 8193 (8193 + chunks start + 1) (omega arith) ∙ kept₅ at₅ 8193 (8193 + chunks start + 1) (omega arith) ∙ kept₄ at₄ 8193 (8193 + chunks start + 1) (omega arith) ∙ part₃ at₃))
       at₃.first_rows-2.ensures
 
-  load-starts : FirstRows start.args.import-chunk.now (load_starts_in (chunks start) (list₆ x))
+  load-starts : FirstRows start.args.import_chunk.now (load_starts_in (chunks start) (list₆ x))
   load-starts =
       let l = few-chunks start in
-      subst (FirstRows start.args.import-chunk.now)
+      subst (FirstRows start.args.import_chunk.now)
       (sym (kept₆ x 9218 (9218 + chunks start + 1) (omega arith) ∙ kept₅ at₅ 9218 (9218 + chunks start + 1) (omega arith) ∙ part₄ at₄))
       at₄.first_rows-3.ensures
 
-  trigger : triggers_in (records start) (list₆ x) ≡ triggers start.args.normal.now start.args.included.now start.args.wrap.now start.args.record-kind.now start.args.record-target.now (records start)
+  trigger : triggers_in (records start) (list₆ x) ≡ triggers start.args.normal.now start.args.included.now start.args.wrap.now start.args.record_kind.now start.args.record_target.now (records start)
   trigger =
       let l = few-records start in
       let a = start.args in
@@ -288,13 +288,13 @@ module _ (x : tie.After-arrange) where
       kept₆ x 10243 (10243 + records start) (omega arith)
       ∙ part₅ at₅
       ∙ at₅.write_triggers.ensures
-      ∙ ap (λ (n : ℕ). map (row_trigger a.normal.now a.included.now a.wrap.now a.record-kind.now a.record-target.now) (up_to n)) z
+      ∙ ap (λ (n : ℕ). map (row_trigger a.normal.now a.included.now a.wrap.now a.record_kind.now a.record_target.now) (up_to n)) z
 
-  loaded : values_of start.args.import-chunk.now (loads_in (loads start) (list₆ x)) ≡ load_order start.args.order.now start.args.import-chunk.now start.args.imports.now
-  loaded = ap (values_of start.args.import-chunk.now) (part₆ x) ∙ x.arrange.ensures
+  loaded : values_of start.args.import_chunk.now (loads_in (loads start) (list₆ x)) ≡ load_order start.args.order.now start.args.import_chunk.now start.args.imports.now
+  loaded = ap (values_of start.args.import_chunk.now) (part₆ x) ∙ x.arrange.ensures
 
   loads-size : length (loads_in (loads start) (list₆ x)) ≡ length start.args.imports.now
-  loads-size = mid_len 26627 (26627 + loads start) (list₆ x) (omega (arith, size₆ x, few-loads start)) ∙ omega (arith, start.requires.imports.lengths)
+  loads-size = mid_len 26627 (26627 + loads start) (list₆ x) (omega (arith, size₆ x, few-loads start)) ∙ omega (arith, start.requires.1.1.0.lengths)
 
 add-starts-end : tie.Need-overflow_add-starts_end
 add-starts-end c = search rules
@@ -327,7 +327,7 @@ slice-aggregate-write-ways : tie.Need-slice_bounds-write_ways-end-2
 slice-aggregate-write-ways c = sym (front-size (entry c))
 
 write-ways-requires : tie.Need-write_ways-requires
-write-ways-requires c κs = let e = entry c in let z = sym (front-size e) in let f = e.requires.fit in (z, f.includeds ∙ z, f.wraps ∙ z)
+write-ways-requires c κs = let e = entry c in let z = sym (front-size e) in let f = e.requires.0 in (z, f.includeds ∙ z, f.wraps ∙ z)
 
 mul-first-rows : tie.Need-offset_bounds-prepared-starts
 mul-first-rows c = search rules
@@ -335,10 +335,10 @@ mul-first-rows c = search rules
 sub-first-rows : tie.Need-slice_bounds-first_rows-count
 sub-first-rows c = search rules
 
-part-first-rows-start : tie.Need-slice-bounds-first-rows-start
+part-first-rows-start : tie.Need-slice_bounds-first_rows-start
 part-first-rows-start c = search rules
 
-part-first-rows-end : tie.Need-slice-bounds-first-rows-end
+part-first-rows-end : tie.Need-slice_bounds-first_rows-end
 part-first-rows-end c = let w = c.before.before in omega (arith, size₁ w, few (start₁ w))
 
 first-rows-requires : tie.Need-first_rows-requires
@@ -350,10 +350,10 @@ mul-first-rows-2 c = search rules
 sub-first-rows-2 : tie.Need-slice_bounds-first_rows-count-2
 sub-first-rows-2 c = search rules
 
-part-first-rows-start-2 : tie.Need-slice-bounds-first-rows-start-2
+part-first-rows-start-2 : tie.Need-slice_bounds-first_rows-start-2
 part-first-rows-start-2 c = search rules
 
-part-first-rows-end-2 : tie.Need-slice-bounds-first-rows-end-2
+part-first-rows-end-2 : tie.Need-slice_bounds-first_rows-end-2
 part-first-rows-end-2 c = let w = c.before.before in omega (arith, size₂ w, few-chunks (start₂ w))
 
 first-rows-requires-2 : tie.Need-first_rows-requires-2
@@ -365,10 +365,10 @@ mul-first-rows-3 c = search rules
 sub-first-rows-3 : tie.Need-slice_bounds-first_rows-count-3
 sub-first-rows-3 c = search rules
 
-part-first-rows-start-3 : tie.Need-slice-bounds-first-rows-start-3
+part-first-rows-start-3 : tie.Need-slice_bounds-first_rows-start-3
 part-first-rows-start-3 c = search rules
 
-part-first-rows-end-3 : tie.Need-slice-bounds-first-rows-end-3
+part-first-rows-end-3 : tie.Need-slice_bounds-first_rows-end-3
 part-first-rows-end-3 c = let w = c.before.before in omega (arith, size₃ w, few-chunks (start₃ w))
 
 first-rows-requires-3 : tie.Need-first_rows-requires-3
@@ -380,17 +380,17 @@ mul-write-triggers c = search rules
 sub-write-triggers : tie.Need-slice_bounds-write_triggers-count
 sub-write-triggers c = search rules
 
-part-write-triggers-start : tie.Need-slice-bounds-write-triggers-start
+part-write-triggers-start : tie.Need-slice_bounds-write_triggers-start
 part-write-triggers-start c = search rules
 
-part-write-triggers-end : tie.Need-slice-bounds-write-triggers-end
+part-write-triggers-end : tie.Need-slice_bounds-write_triggers-end
 part-write-triggers-end c = let w = c.before.before in omega (arith, size₄ w, few-records (start₄ w))
 
 write-triggers-requires : tie.Need-write_triggers-requires
 write-triggers-requires c κs =
     let w = c.before.before.before in
     let e = start₄ w in
-    let f = e.requires.fit in
+    let f = e.requires.0 in
     let z : records e ≡ length (cut 10243 (10243 + records e) (list₄ w)) = sym (mid_len 10243 (10243 + records e) (list₄ w) (omega (arith, size₄ w, few-records e)) ∙ omega arith) in
     (f.kinds ∙ z, (f.targets ∙ z, (f.includeds, f.wraps)))
 
@@ -400,17 +400,17 @@ mul-arrange c = search rules
 sub-arrange : tie.Need-slice_bounds-arrange-count
 sub-arrange c = search rules
 
-part-arrange-start : tie.Need-slice-bounds-arrange-start
+part-arrange-start : tie.Need-slice_bounds-arrange-start
 part-arrange-start c = search rules
 
-part-arrange-end : tie.Need-slice-bounds-arrange-end
+part-arrange-end : tie.Need-slice_bounds-arrange-end
 part-arrange-end c = let w = c.before.before in omega (arith, size₅ w, few-loads (start₅ w))
 
 arrange-requires : tie.Need-arrange-requires
 arrange-requires c κs =
     let w = c.before.before.before in
     let e = start₅ w in
-    (e.requires.imports, mid_len 26627 (26627 + loads e) (list₅ w) (omega (arith, size₅ w, few-loads e)) ∙ omega (arith, e.requires.imports.lengths))
+    (e.requires.1.1.0, mid_len 26627 (26627 + loads e) (list₅ w) (omega (arith, size₅ w, few-loads e)) ∙ omega (arith, e.requires.1.1.0.lengths))
 
 same_length : tie.Need-shape_of-prepared
 same_length c = let x = c.before.before in size₆ x ∙ sym (size (start₆ x))
@@ -427,7 +427,7 @@ returns c =
         member_starts = member-starts x;
         load_starts = load-starts x;
         trigger = trigger x;
-        loading = arranged-loads a.order.now a.import-chunk.now a.imports.now e.requires.imports (loads_in (loads e) (list₆ x)) (loads-size x) (loaded x);
+        loading = arranged-loads a.order.now a.import_chunk.now a.imports.now e.requires.1.1.0 (loads_in (loads e) (list₆ x)) (loads-size x) (loaded x);
       },
       loaded x,
     )

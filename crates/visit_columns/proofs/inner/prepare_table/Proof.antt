@@ -25,7 +25,7 @@ prepare-wrapped-requires c κs = let k = c.before in (ap length (own k) ∙ c.re
 returns : tie.Need-returns
 returns c =
     let call = c.before.before in
-    subst (λ (wraps : List ℕ). PreparedAs (of c.before.before.before.before.before.before.before.before.before.before.before.before.before) wraps call.prepare_wrapped.new.1.1.1.1.1.1.1.1.1.1.0) (own c.before.before.before.before) call.prepare_wrapped.ensures
+    subst (λ (wraps : List ℕ). PreparedAs (of c.before.before.before.before.before.before.before.before.before.before.before.before.before) wraps call.prepare_wrapped.new.prepared) (own c.before.before.before.before) call.prepare_wrapped.ensures
 
 pub prepare_table_spec : {M : Type 1} → statement M
 prepare_table_spec = tie.close (tie.spec (λ c κs. search rules) prepare-wrapped-requires (λ c. search rules) returns)

@@ -43,7 +43,7 @@ returns c =
     let e = c.before.before.before.before.before.before.before.before.before.before.before.before.before.before.before.before.before.before.before in
     let p = of e in
     let call = c.before.before in
-    let made : List ℕ = call.prepare.new.1.1.1.1.1.1.1.1.1.1.0 in
+    let made : List ℕ = call.prepare.new.prepared in
     let all =
     given6 (λ normal included order owners from imports. Parts normal included e.args.wraps.now p.record_module p.record_kind p.record_target owners from made (length normal) (length order) × (values_of from (loads_in (length from) made) ≡ load_order order from imports))
     c.column.ensures c.column-2.ensures c.column-3.ensures c.column-4.ensures c.column-5.ensures c.column-6.ensures call.prepare.ensures in

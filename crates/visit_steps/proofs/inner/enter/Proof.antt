@@ -59,7 +59,7 @@ cast-end c = omega (arith, c.shared_slice_known-4-1.given ((entry c.before.befor
 
 next-requires : tie.Need-next-requires
 next-requires c κs =
-    let e = entry c.before.before.before in
+    let e = entry c.before.before in
     let a = e.args in
     (within e, subst (λ (n : ℕ). BelowOrMissing n a.column.now) (sym (length-set a.marks.now a.m 1)) e.requires.1)
 
@@ -69,7 +69,7 @@ same_length c = search rules
 returns-2 : tie.Need-returns
 unfolding leads
 returns-2 c =
-    let test = c.before.before.before.before in
+    let test = c.before.before.before in
     let e = entry test in
     let a = e.args in
     let r = c.next.ensures in

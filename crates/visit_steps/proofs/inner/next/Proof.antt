@@ -40,12 +40,12 @@ module _ (t : Here) where
   row = t.loop-row.row
 
   there : row < length entry.args.column.now
-  there = omega (arith, t.loop-row-test.taken, entry.requires.0)
+  there = omega (arith, t.loop-row-test.true, entry.requires.0)
 
   -- what the row names is left, and those behind it
   step : (here : List ℕ) → named entry.args.column.now row ≡ here → let a = entry.args in
       Passed a.marks.now (behind (named a.column.now) a.visit) (here ++ flat_map (named a.column.now) (count_from (row + 1) (a.visit.end - (row + 1))))
-  step here e = passed-row (named entry.args.column.now) row entry.args.visit.end t.loop-row.invariant t.loop-row-test.taken e
+  step here e = passed-row (named entry.args.column.now) row entry.args.visit.end t.loop-row.invariant t.loop-row-test.true e
 
 -- where it names a place
 module _ (x : tie.Else-m invariant-loop decreases-loop) where
@@ -56,11 +56,11 @@ module _ (x : tie.Else-m invariant-loop decreases-loop) where
   place = get_or (entry at).args.column.now (row at) 0
 
   inside : place < length (entry at).args.marks.now
-  inside = ⊎_elim (λ h. h) (λ h. absurd (x.if-m.left h)) ((entry at).requires.1 (row at) (there at))
+  inside = ⊎_elim (λ h. h) (λ h. absurd (x.if-m.false h)) ((entry at).requires.1 (row at) (there at))
 
   found : let a = (entry at).args in
       Passed a.marks.now (behind (named a.column.now) a.visit) (place ∷ flat_map (named a.column.now) (count_from (row at + 1) (a.visit.end - (row at + 1))))
-  found = step at (place ∷ []) (named_some (entry at).args.column.now (row at) x.if-m.left)
+  found = step at (place ∷ []) (named_some (entry at).args.column.now (row at) x.if-m.false)
 
 loop-holds : tie.Need-loop-row-init invariant-loop decreases-loop
 loop-holds c = passed_none c.args.marks.now _

@@ -48,10 +48,10 @@ module _ (t : Here) where
   Rest l = let a = entry.args in Passed a.marks.now (flat_map rows (count_from a.first (length a.member.now - a.first))) (l ++ flat_map rows (count_from (row + 1) (length a.member.now - (row + 1))))
 
   step : (l : List ℕ) → rows row ≡ l → Rest l
-  step l e = passed-row rows row (length entry.args.member.now) t.loop-row.invariant.1 t.loop-row-test.taken e
+  step l e = passed-row rows row (length entry.args.member.now) t.loop-row.invariant.1 t.loop-row-test.true e
 
   inside : here < length entry.args.marks.now
-  inside = entry.requires.2 row t.loop-row-test.taken
+  inside = entry.requires.2 row t.loop-row-test.true
 
 -- the module at hand executes in the way asked for
 abbrev at : tie.Else-ways-m invariant-loop decreases-loop → Here
@@ -106,7 +106,7 @@ loop-again-2 : tie.Need-loop-row-preserved invariant-loop decreases-loop
 loop-again-2 c =
     let x = c.before.before in
     let t = at x in
-    (omega (arith, t.loop-row-test.taken), passed-one (kept x) (fresh-not (entry t).args.marks.now (here t) c.if-marks-m-ne0.true))
+    (omega (arith, t.loop-row-test.true), passed-one (kept x) (fresh-not (entry t).args.marks.now (here t) c.if-marks-m-ne0.true))
 
 returns : tie.Need-returns-in-loop-row invariant-loop decreases-loop
 returns c = let x = c.before.before in record { rest = kept x; end = refl; within = omega (arith, (at x).loop-row-test.true) }

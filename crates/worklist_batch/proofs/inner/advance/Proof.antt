@@ -1,15 +1,13 @@
 -- `worklist_batch::inner::advance` meets its contract: a batch that isn't taken yet goes on, and for a new one all that is listed is noted where that can matter.
 -- Assumes nothing.
-use Rattle.std.specs.Prelude.{◌≡◌, ℕ, ◌+◌, ◌-◌, ◌<◌, ◌≤◌, true, false, List, length, get_or, take, drop}
-use mathlib.Core.Path.{refl, sym, ap, subst, ◌∙◌}
+use Rattle.std.specs.Prelude.{◌≡◌, ℕ, ◌+◌, ◌-◌, ◌≤◌, true, List, length, get_or}
+use mathlib.Core.Path.{sym, ap, subst, ◌∙◌}
 use native.Mathlib.Omega.{arith}
 use borrow.Author.Rules.{rules}
 use Rattle.lists.specs.Words.{has}
-use Rattle.lists.proofs.Laws.{not-true}
 use Rattle.tables.specs.Project.{Project}
 use Rattle.tables.specs.Readings.{modules}
 use Rattle.table.specs.Table.{table, read}
-use Rattle.sensitivity.specs.Marks.{sensitive_marks}
 use Rattle.sensitivity.proofs.Marks.{length-grounds}
 use Rattle.wrap_rules.proofs.Sets.{length-candidates}
 use Rattle.request_queue.proofs.Growing.{count_fits}
@@ -32,7 +30,7 @@ sensitives e = ap length e.requires.0.sensitive_set ∙ length-grounds (of e)
 mul-any-sensitive : tie.Need-offset_bounds-list-end
 mul-any-sensitive c = let e = c.before.before.before.before.before.before.before.before.before.before.before.before.before.before.before.before.before.before in record { fits = omega (arith, small e, e.requires.1.within) }
 
-part-any-sensitive-end : tie.Need-slice-bounds-any-sensitive-end
+part-any-sensitive-end : tie.Need-slice_bounds-any_sensitive-end
 part-any-sensitive-end c = let e = c.before.before.before.before.before.before.before.before.before.before.before.before.before.before.before.before.before.before in omega (arith, fits e, e.requires.1.within)
 
 any-sensitive-requires : tie.Need-any_sensitive-requires
@@ -55,7 +53,7 @@ returns-2 c =
       settling = b.settling;
       batch = none-sensitive (of e) e.requires.0.accepted a.placed.now a.list.now a.asked.now a.heads.now a.nexts.now a.count a.end b.listed b.batch
           (λ i l h q.
-          s.ensures (not-true s.result c.if-not-any_sensitive.true) (i - a.end) (omega (arith, n, l, h))
+          s.ensures c.if-not-any_sensitive.true (i - a.end) (omega (arith, n, l, h))
           (subst (λ (x : ℕ). has a.sensitive.now x ≡ true) (sym (part_at a.list.now a.end a.count b.within (fits e) i l h)) (subst (λ (xs : List ℕ). has xs (get_or a.list.now i 0) ≡ true) (sym e.requires.0.sensitive_set) q)));
       before = b.ahead;
       within = omega arith;
@@ -71,12 +69,12 @@ returns-3 c =
     let e = c.before.before.before.before.before.before.before.before.before.before.before.before.before.before.before.before.before.before.before.before.before.before.before in
     let a = e.args in
     let b = e.requires.1 in
-    let s = c.Any-open in
+    let s = c.any_open in
     record {
       settling = b.settling;
       batch = none_open (of e) e.requires.0.accepted a.placed.now a.list.now a.asked.now a.heads.now a.nexts.now a.count a.end b.listed b.batch
           (λ m l q g.
-          s.ensures (not-true s.result c.if-not-any_open.true) m l (subst (λ (xs : List ℕ). has xs m ≡ true) (sym e.requires.0.sensitive_set) q) (subst (λ (xs : List ℕ). has xs m ≡ true) (sym e.requires.0.candidate_set) g))
+          s.ensures c.if-not-any_open.true m l (subst (λ (xs : List ℕ). has xs m ≡ true) (sym e.requires.0.sensitive_set) q) (subst (λ (xs : List ℕ). has xs m ≡ true) (sym e.requires.0.candidate_set) g))
           b.size;
       before = b.ahead;
       within = omega arith;
@@ -84,7 +82,7 @@ returns-3 c =
 
 note-asked-requires : tie.Need-note_asked-requires
 note-asked-requires c κs =
-    let e = c.before.before.before.before.before.before.before.before.before.before.before.before.before.before.before.before.before.before.before.before.before.before.before.before.before.before.before in
+    let e = c in
     let s = e.requires.0 in
     let b = e.requires.1 in
     record {
@@ -99,7 +97,7 @@ note-asked-requires c κs =
 
 returns-4 : tie.Need-returns
 returns-4 c =
-    let e = c.before.before.before.before.before.before.before.before.before.before.before.before.before.before.before.before.before.before.before.before.before.before.before.before.before.before.before.before.before.before.before.before.before.before.before.before in
+    let e = c in
     let s = c.note_asked in
     record { settling = s.ensures.settling; batch = s.ensures.batch e.args.count; before = e.requires.1.ahead; within = omega arith }
 

@@ -1,15 +1,13 @@
 -- `worklist_batch::inner::any_sensitive` meets its contract: none of the modules before i is sensitive.
 -- Assumes nothing.
-use Rattle.std.specs.Prelude.{◌≡◌, ℕ, ◌+◌, ◌-◌, ◌<◌, ◌≤◌, Bool, true, false, ◌⊎◌, List, length, get_or, take, drop, replicate}
-use mathlib.Core.Path.{refl, sym, ap, subst, ◌∙◌}
-use mathlib.Core.Logic.{inl, inr, ⊎_elim}
+use Rattle.std.specs.Prelude.{◌≡◌, ℕ, ◌+◌, ◌-◌, ◌<◌, ◌≤◌, true, List, length, get_or}
+use mathlib.Core.Path.{refl, sym, subst, ◌∙◌}
 use mathlib.Core.Bool.{true≢false}
 use native.Mathlib.Omega.{arith}
 use native.Mathlib.Decide.{ℕ_discrete}
-use lib.ListN.{length-drop}
 use borrow.Author.Rules.{rules}
 use Rattle.lists.specs.Words.{has}
-use Rattle.lists.proofs.Laws.{mark-in, mark-out, not-true, length-marks_of}
+use Rattle.lists.proofs.Laws.{mark-out}
 use Rattle.worklist_batch.proofs.inner.any_sensitive.Statement.{statement}
 use Rattle.worklist_batch.proofs.inner.any_sensitive.Tie as tie
 

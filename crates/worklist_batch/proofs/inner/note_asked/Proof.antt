@@ -1,28 +1,22 @@
 -- `worklist_batch::inner::note_asked` meets its contract.
 -- Assumes nothing.
-use Rattle.std.specs.Prelude.{◌≡◌, ℕ, ◌+◌, ◌-◌, ◌<◌, ◌≤◌, Bool, true, false, ◌⊎◌, List, length, get_or, take, drop, replicate}
-use mathlib.Core.Path.{refl, sym, ap, subst, ◌∙◌}
-use mathlib.Core.Logic.{inl, inr, ⊎_elim}
-use mathlib.Core.Bool.{true≢false}
+use Rattle.std.specs.Prelude.{◌≡◌, ℕ, ◌<◌, ◌≤◌, List, length, get_or, replicate}
+use mathlib.Core.Path.{sym, ap, subst, ◌∙◌}
 use native.Mathlib.Omega.{arith}
-use native.Mathlib.Decide.{ℕ_discrete}
-use lib.ListN.{length-drop}
 use borrow.Author.Rules.{rules}
-use Rattle.lists.specs.Words.{has}
-use Rattle.lists.proofs.Laws.{mark-in, mark-out, not-true, length-marks_of}
+use Rattle.lists.proofs.Laws.{length-marks_of}
 use lib.ListN.{get_or-replicate, length-replicate, get_or-eq_default}
 use native.Mathlib.Decide.{dec_lt}
 use Rattle.tables.specs.Project.{Project}
 use Rattle.tables.specs.Readings.{modules}
-use Rattle.tables.specs.Accepted.{Below}
 use Rattle.table.specs.Table.{table, read}
 use Rattle.sensitivity.specs.Marks.{sensitive_marks}
 use Rattle.sensitivity.proofs.Marks.{length-grounds}
 use Rattle.eligibility.specs.Eligible.{eligible, eligible_marks}
 use Rattle.wrap_rules.specs.Plan.{roots}
 use Rattle.wrap_rules.proofs.Roots.{roots-below}
-use Rattle.suffix_rule.specs.inner.Suffix.{Settled, SettledOf}
-use Rattle.suffix_places.specs.inner.Places.{never, Small, Lowest, LowestBelow}
+use Rattle.suffix_rule.specs.inner.Suffix.{Settled}
+use Rattle.suffix_places.specs.inner.Places.{never, Small, Lowest}
 use Rattle.table.proofs.Cut.{given3, asked3}
 use Rattle.worklist_batch.proofs.Noting.{lowest-batch}
 use Rattle.worklist_batch.proofs.inner.note_asked.Statement.{statement}
@@ -32,10 +26,10 @@ abbrev of : tie.Start → Project
 of e = let a = e.args in read (table a.runtime a.dynamic a.bounds.now a.columns.now) a.importers.now a.kinds.now a.targets.now a.dependencies.now a.members.now
 
 -- after the fill
-filled : (k : tie.After-fill) → k.fill.new.0 ≡ replicate (modules (of k.before.before.before.before.before.before.before.before.before.before.before.before.before.before.before.before.before)) never
+filled : (k : tie.After-fill) → k.fill.new.slots ≡ replicate (modules (of k.before.before.before.before.before.before.before.before.before.before.before.before.before.before.before.before.before)) never
 filled k = k.fill.ensures ∙ ap (λ (n : ℕ). replicate n never) k.requires.slices.len
 
-filled-length : (k : tie.After-fill) → length k.fill.new.0 ≡ modules (of k.before.before.before.before.before.before.before.before.before.before.before.before.before.before.before.before.before)
+filled-length : (k : tie.After-fill) → length k.fill.new.slots ≡ modules (of k.before.before.before.before.before.before.before.before.before.before.before.before.before.before.before.before.before)
 filled-length k = ap length (filled k) ∙ length-replicate {A = ℕ} (modules (of k.before.before.before.before.before.before.before.before.before.before.before.before.before.before.before.before.before)) never
 
 small : (n m : ℕ) → get_or (replicate n never) m 0 ≤ never
@@ -54,16 +48,16 @@ fill-requires c κs = search rules
 
 -- what lowering leaves, at the project's own sets
 lowest : (k : tie.After-lower_entries) → let e = k.before.before.before.before.before.before.before.before.before.before.before.before.before.before.before.before.before.before.before.before.before.before in
-    Lowest (of e) (roots (of e)) (sensitive_marks (of e)) (eligible_marks (of e)) e.args.placed.now k.fill.new.0 k.lower_entries.new.1.1.1.1.1.1.1.1.1.1.1.1.1.0 k.lower_entries.new.1.1.1.1.1.1.1.1.1.1.1.1.1.1.0
+    Lowest (of e) (roots (of e)) (sensitive_marks (of e)) (eligible_marks (of e)) e.args.placed.now k.fill.new.slots k.lower_entries.new.settled k.lower_entries.new.asked
 lowest k =
     let e = k.before.before.before.before.before.before.before.before.before.before.before.before.before.before.before.before.before.before.before.before.before.before in
-    given3 (λ (root_list sensitives eligibles : List ℕ). Lowest (of e) root_list sensitives eligibles e.args.placed.now k.fill.new.0 k.lower_entries.new.1.1.1.1.1.1.1.1.1.1.1.1.1.0 k.lower_entries.new.1.1.1.1.1.1.1.1.1.1.1.1.1.1.0)
+    given3 (λ (root_list sensitives eligibles : List ℕ). Lowest (of e) root_list sensitives eligibles e.args.placed.now k.fill.new.slots k.lower_entries.new.settled k.lower_entries.new.asked)
     e.requires.root e.requires.sensitive_set e.requires.eligible_set k.lower_entries.ensures
 
-asked-length : (k : tie.After-lower_entries) → length k.lower_entries.new.1.1.1.1.1.1.1.1.1.1.1.1.1.1.0 ≡ modules (of k.before.before.before.before.before.before.before.before.before.before.before.before.before.before.before.before.before.before.before.before.before.before)
+asked-length : (k : tie.After-lower_entries) → length k.lower_entries.new.asked ≡ modules (of k.before.before.before.before.before.before.before.before.before.before.before.before.before.before.before.before.before.before.before.before.before.before)
 asked-length k = (lowest k).len ∙ filled-length k.before.before.before.before.before
 
-asked-below : (k : tie.After-lower_entries) (i : ℕ) → get_or k.lower_entries.new.1.1.1.1.1.1.1.1.1.1.1.1.1.1.0 i 0 ≤ never
+asked-below : (k : tie.After-lower_entries) (i : ℕ) → get_or k.lower_entries.new.asked i 0 ≤ never
 asked-below k i =
     let f = k.before.before.before.before.before in
     omega (arith, (lowest k).low i, small (modules (of k.before.before.before.before.before.before.before.before.before.before.before.before.before.before.before.before.before.before.before.before.before.before)) i, ap (λ (xs : List ℕ). get_or xs i 0) (filled f))
@@ -78,7 +72,7 @@ lower-entries-requires c κs =
       (
         e.requires.size ∙ sym n,
         (
-          all_small f.fill.new.0 (modules p) (filled f),
+          all_small f.fill.new.slots (modules p) (filled f),
           (
             λ i l. omega (arith, n, subst (λ (xs : List ℕ). (j : ℕ) → j < length xs → get_or xs j 0 < modules p) (sym e.requires.root) (roots-below p e.requires.accepted) i l),
             (
@@ -92,8 +86,8 @@ lower-entries-requires c κs =
 
 thread-requires : tie.Need-thread-requires
 thread-requires c κs =
-    let k = c.before.before.before.before.before.before.before in
-    let e = c.before.before.before.before.before.before.before.before.before.before.before.before.before.before.before.before.before.before.before.before.before.before.before.before.before.before.before.before.before in
+    let k = c.before.before.before.before.before.before in
+    let e = c in
     record {
       rows = omega (arith, asked-length k, e.requires.accepted.sizes.normal);
       room = omega (arith, asked-length k, e.requires.slices.places);
@@ -101,10 +95,10 @@ thread-requires c κs =
     }
 
 same_length : tie.Need-shape_of-settled
-same_length c = let k = c.before.before.before.before.before.before.before.before.before.before.before.before in let e = c.before.before.before.before.before.before.before.before.before.before.before.before.before.before.before.before.before.before.before.before.before.before.before.before.before.before.before.before.before.before.before.before.before.before in (lowest k).size ∙ sym e.requires.settling.size
+same_length c = let k = c.before.before.before.before.before.before.before.before.before.before.before in let e = c in (lowest k).size ∙ sym e.requires.settling.size
 
 same-length-2 : tie.Need-shape_of-asked
-same-length-2 c = let k = c.before.before.before.before.before.before.before.before.before.before.before.before in let e = c.before.before.before.before.before.before.before.before.before.before.before.before.before.before.before.before.before.before.before.before.before.before.before.before.before.before.before.before.before.before.before.before.before.before in asked-length k ∙ sym e.requires.slices.len
+same-length-2 c = let k = c.before.before.before.before.before.before.before.before.before.before.before in let e = c in asked-length k ∙ sym e.requires.slices.len
 
 same-length-3 : tie.Need-shape_of-heads
 same-length-3 c = search rules
@@ -114,12 +108,12 @@ same-length-4 c = search rules
 
 returns : tie.Need-returns
 returns c =
-    let k = c.before.before.before.before.before.before.before.before.before.before.before.before in
-    let e = c.before.before.before.before.before.before.before.before.before.before.before.before.before.before.before.before.before.before.before.before.before.before.before.before.before.before.before.before.before.before.before.before.before.before in
+    let k = c.before.before.before.before.before.before.before.before.before.before.before in
+    let e = c.before.before.before.before.before.before.before.before.before.before.before.before.before.before.before.before.before.before.before.before.before.before.before.before.before.before.before.before.before.before.before.before.before in
     let t = c.thread in
     record {
       settling = record { size = (lowest k).size; settles = (lowest k).settles };
-      batch = lowest-batch (of e) e.args.placed.now k.fill.new.0 _ _ t.new.1.0 t.new.1.1.0 (asked-length k) (filled k.before.before.before.before.before) (lowest k) (t.auto.1.0 ∙ e.requires.slices.room) (t.auto.1.1.0 ∙ e.requires.slices.places) t.ensures;
+      batch = lowest-batch (of e) e.args.placed.now k.fill.new.slots _ _ t.new.heads t.new.nexts (asked-length k) (filled k.before.before.before.before.before) (lowest k) (t.auto.heads ∙ e.requires.slices.room) (t.auto.nexts ∙ e.requires.slices.places) t.ensures;
     }
 
 pub note_asked_spec : {M : Type 1} → statement M

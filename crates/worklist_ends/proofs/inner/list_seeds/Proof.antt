@@ -35,7 +35,7 @@ shared-slice-read-m c = search rules
 
 -- a seed is a module
 inside : (l : Loop) → l.loop-i.i < length (entry l).args.seeds.now → get_or (entry l).args.seeds.now l.loop-i.i 0 < length (entry l).args.eligible.now
-inside l t = (entry l).requires.seeds l.loop-i.i t
+inside l t = (entry l).requires.0 l.loop-i.i t
 
 cast-if1 : tie.Need-overflow_cast-m invariant-loop decreases-loop
 cast-if1 c = let l = c.before.before in omega (arith, inside l c.loop-i-test.true, (entry l).requires.1.1.0)
@@ -56,14 +56,14 @@ loop-again : tie.Need-loop-i-preserved-then-eligible-m-eq0 invariant-loop decrea
 loop-again c =
     let l = c.before.before.before.before in
     let a = (entry l).args in
-    (refl, omega (arith, c.loop-i-test.true), seeded-pass a.seeds.now a.eligible.now a.placed-1.now a.list-1.now l.loop-i.i l.loop-i.placed l.loop-i.list l.loop-i.end l.loop-i.invariant.2 (λ e. true≢false (sym e ∙ mark-out (get_or a.eligible.now (get_or a.seeds.now l.loop-i.i 0) 0) c.if-eligible-m-eq0.true)))
+    (refl, omega (arith, c.loop-i-test.true), seeded-pass a.seeds.now a.eligible.now a.placed.now a.list.now l.loop-i.i l.loop-i.placed l.loop-i.list l.loop-i.end l.loop-i.invariant.2 (λ e. true≢false (sym e ∙ mark-out (get_or a.eligible.now (get_or a.seeds.now l.loop-i.i 0) 0) c.if-eligible-m-eq0.true)))
 
 push-requires : tie.Need-push-end-requires invariant-loop decreases-loop
 push-requires c κs =
     let l = c.before.before.before.before.before.before in
     let e = entry l in
     let g = l.loop-i.invariant.2.grew in
-    (g.listed, (omega (arith, g.size, e.requires.eligible, e.requires.few), omega (arith, g.size, e.requires.eligible, inside l c.loop-i-test.true)))
+    (g.listed, (omega (arith, g.size, e.requires.1.0, e.requires.1.1.0), omega (arith, g.size, e.requires.1.0, inside l c.loop-i-test.true)))
 
 add-i-2 : tie.Need-overflow_step-i-in-loop-i invariant-loop decreases-loop
 add-i-2 c = let t = c.loop-i-test.true in let i = c.loop-i.invariant in let g = c.well_formed in search rules
@@ -76,7 +76,7 @@ loop-again-2 c =
     let l = c.before.before.before.before.before.before.before.before.before.before.before in
     let a = (entry l).args in
     let t = c.loop-i-test.true in
-    (refl, omega (arith, t), seeded-put a.seeds.now a.eligible.now a.placed-1.now a.list-1.now l.loop-i.i l.loop-i.placed l.loop-i.list l.loop-i.end l.loop-i.invariant.2 t (mark-in (get_or a.eligible.now (get_or a.seeds.now l.loop-i.i 0) 0) c.if-eligible-m-eq0.false) _ _ _ c.push-end.ensures)
+    (refl, omega (arith, t), seeded-put a.seeds.now a.eligible.now a.placed.now a.list.now l.loop-i.i l.loop-i.placed l.loop-i.list l.loop-i.end l.loop-i.invariant.2 t (mark-in (get_or a.eligible.now (get_or a.seeds.now l.loop-i.i 0) 0) c.if-eligible-m-eq0.false) _ _ _ c.push-end.ensures)
 
 same_length : tie.Need-shape_of-placed invariant-loop decreases-loop
 same_length c = c.loop-i.invariant.2.grew.size
@@ -88,7 +88,7 @@ returns : tie.Need-returns invariant-loop decreases-loop
 returns c =
     let l = c.before in
     let a = (entry l).args in
-    subst (λ (n : ℕ). SeededBelow a.seeds.now a.eligible.now n a.placed-1.now a.list-1.now l.loop-i.placed l.loop-i.list l.loop-i.end) (let z : l.loop-i.i ≡ length a.seeds.now = omega (arith, c.loop-i-test.false, l.loop-i.invariant.0, l.loop-i.invariant.1) in z) l.loop-i.invariant.2
+    subst (λ (n : ℕ). SeededBelow a.seeds.now a.eligible.now n a.placed.now a.list.now l.loop-i.placed l.loop-i.list l.loop-i.end) (let z : l.loop-i.i ≡ length a.seeds.now = omega (arith, c.loop-i-test.false, l.loop-i.invariant.0, l.loop-i.invariant.1) in z) l.loop-i.invariant.2
 
 pub list_seeds_spec : {M : Type 1} → statement M
 list_seeds_spec =

@@ -20,7 +20,7 @@ Loop = tie.At-loop-m invariant-loop decreases-loop
 
 -- a listed module's place is in the slice
 inside : (l : Loop) → (get_or l.args.placed.now l.loop-m.m 0 ≡ 0 → ⊥) → get_or l.args.placed.now l.loop-m.m 0 - 1 < length l.args.list.now
-inside l n = omega (arith, n, l.requires.room l.loop-m.m)
+inside l n = omega (arith, n, l.requires.1 l.loop-m.m)
 
 loop-holds : tie.Need-loop-m-init invariant-loop decreases-loop
 loop-holds c = (refl, omega arith, written_start _ _)

@@ -6,7 +6,7 @@ use native.Mathlib.Omega.{arith}
 use Rattle.tables.specs.Project.{Project}
 use Rattle.tables.specs.Readings.{modules}
 use Rattle.table.specs.Table.{table, read}
-use Rattle.marks.proofs.Parts.{Lent, view, part_length, view-room, view-is, view-length}
+use Rattle.marks.proofs.Parts.{Lent, part_length, view-room, view-is, view-length}
 use Rattle.wrap_plan.specs.inner.Seeded.{Seeds}
 use borrow.Author.Rules.{rules}
 use Rattle.worklist_ends.specs.inner.Ends.{ListWritten}
@@ -39,7 +39,7 @@ few k = omega (arith, counted k, (entry k).requires.0.accepted.sizes.normal)
 abbrev begun : tie.After-run_table-count → tie.After-rows-n
 begun k = k.before.before.before
 
-lent : (k : tie.After-run_table-count) → Lent 4096 (count (begun k)) k.run_table-count.new.1.1.1.1.1.1.1.1.1.1.0
+lent : (k : tie.After-run_table-count) → Lent 4096 (count (begun k)) k.run_table-count.new.placed
 lent k = record { fits = few (begun k); kept = k.run_table-count.auto.placed }
 
 array-borrow-prefix-placed : tie.Need-slice_bounds-placed-end
@@ -81,8 +81,8 @@ returns c =
     let e = entry (begun k) in
     let r = k.run_table-count in
     let w = c.write_listed in
-    run-written (of e) e.args.seeds.now r.new.1.1.1.1.1.1.1.1.1.1.0 e.args.lengths.now r.new.1.1.1.1.1.1.1.1.1.1.1.0 e.args.list.now w.new.1.0 r.result r.ensures e.requires.1.0 e.requires.1.1
-    (subst (λ (xs : List ℕ). ListWritten xs e.args.list.now w.new.1.0) (view-is (lent k)) w.ensures)
+    run-written (of e) e.args.seeds.now r.new.placed e.args.lengths.now r.new.lengths e.args.list.now w.new.list r.result r.ensures e.requires.1.0 e.requires.1.1
+    (subst (λ (xs : List ℕ). ListWritten xs e.args.list.now w.new.list) (view-is (lent k)) w.ensures)
 
 pub list_takings_spec : {M : Type 1} → statement M
 list_takings_spec =

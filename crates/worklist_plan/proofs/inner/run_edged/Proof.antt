@@ -9,7 +9,7 @@ use Rattle.tables.specs.Threads.{Threads}
 use Rattle.marks.proofs.Parts.{Lent, view, part_length, view-room, view-is, view-length}
 use Rattle.worklist_step.specs.inner.Step.{nodes}
 use Rattle.worklist_taking.specs.inner.State.{GraphOf}
-use Rattle.request_edges-count.specs.inner.Edges.{Threadable}
+use Rattle.request_edges.specs.inner.Edges.{Threadable}
 use Rattle.request_graph.specs.inner.Requests.{EdgeRoom, Requests}
 use Rattle.worklist_plan.proofs.Graphing.{edges-threadable, edges-graph}
 use Rattle.tables.specs.Project.{Project}
@@ -49,10 +49,10 @@ module _ (k : tie.After-request_edges-count) where
   count = k.request_edges-count.result
 
   abbrev from : List ℕ
-  from = k.request_edges-count.last.1.1.1.1.1.1.1.1.1.1.1.1.1.1.1.0
+  from = k.request_edges-count.new.from
 
   abbrev to : List ℕ
-  to = k.request_edges-count.last.1.1.1.1.1.1.1.1.1.1.1.1.1.1.1.1.0
+  to = k.request_edges-count.new.to
 
   edges : Requests (of entry) (replicate many 0) (replicate many 0) from to count
   unfolding many
@@ -100,10 +100,10 @@ module _ (k : tie.After-thread_edges) where
   written = k.before.before.before.before.before.before
 
   abbrev heads : List ℕ
-  heads = k.thread_edges.last.1.0
+  heads = k.thread_edges.new.heads
 
   abbrev nexts : List ℕ
-  nexts = k.thread_edges.last.1.1.0
+  nexts = k.thread_edges.new.nexts
 
   nexts-kept : length nexts ≡ length {A = ℕ} (take (count written) (replicate many 0))
   unfolding many

@@ -18,7 +18,7 @@ slice-aggregate-run-rooted : tie.Need-slice_bounds-run_rooted-end
 slice-aggregate-run-rooted c = let w = c.list_table_roots-count.ensures in w.count ∙ sym (ap length (written_read w))
 
 run-rooted-requires : tie.Need-run_rooted-requires
-run-rooted-requires c κs = let e = c.before.before.before.before.before.before.before.before.before.before.before.before.before.before.before.before.before.before.before in (record { basis = e.requires.0; root = written_read c.list_table_roots-count.ensures }, e.requires.1)
+run-rooted-requires c κs = let e = c in (record { basis = e.requires.0; root = written_read c.list_table_roots-count.ensures }, e.requires.1)
 
 same_length : tie.Need-shape_of-placed
 same_length c = c.run_rooted.auto.placed

@@ -1,14 +1,13 @@
 -- `worklist_plan::inner::run_rooted` meets its contract: the import edges are written, the candidates are chosen, and the modules are taken.
 -- Assumes nothing.
 use Rattle.std.specs.Prelude.{◌≡◌, ℕ, ◌≤◌, List, length, take}
-use mathlib.Core.Path.{sym, ap, subst, ◌∙◌}
+use mathlib.Core.Path.{sym, subst, ◌∙◌}
 use native.Mathlib.Omega.{arith}
 use lib.Seq.{length-take-le}
-use Rattle.tables.specs.Readings.{modules}
 use Rattle.tables.specs.Accepted.{Accepted}
 use Rattle.import_edges.specs.inner.Spread.{record_targets, EdgesOf}
 use Rattle.import_edges.proofs.Edging.{edges-part}
-use Rattle.marks.proofs.Parts.{Lent, view, part_none, part-bits, part_length, view-room, view-is, view-length}
+use Rattle.marks.proofs.Parts.{Lent, part_none, part-bits, part_length, view-room, view-is, view-length}
 use Rattle.tables.specs.Project.{Project}
 use Rattle.table.specs.Table.{table, read}
 use borrow.Author.Rules.{rules}
@@ -38,25 +37,25 @@ module _ (k : tie.After-list_edges-edges) where
   count = k.list_edges-edges.result
 
   abbrev importers : List ℕ
-  importers = take count k.list_edges-edges.last.1.1.1.1.1.1.1.1.1.0
+  importers = take count k.list_edges-edges.new.from
 
   abbrev targets : List ℕ
-  targets = take count k.list_edges-edges.last.1.1.1.1.1.1.1.1.1.1.0
+  targets = take count k.list_edges-edges.new.to
 
   few-edges : count ≤ 16384
   few-edges = omega (arith, k.list_edges-edges.ensures.few, (ok entry).sizes.record_module)
 
-  importers-room : count ≤ length k.list_edges-edges.last.1.1.1.1.1.1.1.1.1.0
+  importers-room : count ≤ length k.list_edges-edges.new.from
   importers-room = omega (arith, few-edges, k.list_edges-edges.auto.from)
 
-  targets-room : count ≤ length k.list_edges-edges.last.1.1.1.1.1.1.1.1.1.1.0
+  targets-room : count ≤ length k.list_edges-edges.new.to
   targets-room = omega (arith, few-edges, k.list_edges-edges.auto.to)
 
   importers-length : length importers ≡ count
-  importers-length = length-take-le count k.list_edges-edges.last.1.1.1.1.1.1.1.1.1.0 importers-room
+  importers-length = length-take-le count k.list_edges-edges.new.from importers-room
 
   targets-length : length targets ≡ count
-  targets-length = length-take-le count k.list_edges-edges.last.1.1.1.1.1.1.1.1.1.1.0 targets-room
+  targets-length = length-take-le count k.list_edges-edges.new.to targets-room
 
   edges : EdgesOf (of entry) importers targets (length importers)
   edges = subst (EdgesOf (of entry) importers targets) (sym importers-length) (edges-part (of entry).record_module (record_targets (of entry)) k.list_edges-edges.ensures)
@@ -65,7 +64,7 @@ module _ (k : tie.After-list_edges-edges) where
 abbrev written : tie.After-choose_candidates → tie.After-list_edges-edges
 written k = k.before.before.before.before.before.before
 
-lent : (k : tie.After-choose_candidates) → Lent 4096 (size (entry (written k))) k.choose_candidates.new.1.1.1.1.1.1.1.1.1.1.1.1.1.0
+lent : (k : tie.After-choose_candidates) → Lent 4096 (size (entry (written k))) k.choose_candidates.new.candidates
 lent k = record { fits = few (entry (written k)); kept = k.choose_candidates.auto.candidates }
 
 list-edges-requires : tie.Need-list_edges-edges-requires

@@ -1,7 +1,7 @@
 -- `worklist_run::inner::run_linked` meets its contract: a run from empty arrays.
 -- Assumes nothing.
-use Rattle.std.specs.Prelude.{◌≡◌, ℕ, ◌+◌, ◌<◌, ◌≤◌, true, List, length, get_or, take, replicate}
-use mathlib.Core.Path.{refl, sym, ap, subst, ◌∙◌}
+use Rattle.std.specs.Prelude.{◌≡◌, ℕ, ◌≤◌, true, List, length, take, replicate}
+use mathlib.Core.Path.{sym, ap, subst, ◌∙◌}
 use native.Mathlib.Omega.{arith}
 use lib.ListN.{length-replicate}
 use borrow.Author.Rules.{rules}
@@ -11,7 +11,7 @@ use Rattle.tables.specs.Readings.{modules}
 use Rattle.tables.specs.Accepted.{Below, Accepted}
 use Rattle.tables.specs.Threads.{Threads}
 use Rattle.table.specs.Table.{table, read}
-use Rattle.marks-1.proofs.Parts.{Lent, view, part_none, part_length, view-room, view-is, view-length}
+use Rattle.marks.proofs.Parts.{Lent, view, part_none, part_length, view-room, view-is, view-length}
 use Rattle.reached_modules.proofs.Choosing.{few-roots}
 use Rattle.wrap_plan.proofs.Seeding.{zeros-none}
 use Rattle.suffix_places.specs.inner.Places.{never}
@@ -46,13 +46,13 @@ module _ (k : tie.After-start_notes) where
   entry = k.before.before.before.before.before.before.before.before.before.before.before.before.before.before.before.before.before.before.before.before.before.before
 
   abbrev asked : List ℕ
-  asked = k.start_notes.last.0
+  asked = k.start_notes.new.asked
 
   abbrev heads : List ℕ
-  heads = k.start_notes.last.1.0
+  heads = k.start_notes.new.heads
 
   abbrev nexts : List ℕ
-  nexts = k.start_notes.last.1.1.0
+  nexts = k.start_notes.new.nexts
 
   asked-lent : Lent 4096 (size entry) asked
   asked-lent = record { fits = few entry; kept = k.start_notes.auto.asked }
@@ -128,7 +128,7 @@ take-all-requires c κs =
     let k = c.before.before.before.before.before.before.before.before.before.before.before.before.before.before.before.before in
     let e = entry k in
     let f = c.fill in
-    (e.requires.0, (e.requires.1.0, (subst (λ (i : ℕ). Below i e.args.seeds.now) (sym f.auto.0) e.requires.1.1.0.inside, (starting k f.new.0 f.ensures, subst (λ (i : ℕ). i ≤ length e.args.lengths.now) (sym f.auto.0) e.requires.1.1.1))))
+    (e.requires.0, (e.requires.1.0, (subst (λ (i : ℕ). Below i e.args.seeds.now) (sym f.auto.slots) e.requires.1.1.0.inside, (starting k f.new.slots f.ensures, subst (λ (i : ℕ). i ≤ length e.args.lengths.now) (sym f.auto.slots) e.requires.1.1.1))))
 
 same_length : tie.Need-shape_of-placed
 same_length c = c.take_all.auto.placed ∙ c.fill.auto.slots
@@ -137,7 +137,7 @@ same-length-2 : tie.Need-shape_of-lengths
 same-length-2 c = c.take_all.auto.lengths
 
 returns : tie.Need-returns
-returns c = let t = c.take_all in record { list = t.new.1.1.1.1.1.1.1.1.1.1.1.1.1.1.1.1.1.1.1.1.1.0; taken = t.ensures }
+returns c = let t = c.take_all in record { list = t.new.list; taken = t.ensures }
 
 pub run_linked_spec : {M : Type 1} → statement M
 run_linked_spec =

@@ -1,7 +1,7 @@
 -- `worklist_run::inner::start_notes` meets its contract.
 -- Assumes nothing.
-use Rattle.std.specs.Prelude.{◌≡◌, ℕ, ◌+◌, ◌<◌, ◌≤◌, List, length, get_or, replicate}
-use mathlib.Core.Path.{sym, ap, ◌∙◌}
+use Rattle.std.specs.Prelude.{◌≡◌, ℕ, List, length, get_or}
+use mathlib.Core.Path.{ap, ◌∙◌}
 use native.Mathlib.Omega.{arith}
 use lib.ListN.{get_or-replicate, length-replicate}
 use borrow.Author.Rules.{rules}
@@ -11,9 +11,9 @@ use Rattle.worklist_run.proofs.inner.start_notes.Tie as tie
 
 thread-requires : tie.Need-thread-requires
 thread-requires c κs =
-    let e = c.before.before.before.before.before.before.before.before.before.before in
+    let e = c in
     let f = c.fill in
-    let n : length f.new.0 ≡ length e.args.asked.now = ap length f.ensures ∙ length-replicate {A = ℕ} (length e.args.asked.now) never in
+    let n : length f.new.slots ≡ length e.args.asked.now = ap length f.ensures ∙ length-replicate {A = ℕ} (length e.args.asked.now) never in
     record {
       rows = omega (arith, n, e.requires.few);
       room = omega (arith, n, e.requires.places);

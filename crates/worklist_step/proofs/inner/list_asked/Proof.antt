@@ -32,7 +32,7 @@ after : (l : Loop) → l.loop-row.row < length (entry l).args.asked.now → let 
 after l t =
     let e = entry l in
     let a = e.args in
-    subst (λ (x : ℕ). NextRow a.asked.now x (l.loop-row.row + 1) (get_or a.nexts.now l.loop-row.row 0)) (l.loop-row.invariant.0.mine t) (e.requires.threads.next l.loop-row.row t)
+    subst (λ (x : ℕ). NextRow a.asked.now x (l.loop-row.row + 1) (get_or a.nexts.now l.loop-row.row 0)) (l.loop-row.invariant.0.mine t) (e.requires.0.next l.loop-row.row t)
 
 mul-row : tie.Need-offset_bounds-heads-at invariant-loop decreases-loop
 mul-row c = search rules
@@ -45,7 +45,7 @@ cast-row c = omega (arith, c.shared_slice_known-5-1.given c.args.at)
 
 loop-holds : tie.Need-loop-row-init invariant-loop decreases-loop
 loop-holds c =
-    let e = c.before.before.before.before.before.before.before in
+    let e = c in
     let a = e.args in
     let h = e.requires.0.first a.at e.requires.1.0 in
     (at_next h, asked-start a.asked.now a.eligible.now a.at a.placed.now a.list.now a.count (get_or a.heads.now a.at 0) e.requires.1.1.1.1.1 h)
@@ -74,7 +74,7 @@ loop-again c =
     let e = entry l in
     let a = e.args in
     let t = c.loop-row-test.true in
-    (at_next (after l t), asked-pass a.asked.now a.eligible.now a.at a.placed.now a.list.now a.count l.loop-row.row (get_or a.nexts.now l.loop-row.row 0) l.loop-row.placed l.loop-row.list l.loop-row.end l.loop-row.invariant.1 t (l.loop-row.invariant.0.mine t) (e.requires.threads.next l.loop-row.row t) (λ z. true≢false (sym z ∙ mark-out (get_or a.eligible.now l.loop-row.row 0) c.if-eligible-m-eq0.true)))
+    (at_next (after l t), asked-pass a.asked.now a.eligible.now a.at a.placed.now a.list.now a.count l.loop-row.row (get_or a.nexts.now l.loop-row.row 0) l.loop-row.placed l.loop-row.list l.loop-row.end l.loop-row.invariant.1 t (l.loop-row.invariant.0.mine t) (e.requires.0.next l.loop-row.row t) (λ z. true≢false (sym z ∙ mark-out (get_or a.eligible.now l.loop-row.row 0) c.if-eligible-m-eq0.true)))
 
 cast-push : tie.Need-overflow_cast-m invariant-loop decreases-loop
 cast-push c = record { fits = omega (arith, c.loop-row-test.true, c.requires.1.1.0) }
@@ -84,7 +84,7 @@ push-requires c κs =
     let l = c.before.before.before.before.before.before in
     let e = entry l in
     let g = l.loop-row.invariant.1.grew in
-    (g.listed, (omega (arith, g.size, e.requires.size, e.requires.few), omega (arith, g.size, e.requires.size, c.loop-row-test.true)))
+    (g.listed, (omega (arith, g.size, e.requires.1.1.1.1.0, e.requires.1.1.0), omega (arith, g.size, e.requires.1.1.1.1.0, c.loop-row-test.true)))
 
 loop-less-2 : tie.Need-loop-row-smaller invariant-loop decreases-loop
 loop-less-2 c = let l = c.before.before.before.before.before.before.before.before.before.before.before in omega (arith, c.loop-row-test.true, (after l c.loop-row-test.true).after)
@@ -95,7 +95,7 @@ loop-again-2 c =
     let e = entry l in
     let a = e.args in
     let t = c.loop-row-test.true in
-    (at_next (after l t), asked-put a.asked.now a.eligible.now a.at a.placed.now a.list.now a.count l.loop-row.row (get_or a.nexts.now l.loop-row.row 0) l.loop-row.placed l.loop-row.list l.loop-row.end l.loop-row.invariant.1 t (l.loop-row.invariant.0.mine t) (e.requires.threads.next l.loop-row.row t) (mark-in (get_or a.eligible.now l.loop-row.row 0) c.if-eligible-m-eq0.false) _ _ _ c.push-end.ensures)
+    (at_next (after l t), asked-put a.asked.now a.eligible.now a.at a.placed.now a.list.now a.count l.loop-row.row (get_or a.nexts.now l.loop-row.row 0) l.loop-row.placed l.loop-row.list l.loop-row.end l.loop-row.invariant.1 t (l.loop-row.invariant.0.mine t) (e.requires.0.next l.loop-row.row t) (mark-in (get_or a.eligible.now l.loop-row.row 0) c.if-eligible-m-eq0.false) _ _ _ c.push-end.ensures)
 
 same_length : tie.Need-shape_of-placed invariant-loop decreases-loop
 same_length c = c.loop-row.invariant.1.grew.size
@@ -107,7 +107,7 @@ returns : tie.Need-returns invariant-loop decreases-loop
 returns c =
     let l = c.before in
     let a = (entry l).args in
-    subst (λ (n : ℕ). AskedBelow a.asked.now a.eligible.now a.at n a.placed-1.now a.list-1.now a.count l.loop-row.placed l.loop-row.list l.loop-row.end) (let z : l.loop-row.row ≡ length a.asked.now = omega (arith, c.loop-row-test.false, l.loop-row.invariant.0.within) in z) l.loop-row.invariant.1
+    subst (λ (n : ℕ). AskedBelow a.asked.now a.eligible.now a.at n a.placed.now a.list.now a.count l.loop-row.placed l.loop-row.list l.loop-row.end) (let z : l.loop-row.row ≡ length a.asked.now = omega (arith, c.loop-row-test.false, l.loop-row.invariant.0.within) in z) l.loop-row.invariant.1
 
 pub list_asked_spec : {M : Type 1} → statement M
 list_asked_spec =

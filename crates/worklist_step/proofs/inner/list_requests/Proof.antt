@@ -26,7 +26,7 @@ abbrev entry : Loop → tie.Start invariant-loop decreases-loop
 entry l = l.before.before.before.before.before.before
 
 loop-holds : tie.Need-loop-i-init invariant-loop decreases-loop
-loop-holds c = let e = c.before.before.before.before.before in let a = e.args in (refl, omega arith, requested-start a.part.now a.marks.now a.candidates.now a.placed.now a.list.now a.count e.requires.1.1.1)
+loop-holds c = let e = c in let a = e.args in (refl, omega arith, requested-start a.part.now a.marks.now a.candidates.now a.placed.now a.list.now a.count e.requires.1.1.1)
 
 mul-module-of : tie.Need-offset_bounds-part-i invariant-loop decreases-loop
 mul-module-of c = search rules
@@ -35,7 +35,7 @@ shared-slice-read-module-of : tie.Need-bounds-part-i invariant-loop decreases-lo
 shared-slice-read-module-of c = search rules
 
 module-of-requires : tie.Need-module_of-m-requires invariant-loop decreases-loop
-module-of-requires c κs = let e = c.before.before.before.before.before.before.before.before in (e.requires.0, e.requires.1.0)
+module-of-requires c κs = let e = c in (e.requires.0, e.requires.1.0)
 
 cast-if1 : tie.Need-overflow_cast-m invariant-loop decreases-loop
 cast-if1 c = search rules
@@ -54,14 +54,14 @@ loop-again : tie.Need-loop-i-preserved-then-candidates-m invariant-loop decrease
 loop-again c =
     let l = c.before.before.before.before in
     let a = (entry l).args in
-    (refl, omega (arith, c.loop-i-test.true), requested-pass a.part.now a.marks.now a.candidates.now a.placed-1.now a.list-1.now a.count l.loop-i.i l.loop-i.placed l.loop-i.list l.loop-i.end l.loop-i.invariant.2 c.module_of-m.result c.module_of-m.ensures c.if-candidates-m.true (inside a.marks.now a.candidates.now (get_or a.part.now l.loop-i.i 0)))
+    (refl, omega (arith, c.loop-i-test.true), requested-pass a.part.now a.marks.now a.candidates.now a.placed.now a.list.now a.count l.loop-i.i l.loop-i.placed l.loop-i.list l.loop-i.end l.loop-i.invariant.2 c.module_of-m.result c.module_of-m.ensures c.if-candidates-m.true (inside a.marks.now a.candidates.now (get_or a.part.now l.loop-i.i 0)))
 
 push-requires : tie.Need-push-end-requires invariant-loop decreases-loop
 push-requires c κs =
     let l = c.before.before.before.before.before.before in
     let e = entry l in
     let g = l.loop-i.invariant.2.grew in
-    (g.listed, (omega (arith, g.size, e.requires.size, e.requires.few), omega (arith, g.size, e.requires.size, c.if-candidates-m.false)))
+    (g.listed, (omega (arith, g.size, e.requires.1.1.0, e.requires.1.0), omega (arith, g.size, e.requires.1.1.0, c.if-candidates-m.false)))
 
 add-i-2 : tie.Need-overflow_step-i-in-loop-i invariant-loop decreases-loop
 add-i-2 c = let t = c.loop-i-test.true in let i = c.loop-i.invariant in let g = c.well_formed in search rules
@@ -73,7 +73,7 @@ loop-again-2 : tie.Need-loop-i-preserved invariant-loop decreases-loop
 loop-again-2 c =
     let l = c.before.before.before.before.before.before.before.before.before.before.before in
     let a = (entry l).args in
-    (refl, omega (arith, c.loop-i-test.true), requested-put a.part.now a.marks.now a.candidates.now a.placed-1.now a.list-1.now a.count l.loop-i.i l.loop-i.placed l.loop-i.list l.loop-i.end l.loop-i.invariant.2 c.module_of-m.result c.module_of-m.ensures (omega (arith, c.if-candidates-m.false)) _ _ _ c.push-end.ensures)
+    (refl, omega (arith, c.loop-i-test.true), requested-put a.part.now a.marks.now a.candidates.now a.placed.now a.list.now a.count l.loop-i.i l.loop-i.placed l.loop-i.list l.loop-i.end l.loop-i.invariant.2 c.module_of-m.result c.module_of-m.ensures (omega (arith, c.if-candidates-m.false)) _ _ _ c.push-end.ensures)
 
 same_length : tie.Need-shape_of-placed invariant-loop decreases-loop
 same_length c = c.loop-i.invariant.2.grew.size
@@ -85,7 +85,7 @@ returns : tie.Need-returns invariant-loop decreases-loop
 returns c =
     let l = c.before in
     let a = (entry l).args in
-    subst (λ (n : ℕ). RequestedBelow a.part.now a.marks.now a.candidates.now n a.placed-1.now a.list-1.now a.count l.loop-i.placed l.loop-i.list l.loop-i.end) (let z : l.loop-i.i ≡ length a.part.now = omega (arith, c.loop-i-test.false, l.loop-i.invariant.0, l.loop-i.invariant.1) in z) l.loop-i.invariant.2
+    subst (λ (n : ℕ). RequestedBelow a.part.now a.marks.now a.candidates.now n a.placed.now a.list.now a.count l.loop-i.placed l.loop-i.list l.loop-i.end) (let z : l.loop-i.i ≡ length a.part.now = omega (arith, c.loop-i-test.false, l.loop-i.invariant.0, l.loop-i.invariant.1) in z) l.loop-i.invariant.2
 
 pub list_requests_spec : {M : Type 1} → statement M
 list_requests_spec =

@@ -35,10 +35,10 @@ module _ (k : tie.After-half-m) where
   m = k.half-m.result
 
   late : 8192 ≤ entry.args.v
-  late = omega (arith, k.if-v-lt-LEAD.left)
+  late = omega (arith, k.if-v-lt-LEAD.false)
 
   small : m < 4096
-  small = ⊎_elim (λ q. omega (arith, q.0, q.1)) (λ q. omega (arith, q, k.if-v-ge-LABEL.left)) k.half-m.ensures
+  small = ⊎_elim (λ q. omega (arith, q.0, q.1)) (λ q. omega (arith, q, k.if-v-ge-LABEL.false)) k.half-m.ensures
 
   same : (x : ℕ) → x < 4096 → (entry.args.v ≡ x + 8192) ⊎ (entry.args.v ≡ x + 12288) → m ≡ x
   same x l g =
@@ -49,7 +49,7 @@ module _ (k : tie.After-half-m) where
   mine : (x : ℕ) → Gives (marks entry) (candidates entry) entry.args.v x → (m ≡ x) × (has (marks entry) (x + 8192) ≡ true) × (has (marks entry) (x + 12288) ≡ true) × (has (candidates entry) x ≡ true)
   mine x g =
       let q = pair entry late x g in
-      (same x (omega (arith, has_in (candidates entry) x q.3, entry.requires.few)) q.0, q.1, q.2, q.3)
+      (same x (omega (arith, has_in (candidates entry) x q.3, entry.requires.1)) q.0, q.1, q.2, q.3)
 
   halves : (entry.args.v ≡ m + 8192) ⊎ (entry.args.v ≡ m + 12288)
   halves = ⊎_elim (λ q. inl q.0) inr k.half-m.ensures

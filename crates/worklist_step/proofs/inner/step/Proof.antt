@@ -31,11 +31,11 @@ mul-x : tie.Need-offset_bounds-list-k
 mul-x c = search rules
 
 slice-read-x : tie.Need-bounds-list-k
-slice-read-x c = let e = c.before.before.before.before.before.before.before.before.before.before.before.before.before.before in omega (arith, e.requires.ahead, count_fits e.requires.listed)
+slice-read-x c = let e = c in omega (arith, e.requires.ahead, count_fits e.requires.listed)
 
 reach-requires : tie.Need-reach-more-requires
 reach-requires c κs =
-    let e = c.before.before.before.before.before.before.before.before.before.before.before.before.before.before.before.before in
+    let e = c in
     let g = e.requires.listed in
     (e.requires.linked, (e.requires.known, (omega (arith, e.requires.size), (omega (arith, e.requires.size, e.requires.few, (g.placed e.args.k e.requires.ahead).0), e.requires.along))))
 
@@ -47,10 +47,10 @@ module _ (k : tie.After-reach-more) where
   more = k.reach-more.result
 
   abbrev marks' : List ℕ
-  marks' = k.reach-more.last.1.1.1.1.0
+  marks' = k.reach-more.new.marks
 
   abbrev queue' : List ℕ
-  queue' = k.reach-more.last.1.1.1.1.1.0
+  queue' = k.reach-more.new.queue
 
   fits : more ≤ length queue'
   fits = count_fits k.reach-more.ensures.grew.listed
@@ -67,24 +67,24 @@ mul-list-requests c = let k = c.before.before.before.before in record { fits = o
 sub-list-requests : tie.Need-slice_bounds-list_requests-count
 sub-list-requests c = let k = c.before.before.before.before in rises k
 
-part-list-requests-start : tie.Need-slice-bounds-list-requests-start
-part-list-requests-start c = rises c.before.before.before.before.before
+part-list-requests-start : tie.Need-slice_bounds-list_requests-start
+part-list-requests-start c = rises c.before.before.before.before
 
-part-list-requests-end : tie.Need-slice-bounds-list-requests-end
-part-list-requests-end c = let k = c.before.before.before.before.before in omega (arith, fits k, rises k)
+part-list-requests-end : tie.Need-slice_bounds-list_requests-end
+part-list-requests-end c = let k = c.before.before.before.before in omega (arith, fits k, rises k)
 
 list-requests-requires : tie.Need-list_requests-requested-requires
 list-requests-requires c κs =
-    let k = c.before.before.before.before.before.before.before.before.before in
+    let k = c.before.before.before.before.before.before.before in
     let e = entry k in
     (places k, (omega (arith, e.requires.candidate, e.requires.few), (sym e.requires.candidate, e.requires.listed)))
 
 add-list-asked : tie.Need-overflow_add-k
-add-list-asked c = let e = c.before.before.before.before.before.before.before.before.before.before.before.before.before.before.before.before.before.before.before.before.before.before.before.before.before.before.before.before.before.before.before.before.before in record { fits = omega (arith, e.requires.ahead, count_fits e.requires.listed, e.requires.listed.size, e.requires.few) }
+add-list-asked c = let e = c in record { fits = omega (arith, e.requires.ahead, count_fits e.requires.listed, e.requires.listed.size, e.requires.few) }
 
 list-asked-requires : tie.Need-list_asked-listed-requires
 list-asked-requires c κs =
-    let e = c.before.before.before.before.before.before.before.before.before.before.before.before.before.before.before.before.before.before.before.before.before.before.before.before.before.before.before.before.before.before.before.before.before in
+    let e = c in
     let g = c.list_requests-requested.ensures.grew in
     (e.requires.threads, (e.requires.room, (omega (arith, e.requires.askeds, e.requires.few), (e.requires.eligibles ∙ sym e.requires.askeds, (g.size ∙ sym e.requires.askeds, g.listed)))))
 
@@ -102,7 +102,7 @@ same-length-4 c = c.list_asked-listed.ensures.grew.room ∙ c.list_requests-requ
 
 returns : tie.Need-returns
 returns c =
-    let k = c.before.before.before.before.before.before.before.before.before.before.before.before.before.before.before.before.before.before.before.before.before in
+    let k = c.before.before.before.before.before.before.before.before.before.before.before.before.before.before.before.before.before.before.before in
     let e = entry k in
     let met = e.args.met in
     let v = c.list_requests-requested.ensures in

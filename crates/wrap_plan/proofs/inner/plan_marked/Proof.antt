@@ -22,11 +22,11 @@ of e = let a = e.args in read (table a.runtime a.dynamic a.bounds.now a.columns.
 abbrev entry : tie.After-mark_seeds → tie.Start
 entry k = k.before.before.before.before.before.before.before.before.before.before.before.before.before.before.before.before.before.before
 
-marked : (k : tie.After-mark_seeds) → Marked (of (entry k)) k.mark_seeds.new.1.1.0
+marked : (k : tie.After-mark_seeds) → Marked (of (entry k)) k.mark_seeds.new.plan
 marked k =
     let e = entry k in
     let f = k.fill in
-    seeds-marked (of e) e.args.eligible.now (length e.args.plan.now) e.requires.0.eligible_set e.requires.1.size e.args.seeds.now f.new.0 k.mark_seeds.new.1.1.0 f.ensures k.mark_seeds.ensures
+    seeds-marked (of e) e.args.eligible.now (length e.args.plan.now) e.requires.0.eligible_set e.requires.1.size e.args.seeds.now f.new.slots k.mark_seeds.new.plan f.ensures k.mark_seeds.ensures
 
 mark-seeds-requires : tie.Need-mark_seeds-requires
 mark-seeds-requires c κs =
@@ -43,8 +43,8 @@ returns c =
     let k = c.before.before.before.before.before.before in
     let e = entry k in
     let f = k.fill in
-    seeds-planned (of e) e.args.eligible.now (length e.args.plan.now) e.requires.0.eligible_set e.requires.1.size e.args.seeds.now f.new.0 k.mark_seeds.new.1.1.0 f.ensures k.mark_seeds.ensures
-    b.new.1.1.1.1.1.1.1.1.1.1.1.1.0 b.ensures
+    seeds-planned (of e) e.args.eligible.now (length e.args.plan.now) e.requires.0.eligible_set e.requires.1.size e.args.seeds.now f.new.slots k.mark_seeds.new.plan f.ensures k.mark_seeds.ensures
+    b.new.plan b.ensures
 
 pub plan_marked_spec : {M : Type 1} → statement M
 plan_marked_spec =

@@ -27,7 +27,7 @@ list l = let a = (entry l).args in read_as_two a.plan.now a.wraps.now
 
 -- as many as there are places
 sized : (l : Loop) → length (list l) ≡ length (entry l).args.out.now
-sized l = let a = (entry l).args in as-two-length a.plan.now a.wraps.now ∙ (entry l).requires.wraps
+sized l = let a = (entry l).args in as-two-length a.plan.now a.wraps.now ∙ (entry l).requires.1
 
 loop-holds : tie.Need-loop-m-init invariant-loop decreases-loop
 loop-holds c = let a = c.args in fronted-start (read_as_two a.plan.now a.wraps.now) a.out.now

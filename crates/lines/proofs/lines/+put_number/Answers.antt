@@ -1,0 +1,36 @@
+-- `lines::lines::put_number` meets its contract: a number of one digit is written, and a longer one behind its tenth.
+-- Assumes nothing.
+use Rattle.std.proofs.Common.{arith}
+use Rattle.lines.proofs.Printing.{short-length, long-length, put-short, put-long}
+use Rattle.lines.proofs.lines.+put_number.Goals as goal
+
+-- src/lines.rt:67:9
+pub bounds-out-at : goal.bounds-out-at
+bounds-out-at t c = omega (arith, short-length c.args.n c.if-n-lt10.true, c.requires)
+
+-- src/lines.rt:68:9
+pub returns-then-n-lt10 : goal.returns-then-n-lt10
+returns-then-n-lt10 t c = put-short c.args.out.now c.args.at c.args.n c.digit.result c.if-n-lt10.true c.digit.ensures
+
+-- src/lines.rt:70:9
+pub put_number-p-requires : goal.put_number-p-requires
+put_number-p-requires t c = (omega (arith, c.decreases), omega (arith, c.requires, long-length c.args.n (omega arith)))
+
+-- src/lines.rt:71:5
+pub bounds-out-p : goal.bounds-out-p
+bounds-out-p t c =
+    let p = c.put_number-p in
+    omega (arith, c.requires, long-length c.args.n (omega arith), p.ensures.next, p.auto.out)
+
+-- src/lines.rt:72:5
+pub overflow_add-result-2 : goal.overflow_add-result-2
+overflow_add-result-2 t c =
+    let p = c.put_number-p in
+    omega (arith, c.requires, long-length c.args.n (omega arith), p.ensures.next, c.well_formed)
+
+-- src/lines.rt:62:1
+pub returns : goal.returns
+returns t c =
+    let a = c.args in
+    let p = c.put_number-p in
+    put-long a.out.now a.at a.n p.new.out p.result c.digit-2.result (omega arith) p.ensures c.digit-2.ensures

@@ -1,2 +1,0 @@
--- `Judged`: the enum that the check of a plan answers.
-pub mod Judged

@@ -1,0 +1,21 @@
+-- A byte keeps the totals sound.
+use Rattle.std.proofs.Common.{sym, ap, subst}
+use Rattle.file_names.specs.declared.Names.{Names}
+use Rattle.file_names.specs.declared.Step.{Step}
+use Rattle.file_names.specs.declared.Turn.{Turn}
+use Rattle.season.specs.Sound.{Sound, Room, Acted}
+use Rattle.season.proofs.Keeping.{byte-room, byte-sound}
+use Rattle.season.proofs.take.Goals as goal
+
+pub act-requires : goal.act-requires
+act-requires g c =
+    let s = c.args.season in
+    subst (λ (x : Turn). Room x s.totals) (sym (ap (λ (z : Step). z.turn) c.take_byte-step.ensures.value)) (byte-room s.names s.totals c.requires c.args.b)
+
+pub returns : goal.returns
+returns g c =
+    let s = c.args.season in
+    let stepped = c.take_byte-step.ensures.value in
+    let r = c.in_ok-act.field-0 in
+    subst (λ (n : Names). Sound n r) (sym (ap (λ (z : Step). z.names) stepped))
+    (byte-sound s.names s.totals c.requires c.args.b r (subst (λ (x : Turn). Acted x s.totals r) (ap (λ (z : Step). z.turn) stepped) c.in_ok-act.ensures))

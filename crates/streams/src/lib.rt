@@ -1,0 +1,26 @@
+// Reading for the programs: into a slice, as much as there is.
+#![tactic(auto)]
+
+ghost use Rattle.std.specs.Prelude.{◌≡◌, ◌≤◌, ◌<◌, length, take, IfOk};
+ghost use Rattle.std.specs.Io.KnownBytes.{Consumes, IsAtEnd};
+
+use std::io;
+use std::io::Read;
+
+// Reads until `out` is full or the input ends, and says how many bytes now stand at its front. They are the next ones of the input; fewer than
+// there is room for only at its end.
+pub fn read_full<R: Read>(input: &mut R, out: &mut [u8]) -> io::Result<usize>
+    ensures bound { IfOk result (λ n. n ≤ length out.new) }
+    ensures bytes { IfOk result (λ n. Consumes (R.remaining input.old) (R.remaining input.new) (take n out.new)) }
+    ensures end { IfOk result (λ n. n < length out.new → IsAtEnd (R.remaining input.new)) }
+{
+    let mut n = 0;
+    while n < out.len() {
+        let more = input.read(&mut out[n..])?;
+        if more == 0 {
+            return Ok(n);
+        }
+        n += more;
+    }
+    Ok(n)
+}
