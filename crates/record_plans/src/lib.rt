@@ -8,19 +8,19 @@ ghost use Rattle.wrap_plan.specs.Promise.{PlanFromSeeds};
 ghost use Rattle.plan_check.specs.Promise.{judgement};
 ghost use Rattle.takings_from_seeds.specs.Promise.{TakingsFromSeeds};
 
-mod check;
+mod checked;
 mod plan;
-mod takings;
-mod worklist;
+mod shown;
+mod taken;
 
-use check::check_columns;
+use checked::check_columns;
 use plan::plan_columns;
 use plan_conditions::Judgement;
 use record_columns::Record;
 use record_columns::inner::columns_of;
+use shown::takings_columns;
 use tables::Answer;
-use takings::takings_columns;
-use worklist::worklist_columns;
+use taken::worklist_columns;
 
 // Plan from seeds.
 pub fn plan_records<'a>(

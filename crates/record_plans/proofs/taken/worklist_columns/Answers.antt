@@ -1,4 +1,4 @@
--- `record_plans::worklist::worklist_columns` meets its contract: a list over the limit has the number 1, and the first rows of the arrays are the records' columns.
+-- `record_plans::taken::worklist_columns` meets its contract: a list over the limit has the number 1, and the first rows of the arrays are the records' columns.
 -- Assumes nothing.
 use native.Mathlib.Omega.{arith}
 use Rattle.table.specs.Table.{lent_with}
@@ -7,7 +7,7 @@ use Rattle.wrap_plan.proofs.Promise.{project-refused}
 use Rattle.record_columns.specs.Rows.{importer_column, kind_column, target_column}
 use Rattle.record_columns.proofs.Copied.{too_many}
 use Rattle.record_walk.proofs.Forms.{as-columns}
-use Rattle.record_plans.proofs.worklist.worklist_columns.Goals as goal
+use Rattle.record_plans.proofs.taken.worklist_columns.Goals as goal
 
 pub returns-then-rows-gt-ROW_LIMIT : goal.returns-then-rows-gt-ROW_LIMIT
 returns-then-rows-gt-ROW_LIMIT c = λ records is.

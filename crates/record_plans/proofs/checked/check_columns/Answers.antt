@@ -1,4 +1,4 @@
--- `record_plans::check::check_columns` meets its contract: a list over the limit has the number 1, and the first rows of the arrays are the records' columns.
+-- `record_plans::checked::check_columns` meets its contract: a list over the limit has the number 1, and the first rows of the arrays are the records' columns.
 -- Assumes nothing.
 use Rattle.std.specs.Prelude.{◌≡◌}
 use native.Mathlib.Omega.{arith}
@@ -8,7 +8,7 @@ use Rattle.plan_check.proofs.Promise.{project-refused}
 use Rattle.record_columns.specs.Rows.{importer_column, kind_column, target_column}
 use Rattle.record_columns.proofs.Copied.{too_many}
 use Rattle.record_walk.proofs.Forms.{as-columns}
-use Rattle.record_plans.proofs.check.check_columns.Goals as goal
+use Rattle.record_plans.proofs.checked.check_columns.Goals as goal
 
 pub returns-then-rows-gt-ROW_LIMIT : goal.returns-then-rows-gt-ROW_LIMIT
 returns-then-rows-gt-ROW_LIMIT c = λ records is.
