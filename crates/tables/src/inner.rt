@@ -79,6 +79,7 @@ pub fn thread(from: &[u32], heads: &mut [u32], nexts: &mut [u32])
 }
 
 // The target of a record row.
+#[tactic(auto, unfolding(crate::specs::Readings::resolved))]
 pub fn resolve(normal: &[u32], target: &[u32], row: usize) -> Target
     requires { row < length target.now }
     ensures { result ≡ resolved normal.now target.now row }
