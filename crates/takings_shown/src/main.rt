@@ -2,13 +2,15 @@
 // the waiting ones.
 #![tactic(auto)]
 
+ghost use Rattle.std.specs.Prelude.{◌≤◌, length};
+
 use listing::{Reading, read};
 use parts::{first_of, part_of};
 use std::env::FillError;
 use std::fs::File;
+use std::io::Read;
 use std::rt::{Env, Files};
 use std::{io, str};
-use streams::read_full;
 use table::{COLUMNS, MODULE_LIMIT, SEED, column};
 use tables::Answer;
 use takings_from_seeds::takings_from_seeds;
@@ -131,13 +133,33 @@ fn show_text(rt: &impl Print, text: &[u8]) -> io::Result<()> {
     }
 }
 
+// Reads once. A failed read ends the file.
+fn read_some(input: &mut impl Read, part: &mut [u8]) -> usize
+    ensures { result ≤ length part.old }
+{
+    input.read(part).unwrap_or(0)
+}
+
+// Reads until `text` is full, the file ends or a read fails, and says how many bytes were read.
+fn read_text(input: &mut impl Read, text: &mut [u8]) -> usize
+    ensures { result ≤ length text.new }
+{
+    let mut n = 0;
+    while n < text.len() {
+        let more = read_some(input, &mut text[n..]);
+        if more == 0 {
+            return n;
+        }
+        n += more;
+    }
+    n
+}
+
 // Shows that of an open file.
 fn show_open<R: Files + Print>(rt: &R, file: &mut R::File) -> io::Result<()> {
     let mut text = [0u8; TEXT_BYTES];
-    match read_full(file, &mut text) {
-        Ok(n) => show_text(rt, &text[..n]),
-        Err(_) => refused(rt, 7),
-    }
+    let n = read_text(file, &mut text);
+    show_text(rt, &text[..n])
 }
 
 // Shows that of the file of a name.
