@@ -5,7 +5,7 @@ use Rattle.std.specs.Prelude.{◌≡◌, ℕ}
 use Rattle.tables.specs.Project.{Project}
 use Rattle.sensitivity.specs.Marks.{uses_wrapped, is_sensitive, sensitive}
 
--- a module's ground_of is above 0 exactly if it is "not the runtime, normal, included, and flagged sensitive or using .."
+-- a module's ground is above 0 exactly if it is "not the runtime, normal, included, and flagged sensitive or using .."
 unfoldable pub SensitiveAsTheScopeSays : Type 0
 SensitiveAsTheScopeSays =
     (p : Project) (m : ℕ) → sensitive p m ≡ is_sensitive p.runtime p.normal p.included p.sensitive

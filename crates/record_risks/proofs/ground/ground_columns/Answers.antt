@@ -1,4 +1,4 @@
--- `record_risks::ground_of::ground_columns` meets its contract: a list over the limit has the number 1, and the first rows of the arrays are the records' columns.
+-- `record_risks::ground::ground_columns` meets its contract: a list over the limit has the number 1, and the first rows of the arrays are the records' columns.
 -- Assumes nothing.
 use native.Mathlib.Omega.{arith}
 use Rattle.table.specs.Table.{lent_with}
