@@ -23,6 +23,7 @@ fn entry_chunk_of<'a>(entry: &'a [u32], entry_chunk: &'a [u32], root: u32) -> u3
 }
 
 // The entry chunk of a root that is an analysed entry, or the mark.
+#[tactic(auto, unfolding(crate::specs::inner::Entries::analysed_chunk))]
 fn analysed_chunk<'a>(
     included: &'a [u32],
     entry: &'a [u32],
