@@ -84,10 +84,6 @@ in-fit n names h k = some (length names) h k
     some zero h k = absurd (k refl)
     some (suc l) h k = h
 
-pub read_none : (p : Project) (names : List ℕ) → length names ≡ 0 → p.member ≡ members_read p names
-unfolding members_read
-read_none p names e = rw e
-
 pub read_some : (p : Project) (names : List ℕ) → (length names ≡ 0 → ⊥) → arranged_of p names ≡ members_read p names
 unfolding members_read
 read_some p names n = some (length names) n

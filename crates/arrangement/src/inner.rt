@@ -167,6 +167,7 @@ pub fn arrange_members<'a>(
 }
 
 // The members of a table as they are read: arranged if it has names, a place a member row.
+#[tactic(auto, using(crate::proofs::OfProject::copied), unfolding(table::specs::Table::read, crate::specs::OfProject::members_read, names::specs::Names::names_in))]
 pub fn read_members<'a>(
     runtime: u32,
     dynamic: u32,
