@@ -11,7 +11,7 @@ use native.Mathlib.Decide.{ℕ_discrete}
 use native.Mathlib.Omega.{arith}
 use lib.ListN.{length-set, length-replicate}
 use lib.Seq.{get_or-set_same, get_or-set_other, set-get_or}
-use borrow.Author.Tests.{eq-eqb, ne_eqb, eqb-true}
+use borrow.Author.Tests.{eq-eqb, eqb-true}
 use Rattle.lists.specs.Words.{elem, keep, up_to}
 use Rattle.lists.proofs.Laws.{both, iff-eq, elem_mem, mem-elem, mem-keep, keep-mem, mem-up_to, up_to-mem, count_from-append, keep_append, keep-cong}
 use Rattle.lists.proofs.Members.{mem-flat, flat-mem}
@@ -20,52 +20,12 @@ use Rattle.tables.specs.Project.{missing}
 use Rattle.tables.specs.Lookups.{Rising}
 use Rattle.tables.specs.Readings.{rows_of}
 use Rattle.sort_steps.specs.Steps.{unless_missing}
-use Rattle.sort_steps.proofs.Rows.{unless-missing, unless-one}
 use Rattle.circle_search.specs.inner.Search.{once_after, once}
 use Rattle.circle_rows.specs.Rows.{led_row, Led, LedOnce}
 
--- a row leads to one module at most, t unless it is the mark
-module _ (targets : List ℕ) (importer : ℕ) (seen : List ℕ) (t : ℕ) (led : targets ≡ unless_missing t) where
-  pub led-missing : t ≡ missing → Led targets importer seen t seen
-  led-missing e =
-      let q : targets ≡ [] = led ∙ unless-missing t (eq-eqb t missing e) in
-      record {
-        leads = unless-missing t (eq-eqb t missing e) ∙ ap (keep (λ (x : ℕ). not (eqb (get_or seen x 0) (importer + 1)))) (sym q);
-        marks = ap (foldl (λ (s : List ℕ) (x : ℕ). set s x (importer + 1)) seen) (sym q);
-        within = inr e;
-        few = subst (λ (l : List ℕ). length l ≤ 1) (sym q) (omega arith);
-        inside = λ x h. absurd (Memᴰ.not-nil (subst (Memᴰ x) q h));
-      }
-
-  module _ (there : t ≡ missing → ⊥) (l : t < length seen) where
-    one : targets ≡ t ∷ []
-    one = led ∙ unless-one t (ne_eqb t missing there)
-
-    one-few : length targets ≤ 1
-    one-few = subst (λ (k : List ℕ). length k ≤ 1) (sym one) (omega arith)
-
-    one_in : (x : ℕ) → Memᴰ x targets → x < length seen
-    one_in x h = subst (λ (v : ℕ). v < length seen) (sym (Memᴰ.eq_of_singleton (subst (Memᴰ x) one h))) l
-
-    pub led-seen : get_or seen t 0 ≡ importer + 1 → Led targets importer seen missing seen
-    led-seen e =
-        record {
-          leads = sym (ap (keep (λ (x : ℕ). not (eqb (get_or seen x 0) (importer + 1)))) one ∙ ap (λ (b : Bool). cond (not b) (t ∷ []) []) (eq-eqb (get_or seen t 0) (importer + 1) e));
-          marks = sym (ap (foldl (λ (s : List ℕ) (x : ℕ). set s x (importer + 1)) seen) one ∙ ap (set seen t) (sym e) ∙ set-get_or seen t 0);
-          within = inr refl;
-          few = one-few;
-          inside = one_in;
-        }
-
-    pub led-new : (get_or seen t 0 ≡ importer + 1 → ⊥) → Led targets importer seen t (set seen t (importer + 1))
-    led-new e =
-        record {
-          leads = unless-one t (ne_eqb t missing there) ∙ sym (ap (keep (λ (x : ℕ). not (eqb (get_or seen x 0) (importer + 1)))) one ∙ ap (λ (b : Bool). cond (not b) (t ∷ []) []) (ne_eqb (get_or seen t 0) (importer + 1) e));
-          marks = sym (ap (foldl (λ (s : List ℕ) (x : ℕ). set s x (importer + 1)) seen) one);
-          within = inl l;
-          few = one-few;
-          inside = one_in;
-        }
+-- a place that is set to what it holds
+pub set_same : (s : List ℕ) (k v : ℕ) → get_or s k 0 ≡ v → set s k v ≡ s
+set_same s k v e = ap (set s k) (sym e) ∙ set-get_or s k 0
 
 -- one more at the end, the first time
 once_after_lem : (seen xs : List ℕ) (t : ℕ) → once_after seen (xs ++ (t ∷ [])) ≡ once_after seen xs ++ cond (elem t seen || elem t xs) [] (t ∷ [])

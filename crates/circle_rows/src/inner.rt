@@ -11,6 +11,7 @@ use tables::ModuleIdx;
 
 // The module that a row leads to, or the mark if there is none or an earlier row of the same module leads there too. `seen` has, for each module, one more
 // than the last one whose row led to it, or 0.
+#[tactic(auto, using(crate::proofs::Rows::set_same), unfolding(tables::specs::Readings::resolved))]
 fn lead_once<'a>(
     normal: &'a [u32],
     record_module: &'a [u32],
