@@ -1,14 +1,15 @@
 -- From visits of the entries in turn to the list of entries' order.
 -- Assumes nothing.
-use Rattle.std.specs.Prelude.{◌≡◌, ℕ, ◌-◌, ◌≤◌, true, false, List, [], ◌∷◌, ◌++◌, length, get_or, drop, replicate}
+use Rattle.std.specs.Prelude.{◌≡◌, ℕ, ◌+◌, ◌-◌, ◌≤◌, List, [], ◌∷◌, ◌++◌, length, get_or, drop, replicate}
 use mathlib.Core.Path.{sym, ap, ◌∙◌}
 use mathlib.Core.List.{flat_map}
-use Rattle.lists.specs.Words.{keep, count_from}
+use borrow.Author.Tests.{eq-eqb, ne_eqb}
+use Rattle.lists.specs.Words.{keep, count_from, zeros}
 use Rattle.lists.proofs.Laws.{and-out}
 use Rattle.lists.proofs.Maps.{keep-flat}
 use Rattle.walk.specs.Walk.{St, Placed, place, everywhere, Visits}
-use Rattle.walk.proofs.Going.{visited-walk, column-rows}
-use Rattle.walk.proofs.Placing.{placed-order}
+use Rattle.walk.proofs.Going.{Going, going-none, going-found, going_end, visited-walk, visited-room, column-rows}
+use Rattle.walk.proofs.Placing.{placed-order, place-count}
 use Rattle.tables.specs.Readings.{is_normal, flagged}
 use Rattle.expected_order.specs.Expected.{normal_imports_of}
 use Rattle.expected_visit.specs.Visit.{held}
@@ -20,20 +21,42 @@ module _ (normal included entries : List ℕ) where
   abbrev pub turn : ℕ → List ℕ
   turn row = keep (is_walked normal included) (get_or entries row 0 ∷ [])
 
-  pub turn-excluded : (row : ℕ) → flagged included (get_or entries row 0) ≡ false → turn row ≡ []
-  turn-excluded row e = rw e
-
-  pub turn-external : (row : ℕ) → is_normal normal (get_or entries row 0) ≡ false → turn row ≡ []
-  turn-external row e = rw (and-out (flagged included (get_or entries row 0)) (is_normal normal (get_or entries row 0)) e)
-
-  pub turn-walked : (row : ℕ) → flagged included (get_or entries row 0) ≡ true → is_normal normal (get_or entries row 0) ≡ true → turn row ≡ get_or entries row 0 ∷ []
-  turn-walked row e n = rw (e, n)
-
   -- all rows in turn
   pub all-turns : keep (is_walked normal included) entries ≡ flat_map turn (count_from 0 (length entries - 0))
   all-turns =
       ap (keep (is_walked normal included)) (column-rows entries)
       ∙ keep-flat (is_walked normal included) (λ (row : ℕ). get_or entries row 0 ∷ []) (count_from 0 (length entries - 0))
+
+module _ (normal included record_module record_kind record_target entries : List ℕ) (s t : St Placed) (k : ℕ) where
+  abbrev succ : ℕ → List ℕ
+  succ = normal_imports_of normal record_module record_kind record_target
+
+  abbrev act : Placed → ℕ → Placed
+  act = place (flagged included)
+
+  -- an entry that is not included, or not normal, is passed over
+  pub excluded_passed : (get_or included (get_or entries k 0) 0 ≡ 1 → ⊥) → Going succ everywhere act (turn normal included entries) 0 s k t → Going succ everywhere act (turn normal included entries) 0 s (k + 1) t
+  excluded_passed n g = going-none succ everywhere act (turn normal included entries) 0 s g (rw (ne_eqb (get_or included (get_or entries k 0) 0) 1 n))
+
+  pub external_passed : (get_or normal (get_or entries k 0) 0 ≡ 1 → ⊥) → Going succ everywhere act (turn normal included entries) 0 s k t → Going succ everywhere act (turn normal included entries) 0 s (k + 1) t
+  external_passed n g = going-none succ everywhere act (turn normal included entries) 0 s g
+      (rw (and-out (flagged included (get_or entries k 0)) (is_normal normal (get_or entries k 0)) (ne_eqb (get_or normal (get_or entries k 0) 0) 1 n)))
+
+  -- any other is visited
+  pub entry_walked : get_or included (get_or entries k 0) 0 ≡ 1 → get_or normal (get_or entries k 0) 0 ≡ 1
+      → Going succ everywhere act (turn normal included entries) 0 s k t
+      → {u : St Placed} → Visits succ everywhere act t (get_or entries k 0 ∷ []) u
+      → Going succ everywhere act (turn normal included entries) 0 s (k + 1) u
+  entry_walked e n g {u} v = going-found succ everywhere act (turn normal included entries) 0 s g
+      (rw (eq-eqb (get_or included (get_or entries k 0) 0) 1 e, eq-eqb (get_or normal (get_or entries k 0) 0) 1 n)) v
+
+  -- the list has room for what is not met
+  pub room_left : Going succ everywhere act (turn normal included entries) 0 s k t → t.made.count + zeros t.marks ≤ s.made.count + zeros s.marks
+  room_left g = visited-room succ everywhere act (λ (p : Placed). p.count) (place-count (flagged included)) g.so_far
+
+  -- past the last entry, all are visited
+  pub entries_walked : k ≡ length entries → Going succ everywhere act (turn normal included entries) 0 s k t → Visits succ everywhere act s (keep (is_walked normal included) entries) t
+  entries_walked e g = going_end succ everywhere act (turn normal included entries) 0 s g e (all-turns normal included entries)
 
 module _ (normal included record_module record_kind record_target entries order : List ℕ) where
   -- visits from nothing met list the order

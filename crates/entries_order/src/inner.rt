@@ -18,6 +18,7 @@ use table::{INCLUDED, MODULE_LIMIT, NORMAL, column};
 use tables::inner::first_rows;
 
 // Visits the entries in turn, the marks kept between them; one that isn't included, or is external, is passed over. How many are listed then.
+#[tactic(auto, using(crate::proofs::Turns::excluded_passed, crate::proofs::Turns::external_passed))]
 fn visit_entries<'a>(
     normal: &'a [u32],
     included: &'a [u32],
