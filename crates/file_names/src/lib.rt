@@ -47,6 +47,7 @@ pub fn begin() -> Names
 }
 
 // What is due at the end of the line at hand.
+#[tactic(auto, unfolding(crate::specs::Steps::turn_of_line))]
 fn turn_of_line(names: Names) -> Turn
     ensures { result ≡ turn_of_line names }
 {
@@ -148,6 +149,7 @@ pub fn take_byte(names: Names, name: &mut [u8; NAME_BYTES], b: u8) -> Step
 }
 
 // What is due at the end of the input: a last line without its LF.
+#[tactic(auto, unfolding(crate::specs::Steps::finished))]
 pub fn finish(names: Names) -> Turn
     ensures { result ≡ finished names }
 {
