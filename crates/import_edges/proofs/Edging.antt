@@ -1,17 +1,18 @@
 -- The kind 0 records as edges: what holds after each row, and that sets are closed along the edges as they are along the records.
 -- Assumes nothing.
-use Rattle.std.specs.Prelude.{◌≡◌, ℕ, zero, suc, ◌+◌, ◌<◌, ◌≤◌, true, cond, eqb, List, [], ◌∷◌, length, get_or, take, set}
+use Rattle.std.specs.Prelude.{◌≡◌, ℕ, zero, suc, ◌+◌, ◌<◌, ◌≤◌, Bool, true, false, cond, eqb, List, [], ◌∷◌, length, get_or, take, set}
 use mathlib.Core.Path.{refl, sym, ap, subst, ◌∙◌}
 use mathlib.Core.Logic.{⊎_elim}
 use native.Mathlib.Omega.{arith}
 use native.Mathlib.Decide.{ℕ_discrete}
 use lib.Seq.{get_or-set_same, get_or-set_other}
-use borrow.Author.Tests.{eqb-true, eqb-false}
+use borrow.Author.Tests.{eqb-true, eqb-false, eq-eqb, ne_eqb}
 use Rattle.lists.specs.Words.{has}
 use Rattle.lists.proofs.Laws.{both, has_in, get_d-map-up_to, length-map-up_to}
 use Rattle.walk.specs.Close.{Within}
 use Rattle.tables.specs.Project.{missing}
 use Rattle.tables.specs.Readings.{is_import, resolved, any_target}
+use Rattle.tables.specs.declared.Target.TheVariants.{Missing, External, Normal}
 use Rattle.tables.specs.Threads.{Threadable, Threads}
 use Rattle.strong_connection.specs.inner.Graph.{Linked}
 use Rattle.import_edges.specs.inner.Spread.{Along, Under, Spreads, Spreadable, ModuleGraph, EdgesBelow, Edges, import_targets}
@@ -182,3 +183,54 @@ length-targets kind target = length-map-up_to (λ (row : ℕ). cond (is_import (
 pub target_at : (kind target : List ℕ) (row d : ℕ) → row < length target → get_or (import_targets kind target) row d ≡ cond (is_import (get_or kind row 0)) (get_or target row 0) missing
 unfolding import_targets
 target_at kind target row d l = get_d-map-up_to (λ (i : ℕ). cond (is_import (get_or kind i 0)) (get_or target i 0) missing) (length target) row d l
+
+-- the code's steps
+
+-- the edges of the rows below `row` are written, in a word that does not unfold at the code's goals
+unfoldable pub ImportsBelow : List ℕ → List ℕ → List ℕ → ℕ → List ℕ → List ℕ → ℕ → Type 0
+ImportsBelow record_module kind target row importers targets count = EdgesBelow record_module (import_targets kind target) row importers targets count
+
+module _ (record_module kind target importers targets : List ℕ) where
+  pub imports_start : ImportsBelow record_module kind target 0 importers targets 0
+  unfolding ImportsBelow
+  imports_start = edges-start record_module (import_targets kind target) importers targets
+
+  pub imports_end : (row count : ℕ) → ImportsBelow record_module kind target row importers targets count → row ≡ length record_module → Edges record_module (import_targets kind target) importers targets count
+  unfolding ImportsBelow
+  imports_end row count g e = subst (λ (n : ℕ). EdgesBelow record_module (import_targets kind target) n importers targets count) e g
+
+  module _ (row count : ℕ) (g : ImportsBelow record_module kind target row importers targets count) (inside : row < length target) where
+    -- a row that is no import
+    pub imports_other : (get_or kind row 0 ≡ 0 → ⊥) → ImportsBelow record_module kind target (row + 1) importers targets count
+    unfolding ImportsBelow
+    imports_other n =
+        edges-pass record_module (import_targets kind target) row importers targets count g
+        (target_at kind target row 0 inside ∙ ap (λ (b : Bool). cond b (get_or target row 0) missing) (ne_eqb (get_or kind row 0) 0 n))
+
+    -- one without a target
+    pub imports_missing : (normal : List ℕ) → resolved normal target row ≡ Missing → ImportsBelow record_module kind target (row + 1) importers targets count
+    unfolding ImportsBelow
+    imports_missing normal e =
+        edges-pass record_module (import_targets kind target) row importers targets count g
+        (target_at kind target row 0 inside ∙ ap (λ (x : ℕ). cond (is_import (get_or kind row 0)) x missing) (target_none normal target row (ap any_target e)) ∙ same (is_import (get_or kind row 0)))
+      where
+        same : (b : Bool) → cond b missing missing ≡ missing
+        same true = refl
+        same false = refl
+
+    -- an import with a target, be it external or normal
+    module _ (import : get_or kind row 0 ≡ 0) (importer_room : count < length importers) (target_room : count < length targets) (normal : List ℕ) (t : ℕ) where
+      put : any_target (resolved normal target row) ≡ t ∷ [] → ImportsBelow record_module kind target (row + 1) (set importers count (get_or record_module row 0)) (set targets count t) (count + 1)
+      unfolding ImportsBelow
+      put e =
+          let h = target-there normal target row t e in
+          edges-put record_module (import_targets kind target) row importers targets count g t
+          (h.0 ∙ sym (target_at kind target row 0 inside ∙ ap (λ (b : Bool). cond b (get_or target row 0) missing) (eq-eqb (get_or kind row 0) 0 import))) h.1 importer_room target_room
+
+      pub imports_external : resolved normal target row ≡ External t → ImportsBelow record_module kind target (row + 1) (set importers count (get_or record_module row 0)) (set targets count t) (count + 1)
+      imports_external e = put (ap any_target e)
+
+      pub imports_normal : resolved normal target row ≡ Normal t → ImportsBelow record_module kind target (row + 1) (set importers count (get_or record_module row 0)) (set targets count t) (count + 1)
+      imports_normal e = put (ap any_target e)
+
+pub ruleset import_steps = (imports_start, imports_other, imports_missing, imports_external, imports_normal, imports_end)

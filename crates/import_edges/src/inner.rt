@@ -12,6 +12,7 @@ use tables::Target;
 use tables::inner::resolve;
 
 // Writes the importer and the target of each kind 0 record that has a target. How many there are.
+#[tactic(auto, using(crate::proofs::Edging::import_steps))]
 pub fn import_edges(
     normal: &[u32],
     record_module: &[u32],
