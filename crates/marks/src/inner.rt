@@ -64,6 +64,7 @@ pub fn mark_owners(owner: &[u32], value: &[u32], set: &[u32], marks: &mut [u32])
 }
 
 // Adds what is in each of three sets. Whether any was new.
+#[tactic(auto, using(crate::proofs::Turns::turns))]
 pub fn add(first: &[u32], second: &[u32], third: &[u32], set: &mut [u32]) -> bool
     requires one { length first.now ≡ length set.old }
     requires two { length second.now ≡ length set.old }
