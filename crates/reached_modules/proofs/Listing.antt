@@ -7,8 +7,9 @@ use mathlib.Core.List.{map-append}
 use native.Mathlib.Omega.{arith}
 use native.Mathlib.Nat.{zero-add}
 use lib.ListN.{length-map, length-append}
+use borrow.Author.Tests.{eq-eqb, ne_eqb}
 use Rattle.lists.specs.Words.{up_to, keep, has}
-use Rattle.lists.proofs.Laws.{keep_append, count_from-append, length-keep, length-count_from, front-more}
+use Rattle.lists.proofs.Laws.{and-join, and-out, keep_append, count_from-append, length-keep, length-count_from, front-more}
 use Rattle.tables.specs.Project.{missing}
 use Rattle.tables.specs.Readings.{flagged}
 use Rattle.marks.specs.Steps.{looked, Owners}
@@ -72,6 +73,46 @@ module _ (included entry entry_chunk : List ℕ) where
     count = g.counted ∙ ap (λ (i : ℕ). length (roots_to i)) e;
     written = g.written ∙ ap (λ (i : ℕ). roots_to i ++ drop (length (roots_to i)) old) e;
   }
+
+-- the code's steps
+
+-- the roots of the rows below `row` are listed, in a word that does not unfold at the code's goals
+unfoldable pub RootsBelow : List ℕ → List ℕ → List ℕ → List ℕ → ℕ → List ℕ → ℕ → Type 0
+RootsBelow included entry entry_chunk old row new count = Listing included entry entry_chunk old row new count
+
+module _ (included entry entry_chunk old : List ℕ) where
+  pub roots_start : RootsBelow included entry entry_chunk old 0 old 0
+  unfolding RootsBelow
+  roots_start = listing_start included entry entry_chunk old
+
+  module _ (row : ℕ) (new : List ℕ) (count : ℕ) (g : RootsBelow included entry entry_chunk old row new count) where
+    -- an entry without a chunk
+    pub roots_chunkless : get_or entry_chunk row 0 ≡ missing → RootsBelow included entry entry_chunk old (row + 1) new count
+    unfolding RootsBelow
+    roots_chunkless e =
+        listing-pass included entry entry_chunk old row new count g
+        (and-out (flagged included (get_or entry row 0)) (not (eqb (get_or entry_chunk row 0) missing)) (ap not (eq-eqb (get_or entry_chunk row 0) missing e)))
+
+    -- one that isn't included
+    pub roots_excluded : (get_or included (get_or entry row 0) 0 ≡ 1 → ⊥) → RootsBelow included entry entry_chunk old (row + 1) new count
+    unfolding RootsBelow
+    roots_excluded n =
+        listing-pass included entry entry_chunk old row new count g
+        (ap (λ (b : Bool). b && not (eqb (get_or entry_chunk row 0) missing)) (ne_eqb (get_or included (get_or entry row 0) 0) 1 n))
+
+    -- an analysed one
+    pub roots_analysed : (get_or entry_chunk row 0 ≡ missing → ⊥) → get_or included (get_or entry row 0) 0 ≡ 1 → row < length old → RootsBelow included entry entry_chunk old (row + 1) (set new count (get_or entry row 0)) (count + 1)
+    unfolding RootsBelow
+    roots_analysed n e l =
+        listing-put included entry entry_chunk old row new count g
+        (and-join (flagged included (get_or entry row 0)) (not (eqb (get_or entry_chunk row 0) missing)) (eq-eqb (get_or included (get_or entry row 0) 0) 1 e) (ap not (ne_eqb (get_or entry_chunk row 0) missing n)))
+        l
+
+    pub roots_end : row ≡ length entry → Written (roots_over included entry entry_chunk) old new count
+    unfolding RootsBelow
+    roots_end e = listing-end included entry entry_chunk old row new count g e
+
+pub ruleset root_steps = (roots_start, roots_chunkless, roots_excluded, roots_analysed, roots_end)
 
 -- marking the roots, and then closing
 pub reaching : (included root_list from to s start t : List ℕ) → ((m : ℕ) → has s m ≡ true → ⊥) → Owners root_list (looked 0 included root_list) (length root_list) s start

@@ -18,6 +18,7 @@ use tables::ModuleIdx;
 use tables::inner::thread;
 
 // Lists the modules of the analysed entries. How many there are.
+#[tactic(auto, using(crate::proofs::Listing::root_steps))]
 pub fn list_roots(included: &[u32], entry: &[u32], entry_chunk: &[u32], roots: &mut [u32]) -> usize
     requires modules { Below (length included.now) entry.now }
     requires rows { length entry_chunk.now ≡ length entry.now }
