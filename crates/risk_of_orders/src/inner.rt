@@ -42,6 +42,7 @@ fn place_sensitive(order: &[u32], sensitive: &[u32], places: &mut [u32])
 }
 
 // Puts a flagged module at risk if it is eligible, else its host, if noted and eligible.
+#[tactic(auto, using(crate::proofs::Puts::flagged_puts))]
 fn flag(hosts: &[u32], eligible: &[u32], out: &mut [u32], m: u32)
     requires rows { (length hosts.now ≡ length out.old) × (length eligible.now ≡ length out.old) }
     requires module { m < length out.old }
