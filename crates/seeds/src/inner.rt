@@ -12,6 +12,7 @@ use marks::inner::mark_owners;
 use table::{ROW_LIMIT, SEED, column};
 
 // Whether lent seeds fit n modules.
+#[tactic(auto, using(crate::proofs::Fits::no_row, crate::proofs::Fits::all_fit))]
 pub fn seeds_fit(seeds: &[u32], n: usize) -> bool
     ensures { result ≡ seeds_fit n seeds.now }
 {

@@ -1,0 +1,2 @@
+-- What the test of lent seeds computes.
+pub mod Fits
