@@ -11,8 +11,8 @@ use Rattle.tables.proofs.Targets.{normal-in}
 use Rattle.sensitivity.specs.Marks.{uses_wrapped, is_sensitive, ground_by, ground_at, ground_of, sensitive, grounds_of}
 
 -- the answer is above 0 exactly for the modules that the scope calls sensitive
-pub ground_of-sensitive : (runtime : ℕ) (normal included flag : List ℕ) (uses : ℕ → Bool) (m : ℕ) → not (is_zero (ground_at runtime normal included flag uses m)) ≡ is_sensitive runtime normal included flag uses m
-ground_of-sensitive runtime normal included flag uses m = same (not (eqb m runtime)) (is_normal normal m) (flagged included m) (flagged flag m) (uses m)
+pub ground-sensitive : (runtime : ℕ) (normal included flag : List ℕ) (uses : ℕ → Bool) (m : ℕ) → not (is_zero (ground_at runtime normal included flag uses m)) ≡ is_sensitive runtime normal included flag uses m
+ground-sensitive runtime normal included flag uses m = same (not (eqb m runtime)) (is_normal normal m) (flagged included m) (flagged flag m) (uses m)
   where
     above : (f u : Bool) → not (is_zero (ground_by f u)) ≡ (f || u)
     above true true = refl
@@ -32,7 +32,7 @@ module _ (p : Project) where
 
   pub sensitive-is : (m : ℕ) → sensitive p m ≡ is_sensitive p.runtime p.normal p.included p.sensitive uses m
   unfolding sensitive ground_of
-  sensitive-is m = ground_of-sensitive p.runtime p.normal p.included p.sensitive uses m
+  sensitive-is m = ground-sensitive p.runtime p.normal p.included p.sensitive uses m
 
   pub sensitive-in : (m : ℕ) → sensitive p m ≡ true → m < modules p
   sensitive-in m e = normal-in p.normal m (and_parts (is_normal p.normal m) _ (and_parts (not (eqb m p.runtime)) _ (sym (sensitive-is m) ∙ e)).1).0
