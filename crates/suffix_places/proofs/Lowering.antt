@@ -147,14 +147,6 @@ module _ (order sensitive placed asked : List ℕ) where
 abbrev pub ListedBelow : List ℕ → List ℕ → List ℕ → List ℕ → ℕ → Type 0
 ListedBelow order sensitive eligible placed k = (i : ℕ) → i < k → has sensitive (get_or order i 0) ≡ true → has eligible (get_or order i 0) ≡ true → has placed (get_or order i 0) ≡ true
 
-pub listed_more : (order sensitive eligible placed : List ℕ) (k : ℕ) → ListedBelow order sensitive eligible placed k
-    → (has sensitive (get_or order k 0) ≡ true → has eligible (get_or order k 0) ≡ true → has placed (get_or order k 0) ≡ true) → ListedBelow order sensitive eligible placed (k + 1)
-listed_more order sensitive eligible placed k g h i l s e = go (ℕ_discrete i k)
-  where
-    go : Dec (i ≡ k) → has placed (get_or order i 0) ≡ true
-    go (yes q) = subst (λ (j : ℕ). has placed (get_or order j 0) ≡ true) (sym q) (h (subst (λ (j : ℕ). has sensitive (get_or order j 0) ≡ true) q s) (subst (λ (j : ℕ). has eligible (get_or order j 0) ≡ true) q e))
-    go (no n) = g i (omega arith) s e
-
 pub listed-all : (order sensitive eligible placed : List ℕ) → ListedBelow order sensitive eligible placed (length order) → AllPlanned order sensitive eligible placed
 unfolding AllPlanned
 listed-all order sensitive eligible placed g m h s e =
