@@ -54,14 +54,14 @@ as-two-length S [] = refl
 as-two-length [] (w ∷ wraps) = refl
 as-two-length (x ∷ S) (w ∷ wraps) = ap suc (as-two-length S wraps)
 
-pub as-two-out : (S wraps : List ℕ) (m : ℕ) → m < length wraps → get_or S m 0 ≡ 0 → get_or wraps m 0 ≡ get_or (read_as_two S wraps) m 0
-as-two-out S [] m h e = omega arith
-as-two-out [] (w ∷ wraps) m h e = refl
-as-two-out (x ∷ S) (w ∷ wraps) zero h e = rw e
-as-two-out (x ∷ S) (w ∷ wraps) (suc m) h e = as-two-out S wraps m (omega arith) e
+pub as_two_out : (S wraps : List ℕ) (m : ℕ) → m < length wraps → get_or S m 0 ≡ 0 → get_or wraps m 0 ≡ get_or (read_as_two S wraps) m 0
+as_two_out S [] m h e = omega arith
+as_two_out [] (w ∷ wraps) m h e = refl
+as_two_out (x ∷ S) (w ∷ wraps) zero h e = rw e
+as_two_out (x ∷ S) (w ∷ wraps) (suc m) h e = as_two_out S wraps m (omega arith) e
 
-pub as-two-in : (S wraps : List ℕ) (m : ℕ) → m < length wraps → (get_or S m 0 ≡ 0 → ⊥) → 2 ≡ get_or (read_as_two S wraps) m 0
-as-two-in S [] m h e = omega arith
-as-two-in [] (w ∷ wraps) m h e = absurd (e refl)
-as-two-in (x ∷ S) (w ∷ wraps) zero h e = rw (not-zero x e)
-as-two-in (x ∷ S) (w ∷ wraps) (suc m) h e = as-two-in S wraps m (omega arith) e
+pub as_two_in : (S wraps : List ℕ) (m : ℕ) → m < length wraps → (get_or S m 0 ≡ 0 → ⊥) → 2 ≡ get_or (read_as_two S wraps) m 0
+as_two_in S [] m h e = omega arith
+as_two_in [] (w ∷ wraps) m h e = absurd (e refl)
+as_two_in (x ∷ S) (w ∷ wraps) zero h e = rw (not-zero x e)
+as_two_in (x ∷ S) (w ∷ wraps) (suc m) h e = as_two_in S wraps m (omega arith) e

@@ -7,6 +7,7 @@ ghost use Rattle.wraps_and_hosts.specs.Hosts.{host_by};
 use tables::ModuleIdx;
 
 // A module's wrap, 2 where it is in a plan.
+#[tactic(auto, using(crate::proofs::Fronts::as_two_out, crate::proofs::Fronts::as_two_in))]
 fn wrap_with<'a>(plan: &'a [u32], wraps: &'a [u32], m: usize) -> u32
     requires { (m < length plan.now) × (m < length wraps.now) }
     ensures { result ≡ slice_index (read_as_two plan.now wraps.now) m }
