@@ -74,3 +74,6 @@ module _ (t : Lent) (seeds plan : List ℕ) where
         where
           z : check_verdict t seeds plan ≡ 0
           z = rw (accepts, fits, f)
+
+-- the refusals
+pub ruleset refusals = (project-refused, seeds-refused, plan-refused)

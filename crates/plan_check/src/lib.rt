@@ -17,6 +17,7 @@ use table::{
 
 // Whether a plan, 0 or 1 for each module, has only eligible modules, holds the eligible seeds and is closed under the four rules, of a table whose import
 // records are lent beside it.
+#[tactic(auto, using(crate::proofs::Promise::refusals), unfolding(table::specs::Table::table, table::specs::Table::read, table::specs::Table::current))]
 pub fn check_plan_with_records<'a>(
     runtime: u32,
     dynamic: u32,
