@@ -1,2 +1,2 @@
--- The promise in each case.
+-- The promise, refused and accepted.
 pub mod Promise

@@ -1,14 +1,13 @@
--- The promise, case by case.
+-- The promise of a call that its project refuses, and of one that is accepted.
 -- Assumes nothing.
-use Rattle.std.specs.Prelude.{◌≡◌, ℕ, ◌<◌, ◌≤◌, Bool, true, false, ◌&&◌, leb, List, ◌++◌, length, drop}
+use Rattle.std.specs.Prelude.{◌≡◌, ℕ, ◌≤◌, Bool, true, ◌&&◌, leb, List, ◌++◌, length, drop}
 use mathlib.Core.Path.{sym, ap, ◌∙◌}
-use native.Mathlib.Omega.{arith}
-use borrow.Author.Tests.{le-leb, lt-leb}
+use borrow.Author.Tests.{le-leb}
 use Rattle.lists.proofs.Laws.{and-join}
 use Rattle.tables.specs.Project.{Project}
 use Rattle.tables.specs.Readings.{modules, is_analysed}
 use Rattle.tables.specs.declared.Answer.TheVariants.{Refused, Counted}
-use Rattle.tables.proofs.Answering.{verdict-project, verdict-unfit, verdict-short, verdict-none, after-refused, after-accepted}
+use Rattle.tables.proofs.Answering.{verdict-project, verdict-none, after-refused, after-accepted}
 use Rattle.table.specs.Table.{Lent}
 use Rattle.table.proofs.Laws.{answer-refused, answer-accepted}
 use Rattle.entry_run.specs.Actual.{run_of, actual_of, hosts_of}
@@ -39,28 +38,17 @@ module _ (t : Lent) (root : ℕ) (order hosts : List ℕ) where
   pub project-refused : (n : ℕ) → n ≡ t.number → (n ≡ 0 → ⊥) → ActualOrder t root order hosts (Refused n) order hosts
   project-refused n e h = refused n (verdict-project t.number (is_analysed p root) room (λ z. h (e ∙ z)) ∙ sym e) h
 
-  module _ (accepts : t.number ≡ 0) where
-    pub root-refused : is_analysed p root ≡ false → ActualOrder t root order hosts (Refused 5) order hosts
-    root-refused e = refused 5 (verdict-unfit t.number (is_analysed p root) room accepts e) (λ z. omega arith)
-
-    module _ (analysed : is_analysed p root ≡ true) where
-      pub order-refused : length order < modules p → ActualOrder t root order hosts (Refused 6) order hosts
-      order-refused l = refused 6 (verdict-short t.number (is_analysed p root) room accepts analysed (rw (lt-leb (modules p) (length order) l))) (λ z. omega arith)
-
-      pub hosts-refused : modules p ≤ length order → length hosts < modules p → ActualOrder t root order hosts (Refused 6) order hosts
-      hosts-refused u l =
-          refused 6 (verdict-short t.number (is_analysed p root) room accepts analysed (rw (le-leb (modules p) (length order) u, lt-leb (modules p) (length hosts) l))) (λ z. omega arith)
-
-      pub run-counted : modules p ≤ length order → modules p ≤ length hosts → {order' hosts' : List ℕ} {r : ℕ} → Listed (run_of p p.wrap root) order order' hosts' r
-          → ActualOrder t root order hosts (Counted r) order' (hosts' ++ drop (modules p) hosts)
-      unfolding actual_of hosts_of
-      run-counted u v {r = r} w =
-          let z : number ≡ 0 = verdict-none t.number (is_analysed p root) room accepts analysed (and-join (leb (modules p) (length order)) (leb (modules p) (length hosts)) (le-leb (modules p) (length order) u) (le-leb (modules p) (length hosts) v)) in
-          record {
-            answered = answer-accepted number (length (actual_of p root)) r z w.listed.count;
-            listed = w.listed.places ∙ sym (after-accepted number order (actual_of p root) z);
-            noted =
-                ap (λ (l : List ℕ). l ++ drop (modules p) hosts) w.hosts
-                ∙ ap (λ (n : ℕ). hosts_of p root ++ drop n hosts) (sym (hosts-length p root))
-                ∙ sym (after-accepted number hosts (hosts_of p root) z);
-          }
+  module _ (accepts : t.number ≡ 0) (analysed : is_analysed p root ≡ true) where
+    pub run-counted : modules p ≤ length order → modules p ≤ length hosts → {order' hosts' : List ℕ} {r : ℕ} → Listed (run_of p p.wrap root) order order' hosts' r
+        → ActualOrder t root order hosts (Counted r) order' (hosts' ++ drop (modules p) hosts)
+    unfolding actual_of hosts_of
+    run-counted u v {r = r} w =
+        let z : number ≡ 0 = verdict-none t.number (is_analysed p root) room accepts analysed (and-join (leb (modules p) (length order)) (leb (modules p) (length hosts)) (le-leb (modules p) (length order) u) (le-leb (modules p) (length hosts) v)) in
+        record {
+          answered = answer-accepted number (length (actual_of p root)) r z w.listed.count;
+          listed = w.listed.places ∙ sym (after-accepted number order (actual_of p root) z);
+          noted =
+              ap (λ (l : List ℕ). l ++ drop (modules p) hosts) w.hosts
+              ∙ ap (λ (n : ℕ). hosts_of p root ++ drop n hosts) (sym (hosts-length p root))
+              ∙ sym (after-accepted number hosts (hosts_of p root) z);
+        }

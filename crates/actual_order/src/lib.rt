@@ -15,6 +15,7 @@ use tables::{Answer, ModuleIdx};
 
 // The actual order of an analysed entry, written to `order` from place 0, and its hosts, a place a module, of a table whose import records are lent
 // beside it. The count is that of the listed modules.
+#[tactic(auto, unfolding(table::specs::Table::table, table::specs::Table::read, table::specs::Table::current, arrangement::specs::OfProject::named, tables::specs::Readings::is_analysed))]
 pub fn actual_order_with_records<'a>(
     runtime: u32,
     dynamic: u32,
