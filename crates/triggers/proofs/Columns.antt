@@ -1,18 +1,19 @@
 -- The cases of the two columns, and a column written place by place.
 -- Assumes nothing.
-use Rattle.std.specs.Prelude.{◌≡◌, ℕ, ◌+◌, ◌<◌, ◌≤◌, Bool, cond, List, [], ◌∷◌, map, length, get_or, set}
-use mathlib.Core.Path.{refl, sym, ap, ◌∙◌}
+use Rattle.std.specs.Prelude.{◌≡◌, ℕ, ◌+◌, ◌<◌, ◌≤◌, List, map, length, get_or, set}
+use mathlib.Core.Path.{refl, sym, ◌∙◌}
 use native.Mathlib.Omega.{arith}
 use lib.ListN.{length-set}
 use lib.Seq.{get_or-set_same, get_or-set_other, ext_get_or}
 use borrow.Author.Count.{below_more}
 use borrow.Author.Tests.{eq-eqb, ne_eqb, lt-ltb, le-ltb}
+use Rattle.std.proofs.lemmas.Bool.Decides.{nat_tests}
 use Rattle.lists.specs.Words.{up_to}
 use Rattle.lists.proofs.Laws.{get_d-map-up_to, length-map-up_to}
 use Rattle.tables.specs.Project.{missing}
-use Rattle.tables.specs.Readings.{first_of, normal_target, resolved}
-use Rattle.tables.specs.declared.Target.{Target}
-use Rattle.triggers.specs.inner.Columns.{way_of, runs, row_trigger}
+use Rattle.tables.specs.Readings.{resolved}
+use Rattle.tables.specs.declared.Target.TheVariants.{Normal}
+use Rattle.triggers.specs.inner.Columns.{way_of, row_trigger}
 
 module _ (normal included wrap : List ℕ) (m : ℕ) where
   pub way-external : (get_or normal m 0 ≡ 1 → ⊥) → way_of normal included wrap m ≡ 0
@@ -27,21 +28,18 @@ module _ (normal included wrap : List ℕ) (m : ℕ) where
   pub way-wrapped : get_or normal m 0 ≡ 1 → get_or included m 0 ≡ 1 → (get_or wrap m 0 ≡ 0 → ⊥) → way_of normal included wrap m ≡ 2
   way-wrapped n i w = rw (eq-eqb (get_or normal m 0) 1 n, eq-eqb (get_or included m 0) 1 i, ne_eqb (get_or wrap m 0) 0 w)
 
+  -- no way is past 2
+  way-most : way_of normal included wrap m ≤ 2
+  way-most = grind (arith, nat_tests)
+
 module _ (normal included wrap kind target : List ℕ) (row : ℕ) where
   -- another kind triggers nothing
-  pub trigger-kind : 1 < get_or kind row 0 → row_trigger normal included wrap kind target row ≡ missing
+  pub trigger-kind : 1 < get_or kind row 0 → missing ≡ row_trigger normal included wrap kind target row
   trigger-kind l = rw (le-ltb (get_or kind row 0) 2 (omega arith))
 
-  -- kind 0 or 1 triggers its normal target, if that executes where it is triggered
-  pub trigger-eager : (found : Target) → get_or kind row 0 ≤ 1 → resolved normal target row ≡ found → row_trigger normal included wrap kind target row ≡ first_of (runs normal included wrap (normal_target found))
-  trigger-eager found l e = rw (lt-ltb (get_or kind row 0) 2 (omega arith), e)
-
-module _ (normal included wrap : List ℕ) (t : ℕ) where
-  pub run-one : way_of normal included wrap t ≡ 2 → runs normal included wrap (t ∷ []) ≡ t ∷ []
-  run-one e = ap (λ (b : Bool). cond b (t ∷ []) []) (eq-eqb (way_of normal included wrap t) 2 e)
-
-  pub run_none : (way_of normal included wrap t ≡ 2 → ⊥) → runs normal included wrap (t ∷ []) ≡ []
-  run_none n = ap (λ (b : Bool). cond b (t ∷ []) []) (ne_eqb (way_of normal included wrap t) 2 n)
+  -- kind 0 or 1 triggers a normal target that executes where it is triggered
+  pub trigger-one : (t : ℕ) → get_or kind row 0 ≤ 1 → resolved normal target row ≡ Normal t → 2 ≤ way_of normal included wrap t → t ≡ row_trigger normal included wrap kind target row
+  trigger-one t l e w = rw (lt-ltb (get_or kind row 0) 2 (omega arith), e, eq-eqb (way_of normal included wrap t) 2 (omega (arith, way-most normal included wrap t)))
 
 -- the places below i are written, by a function of the place
 pub record Written (f : ℕ → ℕ) (old : List ℕ) (i : ℕ) (now : List ℕ) : Type 0 where

@@ -57,8 +57,7 @@ fn trigger_of<'a>(
     let Target::Normal(t) = found else {
         return ModuleIdx::MISSING;
     };
-    let triggered = way_of(normal, included, wrap, t as usize) == 2;
-    if !triggered {
+    if way_of(normal, included, wrap, t as usize) != 2 {
         return ModuleIdx::MISSING;
     }
     t
