@@ -34,6 +34,7 @@ pub fn put_line(out: &mut [u8], word: &[u8], entry: &[u32], numbers: &[u32]) -> 
 }
 
 // Lists the members of a set of marks, rising, from place 0.
+#[tactic(auto, using(crate::proofs::Members::no_member))]
 pub fn rising(marks: &[u32], out: &mut [u32]) -> Answer
     ensures value { result ≡ answer (members_number marks.now out.old) (length (members marks.now)) }
     ensures out_after { out.new ≡ after (members_number marks.now out.old) out.old (members marks.now) }
