@@ -2,15 +2,15 @@
 -- Assumes nothing.
 use Rattle.std.specs.Prelude.{◌≡◌, ℕ, ◌+◌, ◌-◌, ◌<◌, ◌≤◌, true, not, List, ◌++◌, length, get_or, take, drop, set}
 use mathlib.Core.Path.{refl, sym, ap, subst, ◌∙◌}
-use mathlib.Core.Logic.{inl, inr}
+use mathlib.Core.Logic.{inr}
 use mathlib.Core.Bool.{true≢false}
 use mathlib.Core.List.{Memᴰ}
 use native.Mathlib.Omega.{arith}
-use native.Mathlib.Decide.{ℕ_discrete, dec_lt}
+use native.Mathlib.Decide.{ℕ_discrete}
 use lib.ListN.{length-set, length-drop, take-append-drop}
 use lib.Seq.{get_or-set_same, get_or-set_other, get_or-take, get_or-drop, length-take-le, ext_get_or}
 use Rattle.lists.specs.Words.{is_zero, bit, has, marks_of}
-use Rattle.lists.proofs.Laws.{mark-in, length-marks_of, marks_of-at}
+use Rattle.lists.proofs.Laws.{mark-in, has-yes, has-not, length-marks_of, marks_of-at}
 use Rattle.lists.proofs.Members.{get_d-mem}
 use Rattle.request_queue.specs.inner.Growing.{Listed, Pushed}
 use Rattle.request_queue.proofs.Growing.{count_fits, grew_none, grew-has, grew-on}
@@ -25,18 +25,18 @@ module _ (seeds eligible placed list : List ℕ) where
 
   module _ (row : ℕ) (placed' list' : List ℕ) (end : ℕ) (g : SeededBelow seeds eligible row placed list placed' list' end) where
     -- a seed that isn't eligible
-    pub seeded-pass : (has eligible (get_or seeds row 0) ≡ true → ⊥) → SeededBelow seeds eligible (row + 1) placed list placed' list' end
-    seeded-pass out = record { grew = g.grew; all = λ i b e. go i b e (ℕ_discrete i row) }
+    pub seeded_pass : get_or eligible (get_or seeds row 0) 0 ≡ 0 → SeededBelow seeds eligible (row + 1) placed list placed' list' end
+    seeded_pass out = record { grew = g.grew; all = λ i b e. go i b e (ℕ_discrete i row) }
       where
         go : (i : ℕ) → i < row + 1 → has eligible (get_or seeds i 0) ≡ true → Dec (i ≡ row) → has placed' (get_or seeds i 0) ≡ true
-        go i b e (yes z) = absurd (out (subst (λ (j : ℕ). has eligible (get_or seeds j 0) ≡ true) z e))
+        go i b e (yes z) = absurd (true≢false (sym (subst (λ (j : ℕ). has eligible (get_or seeds j 0) ≡ true) z e) ∙ has-not eligible (get_or seeds row 0) out))
         go i b e (no n) = g.all i (omega arith) e
 
     -- one that is
-    pub seeded-put : row < length seeds → has eligible (get_or seeds row 0) ≡ true → (placed'' list'' : List ℕ) (end'' : ℕ) → Pushed (get_or seeds row 0) placed' list' end placed'' list'' end''
+    pub seeded_put : row < length seeds → (get_or eligible (get_or seeds row 0) 0 ≡ 0 → ⊥) → {placed'' list'' : List ℕ} {end'' : ℕ} → Pushed (get_or seeds row 0) placed' list' end placed'' list'' end''
         → SeededBelow seeds eligible (row + 1) placed list placed'' list'' end''
-    seeded-put l q placed'' list'' end'' p = record {
-      grew = grew-on (λ m s. s) (λ m e. inr (subst Seed (sym e) (get_d-mem seeds row l, q))) g.grew p.grew;
+    seeded_put l q {placed''} p = record {
+      grew = grew-on (λ m s. s) (λ m e. inr (subst Seed (sym e) (get_d-mem seeds row l, has-yes eligible (get_or seeds row 0) q))) g.grew p.grew;
       all = λ i b e. go i b e (ℕ_discrete i row);
     }
       where

@@ -9,6 +9,7 @@ ghost use Rattle.worklist_ends.specs.inner.Ends.{Seeded, ListWritten};
 use request_queue::inner::push;
 
 // Lists the eligible seeds. How many are listed.
+#[tactic(auto, using(crate::proofs::Ends::seeded_pass))]
 pub fn list_seeds(seeds: &[u32], eligible: &[u32], placed: &mut [u32], list: &mut [u32]) -> usize
     requires seeds { Below (length eligible.now) seeds.now }
     requires eligible { length placed.old ≡ length eligible.now }
