@@ -17,6 +17,7 @@ pub mod inner;
 
 // One line of an analysed entry's page, by its number from 0, written to `line` from place 0, of a table whose import records are lent beside it. The count is
 // that of its bytes: 41, or 0 past the last.
+#[tactic(auto, unfolding(table::specs::Table::table, table::specs::Table::read, table::specs::Table::current, arrangement::specs::OfProject::named, tables::specs::Readings::is_analysed))]
 pub fn page_line_with_records<'a>(
     runtime: u32,
     dynamic: u32,
