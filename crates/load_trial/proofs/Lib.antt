@@ -1,2 +1,2 @@
--- `Promise`: what the operations promise, in each of their cases.
+-- `Promise`: what the operations promise, case by case.
 pub mod Promise

@@ -1,9 +1,9 @@
--- What the operations promise, in each of their cases.
+-- What the operations promise: a step in each of its cases, and a whole run where its project refuses it and where it is accepted.
 -- Assumes nothing.
-use Rattle.std.specs.Prelude.{◌≡◌, ℕ, ◌<◌, ◌≤◌, Bool, true, false, cond, ◌&&◌, eqb, leb, List, length}
+use Rattle.std.specs.Prelude.{◌≡◌, ℕ, ◌≤◌, Bool, true, false, cond, ◌&&◌, eqb, leb, List, length}
 use mathlib.Core.Path.{sym, ◌∙◌}
 use native.Mathlib.Omega.{arith}
-use borrow.Author.Tests.{eqb-true, le-leb, lt-leb}
+use borrow.Author.Tests.{eqb-true, le-leb}
 use Rattle.lists.specs.Words.{every}
 use Rattle.lists.proofs.Laws.{and_parts}
 use Rattle.tables.specs.Project.{Project}
@@ -81,26 +81,12 @@ module _ (t : Lent) (root : ℕ) (plan : List ℕ) where
     pub run-project : (n : ℕ) → n ≡ t.number → (n ≡ 0 → ⊥) → LoadRun t root plan steps hosts (answers.Refused n) steps hosts
     run-project n e h = run-refused n (number-project room (λ z. h (e ∙ z)) ∙ sym e) h
 
-    module _ (accepts : t.number ≡ 0) where
-      pub run-root : is_analysed p root ≡ false → LoadRun t root plan steps hosts (answers.Refused 5) steps hosts
-      run-root e = run-refused 5 (number-root room accepts e) (λ z. omega arith)
-
-      module _ (analysed : is_analysed p root ≡ true) where
-        pub run-plan : plan_fits (modules p) plan ≡ false → LoadRun t root plan steps hosts (answers.Refused 9) steps hosts
-        run-plan e = run-refused 9 (number-plan room accepts analysed e) (λ z. omega arith)
-
-        module _ (fits : plan_fits (modules p) plan ≡ true) where
-          pub run-steps : length steps < modules p → LoadRun t root plan steps hosts (answers.Refused 6) steps hosts
-          run-steps l = run-refused 6 (number_fits room accepts analysed fits ∙ rw (lt-leb (modules p) (length steps) l)) (λ z. omega arith)
-
-          pub run-hosts : modules p ≤ length steps → length hosts < modules p → LoadRun t root plan steps hosts (answers.Refused 6) steps hosts
-          run-hosts u l = run-refused 6 (number_fits room accepts analysed fits ∙ rw (le-leb (modules p) (length steps) u, lt-leb (modules p) (length hosts) l)) (λ z. omega arith)
-
-          pub run-counted : modules p ≤ length steps → modules p ≤ length hosts → {steps' hosts' : List ℕ} {r : ℕ} → Stepped p plan root steps hosts steps' hosts' r → LoadRun t root plan steps hosts (answers.Counted r) steps' hosts'
-          run-counted u v {r = r} w =
-              let z : verdict ≡ 0 = number_fits room accepts analysed fits ∙ rw (le-leb (modules p) (length steps) u, le-leb (modules p) (length hosts) v) in
-              record {
-                answered = answer-accepted verdict (length (step_modules p plan root)) r z w.listed.count;
-                listed = w.listed.places ∙ sym (after-accepted verdict steps (step_modules p plan root) z);
-                hosted = w.hosted.places ∙ sym (after-accepted verdict hosts (step_hosts p plan root) z);
-              }
+    module _ (accepts : t.number ≡ 0) (analysed : is_analysed p root ≡ true) (fits : plan_fits (modules p) plan ≡ true) where
+      pub run-counted : modules p ≤ length steps → modules p ≤ length hosts → {steps' hosts' : List ℕ} {r : ℕ} → Stepped p plan root steps hosts steps' hosts' r → LoadRun t root plan steps hosts (answers.Counted r) steps' hosts'
+      run-counted u v {r = r} w =
+          let z : verdict ≡ 0 = number_fits room accepts analysed fits ∙ rw (le-leb (modules p) (length steps) u, le-leb (modules p) (length hosts) v) in
+          record {
+            answered = answer-accepted verdict (length (step_modules p plan root)) r z w.listed.count;
+            listed = w.listed.places ∙ sym (after-accepted verdict steps (step_modules p plan root) z);
+            hosted = w.hosted.places ∙ sym (after-accepted verdict hosts (step_hosts p plan root) z);
+          }

@@ -122,6 +122,7 @@ pub fn load_step<'a>(
 
 // All steps of an analysed entry's load with a plan, of a table whose import records are lent beside it: place n of `steps` is step n's module, and place n
 // of `hosts` its host. The count is that of the steps.
+#[tactic(auto, unfolding(table::specs::Table::table, table::specs::Table::read, table::specs::Table::current, arrangement::specs::OfProject::named, tables::specs::Readings::is_analysed))]
 pub fn load_run_with_records<'a>(
     runtime: u32,
     dynamic: u32,

@@ -3,7 +3,6 @@
 use Rattle.std.specs.Prelude.{◌≡◌, ℕ, true, List, length, take}
 use mathlib.Core.Path.{sym, subst, ◌∙◌}
 use lib.ListN.{length-replicate}
-use Rattle.lists.proofs.Laws.{not-true, not-false}
 use Rattle.tables.specs.Project.{Project}
 use Rattle.tables.specs.Readings.{modules, is_analysed}
 use Rattle.tables.specs.Refusal.{row_limit}
