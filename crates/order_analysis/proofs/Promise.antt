@@ -1,14 +1,13 @@
--- What the operation promises, in each of its cases.
+-- What the operation promises of a call that its project refuses, and of one that is accepted.
 -- Assumes nothing.
-use Rattle.std.specs.Prelude.{◌≡◌, ℕ, ◌<◌, ◌≤◌, Bool, true, leb, List, ◌++◌, length, drop}
+use Rattle.std.specs.Prelude.{◌≡◌, ℕ, ◌≤◌, Bool, true, leb, List, ◌++◌, length, drop}
 use mathlib.Core.Path.{refl, sym, ap, ◌∙◌}
-use native.Mathlib.Omega.{arith}
-use borrow.Author.Tests.{le-leb, lt-leb}
+use borrow.Author.Tests.{le-leb}
 use Rattle.lists.specs.Words.{ones}
 use Rattle.tables.specs.Project.{Project}
 use Rattle.tables.specs.Readings.{modules}
 use Rattle.tables.specs.declared.Answer.TheVariants.{Refused, Counted}
-use Rattle.tables.proofs.Answering.{verdict-project, verdict-short, verdict-none, after-refused, after-accepted}
+use Rattle.tables.proofs.Answering.{verdict-project, verdict-none, after-refused, after-accepted}
 use Rattle.table.specs.Table.{Lent}
 use Rattle.table.proofs.Laws.{answer-refused, answer-accepted}
 use Rattle.wrap_plan.proofs.Promise.{length-plan}
@@ -39,9 +38,6 @@ module _ (t : Lent) (marks : List ℕ) where
   project-refused n e h = refused n (verdict-project t.number true room (λ z. h (e ∙ z)) ∙ sym e) h
 
   module _ (accepts : t.number ≡ 0) where
-    pub room-refused : length marks < modules p → WholeAnalysis t marks (Refused 6) marks
-    room-refused l = refused 6 (verdict-short t.number true room accepts refl (lt-leb (modules p) (length marks) l)) (λ z. omega arith)
-
     pub whole-counted : modules p ≤ length marks → (made : List ℕ) (count : ℕ) → made ≡ whole_plan p → count ≡ ones (whole_plan p) → WholeAnalysis t marks (Counted count) (made ++ drop (modules p) marks)
     whole-counted l made count e c =
         let z : number ≡ 0 = verdict-none t.number true room accepts refl (le-leb (modules p) (length marks) l) in

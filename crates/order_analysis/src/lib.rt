@@ -16,6 +16,7 @@ pub mod inner;
 
 // The plan from all analysed entries' risks and the seed rows: 0 or 1 for each module, written to `marks` from place 0, of a table whose import
 // records are lent beside it. The count is that of the ones.
+#[tactic(auto, unfolding(table::specs::Table::table, table::specs::Table::read, table::specs::Table::current, arrangement::specs::OfProject::named))]
 pub fn analyze_execution_order_with_records<'a>(
     runtime: u32,
     dynamic: u32,
