@@ -15,6 +15,7 @@ use worklist_plan::inner::plan_by_takings;
 
 // The plan from seeds by a worklist: 0 or 1 for each module, written to `marks` from place 0, of a table whose import records are lent beside it. The count is
 // that of the ones.
+#[tactic(auto, unfolding(table::specs::Table::table, table::specs::Table::read, table::specs::Table::current))]
 pub fn plan_by_worklist_with_records<'a>(
     runtime: u32,
     dynamic: u32,
