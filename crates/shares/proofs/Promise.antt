@@ -28,10 +28,6 @@ four-set (x ∷ y ∷ z ∷ w ∷ out) a b c d h = refl
 
 -- an outcome by its number
 module _ (e p : ℕ) where
-  pub outcome-refused : (v n : ℕ) → n ≡ v → (n ≡ 0 → ⊥) → Refused n ≡ outcome v e p
-  outcome-refused zero n q h = absurd (h q)
-  outcome-refused (suc v) n q h = ap Refused q
-
   pub outcome-shared : (v : ℕ) → v ≡ 0 → share_of e p ≡ outcome v e p
   outcome-shared v q = rw q refl
 

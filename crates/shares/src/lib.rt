@@ -17,6 +17,7 @@ use tables::Answer;
 
 // The counts of eligible modules and of those that the whole analysis plans, with the quotient and the remainder of 1,000 times the second by the
 // first, or a refusal, of a table whose import records are lent beside it.
+#[tactic(auto, unfolding(table::specs::Table::table, table::specs::Table::read, table::specs::Table::current, arrangement::specs::OfProject::named))]
 pub fn share_with_records<'a>(
     runtime: u32,
     dynamic: u32,
