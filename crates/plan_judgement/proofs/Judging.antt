@@ -1,14 +1,15 @@
--- The six conditions, each by its lowest module, are what is said of a plan.
+-- Of the six conditions, each by its lowest module: the first two by the marks of the eligible modules, and what naming the first broken one keeps.
 -- Assumes nothing.
-use Rattle.std.specs.Prelude.{◌≡◌, ℕ, Bool, not, ◌&&◌, List, [], ◌∷◌, length}
+use Rattle.std.specs.Prelude.{◌≡◌, ℕ, Bool, not, ◌&&◌, List, cond, nat_eq, length}
 use mathlib.Core.Path.{ap, ◌∙◌}
 use Rattle.lists.specs.Words.{elem, has}
-use Rattle.tables.specs.Project.{Project}
+use Rattle.tables.specs.Project.{Project, missing}
 use Rattle.tables.specs.Readings.{modules}
 use Rattle.eligibility.specs.Eligible.{eligible, eligible_marks}
 use Rattle.eligibility.proofs.Eligible.{eligible-marks}
-use Rattle.wrap_rules.specs.Plan.{suffix_rule, component_rule, import_rule, read_rule}
-use Rattle.plan_conditions.specs.Conditions.{only_eligible, holds_seeds, closed_under, broken, lowest, first_broken, judged}
+use Rattle.plan_conditions.specs.declared.Judgement.{Judgement}
+use Rattle.plan_conditions.specs.declared.Judgement.TheVariants.{Broken}
+use Rattle.plan_conditions.specs.Conditions.{only_eligible, holds_seeds, broken, lowest}
 
 module _ (p : Project) (seeds plan : List ℕ) where
   -- the marks of the eligible modules are read
@@ -26,14 +27,6 @@ module _ (p : Project) (seeds plan : List ℕ) where
         ap (λ (f : ℕ → Bool). lowest (λ (m : ℕ). (f m && elem m seeds) && not (has plan m)) (length plan)) test
         ∙ ap (lowest (λ (m : ℕ). (eligible p m && elem m seeds) && not (has plan m))) size
 
-  -- the six together
-  pub six-judged : (a b c d e f : ℕ) → a ≡ lowest (broken p seeds plan only_eligible) (modules p) → b ≡ lowest (broken p seeds plan holds_seeds) (modules p)
-      → c ≡ lowest (broken p [] plan (closed_under suffix_rule)) (modules p) → d ≡ lowest (broken p [] plan (closed_under component_rule)) (modules p)
-      → e ≡ lowest (broken p [] plan (closed_under import_rule)) (modules p) → f ≡ lowest (broken p [] plan (closed_under read_rule)) (modules p)
-      → first_broken 1 (a ∷ b ∷ c ∷ d ∷ e ∷ f ∷ []) ≡ judged p seeds plan
-  unfolding judged
-  six-judged a b c d e f h1 h2 h3 h4 h5 h6 = ap (first_broken 1) (same-six h1 h2 h3 h4 h5 h6)
-    where
-      same-six : {a b c d e f a' b' c' d' e' f' : ℕ} → a ≡ a' → b ≡ b' → c ≡ c' → d ≡ d' → e ≡ e' → f ≡ f'
-          → ◌≡◌ {A = List ℕ} (a ∷ b ∷ c ∷ d ∷ e ∷ f ∷ []) (a' ∷ b' ∷ c' ∷ d' ∷ e' ∷ f' ∷ [])
-      same-six h1 h2 h3 h4 h5 h6 = cc
+-- equal lowest modules, and what is named after them, give what is named
+pub same-first : (i : ℕ) {x y : ℕ} {r s : Judgement} → x ≡ y → r ≡ s → cond (nat_eq x missing) r (Broken i x) ≡ cond (nat_eq y missing) s (Broken i y)
+same-first i e h = cc

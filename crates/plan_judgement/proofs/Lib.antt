@@ -1,4 +1,3 @@
--- `Seeding`: the seeds that a plan lacks. `Lending`: an array lent in part, again and again. `Judging`: the six conditions together.
+-- `Seeding`: the seeds that a plan lacks. `Judging`: the six conditions.
 mod Seeding
-mod Lending
 mod Judging
