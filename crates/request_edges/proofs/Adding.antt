@@ -8,7 +8,7 @@ use native.Mathlib.Omega.{arith}
 use lib.ListN.{length-set}
 use lib.Seq.{get_or-set_same, get_or-set_other}
 use Rattle.tables.specs.Refusal.{row_limit}
-use Rattle.request_edges.specs.inner.Edges.{RowsBelow, Adds}
+use Rattle.request_edges.specs.inner.Edges.{RowsBelow, Rows, Adds}
 
 module _ (from to : List ℕ) (count : ℕ) where
   -- no edges
@@ -136,3 +136,36 @@ module _ (from to : List ℕ) (count : ℕ) where
               let p = g.all u v (record { row = e.row; there = omega (arith, e.there, k); known = e.known; aimed = e.aimed; source = e.source; target = e.target }) in
               let d : p.0 ≡ end → ⊥ = λ z. omega (arith, z, p.1) in
               (p.0, omega (arith, p.1), old-from p.0 d ∙ p.2, old-to p.0 d ∙ p.3)
+
+-- the code's steps
+
+-- the rows below `row` are added, in a word that does not unfold at the code's goals
+unfoldable pub AddedBelow : List ℕ → List ℕ → ℕ → List ℕ → ℕ → List ℕ → ℕ → ℕ → List ℕ → List ℕ → ℕ → Type 0
+AddedBelow from to count sources a targets b row from' to' end = Adding from to count sources a targets b row from' to' end
+
+module _ (from to : List ℕ) (count : ℕ) (sources : List ℕ) (a : ℕ) (targets : List ℕ) (b : ℕ) where
+  pub added_start : AddedBelow from to count sources a targets b 0 from to count
+  unfolding AddedBelow
+  added_start = adding-start from to count sources a targets b
+
+  module _ (row : ℕ) (from' to' : List ℕ) (end : ℕ) (g : AddedBelow from to count sources a targets b row from' to' end) where
+    pub added_end : row ≡ length sources → Adds (Rows sources a targets b) (length sources) from to count from' to' end
+    unfolding AddedBelow
+    added_end e = subst (λ (n : ℕ). Adding from to count sources a targets b n from' to' end) e g
+
+    -- a row that has no number in the one column, or in the other
+    pub added_unsourced : row_limit ≤ get_or sources row 0 → AddedBelow from to count sources a targets b (row + 1) from' to' end
+    unfolding AddedBelow
+    added_unsourced m = adding-pass from to count sources a targets b row from' to' end g (λ s t. omega arith)
+
+    pub added_unaimed : row_limit ≤ get_or targets row 0 → AddedBelow from to count sources a targets b (row + 1) from' to' end
+    unfolding AddedBelow
+    added_unaimed m = adding-pass from to count sources a targets b row from' to' end g (λ s t. omega arith)
+
+    -- one that has both
+    pub added_put : get_or sources row 0 < row_limit → get_or targets row 0 < row_limit → end < length from → length to ≡ length from
+        → AddedBelow from to count sources a targets b (row + 1) (set from' end (get_or sources row 0 + a)) (set to' end (get_or targets row 0 + b)) (end + 1)
+    unfolding AddedBelow
+    added_put s t l n = adding-put from to count sources a targets b row from' to' end g s t l n
+
+pub ruleset adding_steps = (added_start, added_unsourced, added_unaimed, added_put, added_end)

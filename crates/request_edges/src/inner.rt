@@ -48,6 +48,7 @@ pub fn number_chosen(first: &[u32], second: &[u32], out: &mut [u32])
 
 // Adds an edge for each row of two columns that both have a row number: from the first one's place after `a` to the second one's after `b`.
 // How many edges there are then.
+#[tactic(auto, using(crate::proofs::Adding::adding_steps))]
 pub fn add_edges(
     sources: &[u32],
     targets: &[u32],
@@ -71,8 +72,7 @@ pub fn add_edges(
             continue;
         }
         let target = targets[row];
-        let marked = ROW_LIMIT <= target as usize;
-        if marked {
+        if ROW_LIMIT <= target as usize {
             continue;
         }
         from[end] = source + a;
