@@ -90,3 +90,6 @@ module _ (s : List ℕ) (at n : ℕ) where
           let w : drop from s ≡ lines ++ 10 ∷ [] =
           sym (take_all (suc k) (drop from s) (omega arith)) ∙ take-suc (drop from s) k 0 (omega arith) ∙ ap (λ (x : ℕ). lines ++ x ∷ []) b in
           (list lines, g, m.0 ∙ ap (λ (x : List ℕ). bytes "name" ++ 10 ∷ x) w, (omega arith, omega arith, refl))
+
+-- the answers
+pub ruleset sections = (no-list, no_line, no_end, no-empty-line, no-fit, a-list)

@@ -26,6 +26,7 @@ fn names_fit(names: &[u8], modules: usize) -> bool
 }
 
 // Finds the names of so many modules in a text whose other lists end at `at`: an empty part at the text's end where it has no list.
+#[tactic(auto, using(crate::proofs::Sections::sections))]
 pub fn find_names(text: &[u8], at: usize, modules: usize) -> Found
     ensures { NamesLie text.now at modules result }
 {
@@ -40,8 +41,7 @@ pub fn find_names(text: &[u8], at: usize, modules: usize) -> Found
         return Found::Broken;
     }
     let to = text.len() - 1;
-    let ended = text[to] == 10;
-    if !ended {
+    if text[to] != 10 {
         return Found::Broken;
     }
     if names_fit(&text[from..to], modules) {
