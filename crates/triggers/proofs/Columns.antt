@@ -34,8 +34,8 @@ module _ (normal included wrap : List ℕ) (m : ℕ) where
 
 module _ (normal included wrap kind target : List ℕ) (row : ℕ) where
   -- another kind triggers nothing
-  pub trigger-kind : 1 < get_or kind row 0 → missing ≡ row_trigger normal included wrap kind target row
-  trigger-kind l = rw (le-ltb (get_or kind row 0) 2 (omega arith))
+  pub trigger_kind : 1 < get_or kind row 0 → missing ≡ row_trigger normal included wrap kind target row
+  trigger_kind l = rw (le-ltb (get_or kind row 0) 2 (omega arith))
 
   -- kind 0 or 1 triggers a normal target that executes where it is triggered
   pub trigger-one : (t : ℕ) → get_or kind row 0 ≤ 1 → resolved normal target row ≡ Normal t → 2 ≤ way_of normal included wrap t → t ≡ row_trigger normal included wrap kind target row

@@ -36,6 +36,7 @@ pub fn write_ways<'a>(normal: &'a [u32], included: &'a [u32], wrap: &'a [u32], w
 }
 
 // Which module a record row triggers: its target, if its kind is 0 or 1 and the target executes and its wrap is not 0. Else the mark.
+#[tactic(auto, using(crate::proofs::Columns::trigger_kind))]
 fn trigger_of<'a>(
     normal: &'a [u32],
     included: &'a [u32],
@@ -49,8 +50,7 @@ fn trigger_of<'a>(
     requires modules { (length included.now ≡ length normal.now) × (length wrap.now ≡ length normal.now) }
     ensures { result ≡ row_trigger normal.now included.now wrap.now record_kind.now record_target.now row }
 {
-    let inert = 1 < record_kind[row];
-    if inert {
+    if 1 < record_kind[row] {
         return ModuleIdx::MISSING;
     }
     let found = resolve(normal, record_target, row);

@@ -2,13 +2,8 @@
 -- Assumes nothing.
 use Rattle.std.proofs.Common.{◌<◌, length, sym, arith}
 use Rattle.tables.proofs.Targets.{target-in}
-use Rattle.triggers.proofs.Columns.{trigger-kind, trigger-one}
+use Rattle.triggers.proofs.Columns.{trigger-one}
 use Rattle.triggers.proofs.inner.trigger_of.Goals as goal
-
-pub returns-then-inert : goal.returns-then-inert
-returns-then-inert c =
-    let a = c.args in
-    trigger-kind a.normal.now a.included.now a.wrap.now a.record_kind.now a.record_target.now a.row (omega arith)
 
 pub way_of-requires : goal.way_of-requires
 way_of-requires c =
