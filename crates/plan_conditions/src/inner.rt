@@ -9,6 +9,7 @@ use crate::Judgement;
 use tables::ModuleIdx;
 
 // Whether a plan is one mark, 0 or 1, for each of n modules.
+#[tactic(auto, using(crate::proofs::Fitting::fit_steps))]
 pub fn plan_fits(plan: &[u32], n: usize) -> bool
     ensures { result ≡ plan_fits n plan.now }
 {
@@ -16,8 +17,7 @@ pub fn plan_fits(plan: &[u32], n: usize) -> bool
         return false;
     }
     for m in 0..plan.len() {
-        let other = 1 < plan[m];
-        if other {
+        if 1 < plan[m] {
             return false;
         }
     }
