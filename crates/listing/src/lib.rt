@@ -36,8 +36,7 @@ pub fn read(
     let Cursor::On(at, k) = c else {
         return Reading::Refused(7);
     };
-    let one_row = ends[0] == 2;
-    if !one_row {
+    if ends[0] != 2 {
         return Reading::Refused(7);
     }
     let found = find_names(text, at, (ends[1] - 2) / 8);
