@@ -9,14 +9,8 @@ use plan_conditions::Judgement;
 use std::io;
 use std::rt::Env;
 use streams::read_full;
-use table::{COLUMNS, MODULE_LIMIT, NORMAL, rows};
-
-// What an argument is: so many numbers, or something else.
-#[derive(Clone, Copy)]
-enum Numbers {
-    Read(usize),
-    Broken,
-}
+use table::{COLUMNS, MODULE_LIMIT, NORMAL, Table};
+use tables::Refusal;
 
 // The number with a digit more; the mark where it is too large.
 fn with_digit(value: u32, digit: u8) -> u32 {
@@ -27,34 +21,26 @@ fn with_digit(value: u32, digit: u8) -> u32 {
     n as u32
 }
 
-// The numbers of a text, a comma behind each.
-fn read_numbers(text: &[u8], out: &mut [u32]) -> Numbers {
+// The numbers of a text, a comma behind each, written to `out`: how many, if it is such a text and they fit.
+fn read_numbers(text: &[u8], out: &mut [u32]) -> Option<usize> {
     let mut count = 0;
     let mut value: u32 = 0;
-    for i in 0..text.len() {
-        let b = text[i];
-        if b == 44 {
-            if out.len() <= count {
-                return Numbers::Broken;
+    for &b in text {
+        match b {
+            b',' => {
+                *out.get_mut(count)? = value;
+                count += 1;
+                value = 0;
             }
-            out[count] = value;
-            count += 1;
-            value = 0;
-            continue;
+            b'0'..=b'9' => value = with_digit(value, b - b'0'),
+            _ => return None,
         }
-        if b < 48 {
-            return Numbers::Broken;
-        }
-        if 57 < b {
-            return Numbers::Broken;
-        }
-        value = with_digit(value, b - 48);
     }
-    Numbers::Read(count)
+    Some(count)
 }
 
 // The numbers of an argument.
-fn read_argument(rt: &impl Env, i: usize, out: &mut [u32]) -> Numbers {
+fn read_argument(rt: &impl Env, i: usize, out: &mut [u32]) -> Option<usize> {
     let mut text = [0u8; 65536];
     let n = rt.arg(i, &mut text).unwrap_or(0);
     read_numbers(&text[..n], out)
@@ -62,12 +48,9 @@ fn read_argument(rt: &impl Env, i: usize, out: &mut [u32]) -> Numbers {
 
 // Marks the members of a plan. Whether each is one of n modules.
 fn mark_members(members: &[u32], marks: &mut [u32], n: usize) -> bool {
-    for k in 0..members.len() {
-        let m = members[k] as usize;
-        if n <= m {
-            return false;
-        }
-        if marks.len() <= m {
+    for &m in members {
+        let m = m as usize;
+        if n <= m || marks.len() <= m {
             return false;
         }
         marks[m] = 1;
@@ -75,8 +58,8 @@ fn mark_members(members: &[u32], marks: &mut [u32], n: usize) -> bool {
     true
 }
 
-fn refused(rt: &impl Print, number: u32) -> io::Result<()> {
-    println!(rt; "refused {number}")
+fn refused(rt: &impl Print, refusal: Refusal) -> io::Result<()> {
+    println!(rt; "refused {}", refusal.number())
 }
 
 // Which condition a module breaks.
@@ -100,91 +83,41 @@ fn broken(rt: &impl Print, condition: u32, module: u32) -> io::Result<()> {
     }
 }
 
-fn say(rt: &impl Print, judgement: Judgement) -> io::Result<()> {
+fn say(rt: &impl Print, judgement: Result<Judgement, Refusal>) -> io::Result<()> {
     match judgement {
-        Judgement::Accepted => println!(rt; "accepted"),
-        Judgement::Broken(condition, module) => broken(rt, condition, module),
-        Judgement::Refused(number) => refused(rt, number),
+        Ok(Judgement::Accepted) => println!(rt; "accepted"),
+        Ok(Judgement::Broken(condition, module)) => broken(rt, condition, module),
+        Err(refusal) => refused(rt, refusal),
     }
 }
 
 // Judges marks with the seeds of the second argument.
-fn judge<'a>(
-    rt: &(impl Env + Print),
-    runtime: u32,
-    dynamic: u32,
-    bounds: &'a [u32],
-    columns: &'a [u32],
-    names: &'a [u8],
-    plan: &[u32],
-) -> io::Result<()> {
+fn judge(rt: &(impl Env + Print), table: &Table, plan: &[u32]) -> io::Result<()> {
     let mut seeds = [0u32; 16386];
     let list = read_argument(rt, 2, &mut seeds);
     match list {
-        Numbers::Read(n) => say(
-            rt,
-            check_plan(
-                runtime,
-                dynamic,
-                bounds,
-                columns,
-                names,
-                first_of(&seeds, n),
-                plan,
-            ),
-        ),
-        Numbers::Broken => refused(rt, 5),
+        Some(n) => say(rt, check_plan(table, first_of(&seeds, n), plan)),
+        None => refused(rt, Refusal::Argument),
     }
 }
 
 // Judges the plan of the first argument.
-fn judge_listed<'a>(
-    rt: &(impl Env + Print),
-    runtime: u32,
-    dynamic: u32,
-    bounds: &'a [u32],
-    columns: &'a [u32],
-    names: &'a [u8],
-    members: &[u32],
-) -> io::Result<()> {
-    let n = rows(bounds, columns, NORMAL);
+fn judge_listed(rt: &(impl Env + Print), table: &Table, members: &[u32]) -> io::Result<()> {
+    let n = table.rows(NORMAL);
     let mut marks = [0u32; MODULE_LIMIT];
     if mark_members(members, &mut marks, n) {
-        return judge(
-            rt,
-            runtime,
-            dynamic,
-            bounds,
-            columns,
-            names,
-            first_of(&marks, n),
-        );
+        return judge(rt, table, first_of(&marks, n));
     }
-    judge(rt, runtime, dynamic, bounds, columns, names, &[])
+    judge(rt, table, &[])
 }
 
 // Judges it, read from its argument.
-fn judge_argument<'a>(
-    rt: &(impl Env + Print),
-    runtime: u32,
-    dynamic: u32,
-    bounds: &'a [u32],
-    columns: &'a [u32],
-    names: &'a [u8],
-) -> io::Result<()> {
+fn judge_argument(rt: &(impl Env + Print), table: &Table) -> io::Result<()> {
     let mut members = [0u32; 16386];
     let list = read_argument(rt, 1, &mut members);
     match list {
-        Numbers::Read(n) => judge_listed(
-            rt,
-            runtime,
-            dynamic,
-            bounds,
-            columns,
-            names,
-            first_of(&members, n),
-        ),
-        Numbers::Broken => judge(rt, runtime, dynamic, bounds, columns, names, &[]),
+        Some(n) => judge_listed(rt, table, first_of(&members, n)),
+        None => judge(rt, table, &[]),
     }
 }
 
@@ -199,11 +132,13 @@ fn judge_of<'a>(
 ) -> io::Result<()> {
     judge_argument(
         rt,
-        settings[0],
-        settings[1],
-        bounds,
-        first_of(columns, n),
-        names,
+        &Table::new(
+            settings[0],
+            settings[1],
+            bounds,
+            first_of(columns, n),
+            names,
+        ),
     )
 }
 
@@ -214,9 +149,16 @@ fn judge_text(rt: &(impl Env + Print), text: &[u8]) -> io::Result<()> {
     let mut columns = [0u32; 32768];
     let answer = read(text, &mut settings, &mut bounds, &mut columns);
     match answer {
-        Reading::Refused(number) => refused(rt, number),
-        Reading::Read(k, from, to) => {
-            judge_of(rt, settings, &bounds, &columns, k, part_of(text, from, to))
+        Err(refusal) => refused(rt, refusal),
+        Ok(Reading { values, from, to }) => {
+            judge_of(
+                rt,
+                settings,
+                &bounds,
+                &columns,
+                values,
+                part_of(text, from, to),
+            )
         }
     }
 }

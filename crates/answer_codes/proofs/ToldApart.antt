@@ -1,31 +1,35 @@
 -- The statements of specs/ToldApart, inhabited.
 -- Assumes nothing.
-use mathlib.Core.Path.{◌≡◌, refl, ap, ◌∙◌}
+use mathlib.Core.Path.{◌≡◌, refl, sym, ap, ◌∙◌}
+use Rattle.std.specs.Prelude.{Option, None, Some, Result, Ok, Err}
 use mathlib.Core.Logic.{◌⊎◌, inl, inr, ⊎_elim, ⊎_map}
-use mathlib.Core.Bool.{Bool, true, false, cond, not, ◌&&◌, ◌||◌}
+use mathlib.Core.Bool.{Bool, true, false, cond, ◌&&◌}
 use mathlib.Core.List.{List, ◌∷◌}
-use Prim.Native.Nat.{ℕ, zero, suc, ◌*◌, ◌≤◌}
+use Prim.Native.Nat.{ℕ, zero, ◌*◌, ◌≤◌}
 use native.Mathlib.Omega.{arith}
 use lib.ListN.{length, take}
-use lib.Dec.{eqb, ltb, leb}
-use Rattle.lists.specs.Words.{is_zero, up_to, ones, bit}
+use lib.Dec.{ltb, leb}
+use Rattle.lists.specs.Words.{up_to, ones, bit}
 use Rattle.lists.proofs.Laws.{length-count_from, length-keep, ones-zeros}
 use Rattle.walk.specs.Walk.{everywhere}
 use Rattle.walk.proofs.Orders.{order-length}
 use Rattle.tables.specs.Project.{Project}
 use Rattle.tables.specs.Readings.{modules, chunks, is_normal, is_analysed}
 use Rattle.tables.specs.Refusal.{below, sizes_fit, values_fit, rows_rise, rows_agree, newer_fits, refusal}
-use Rattle.tables.specs.Answers.{number_of, verdict}
+use Rattle.tables.specs.Answers.{number, number_of, refused_of, answer, verdict}
 use Rattle.tables.specs.Accepted.{Accepted}
-use Rattle.tables.specs.declared.Answer.{Answer}
+use Rattle.tables.specs.declared.Refusal.{Refusal}
+use Rattle.tables.specs.declared.Refusal.TheVariants.{ListSize, ColumnValue, RowOrder, RowConflict, Argument, ShortSlice, Text, ShortForCircles, PlanForm, NewerRow, PastSeason}
 use Rattle.names.specs.Names.{names_sized, names_in}
-use Rattle.table.specs.Table.{bounds_fit, table, table_number, tested_too, Lent, lent, answer}
+use Rattle.table.specs.Table.{bounds_fit, table, table_refusal, tested_too, Lent, lent}
 use Rattle.table.proofs.Laws.{none-tested, lent-current}
 use Rattle.arrangement.specs.OfProject.{lent_named}
 use Rattle.arrangement.proofs.OfProject.{lent-named}
 use Rattle.sort_modules.specs.Sort.{statics_of, visited, sorted}
 use Rattle.sort_modules.specs.OfProject.{sorted_of}
-use Rattle.sort_chunk_modules.specs.Promise.{named_number}
+use Rattle.sort_chunk_modules.specs.Promise.{named_refusal}
+use Rattle.import_circles.specs.Promise.{refused_or}
+use Rattle.load_trial.specs.Promise.{trial_refusal}
 use Rattle.circle_gathering.specs.Gathering.{joined}
 use Rattle.import_circles.specs.OfProject.{circles_of}
 use Rattle.import_circles.proofs.Counts.{circles-few}
@@ -55,7 +59,7 @@ use Rattle.wall_line.specs.Promise.{page_line_of}
 use Rattle.wall_line.proofs.Lines.{line-fits}
 use Rattle.wall_page.specs.Promise.{page_with}
 use Rattle.wall_page.proofs.Fits.{page-fits}
-use Rattle.answer_codes.specs.Calls.{Call, Sort, Circles, Expected, Entries, Actual, Labels, Reach, OrderRisk, CycleRisk, Plan, Takings, Whole, Grounds, Share, Line, Page, Arrange, Load, Refusal, reads_member_order, lent_to, Promise}
+use Rattle.answer_codes.specs.Calls.{Call, Sort, Circles, Expected, Entries, Actual, Labels, Reach, OrderRisk, CycleRisk, Plan, Takings, Whole, Grounds, Share, Line, Page, Arrange, Load, Test, reads_member_order, lent_to, Promise}
 use Rattle.answer_codes.specs.Exported.{coded}
 use Rattle.answer_codes.specs.ToldApart.{count_limit, number_limit, AcceptedWith, RefusedWith, AnswersAreToldApart, BelowExactlyIfAccepted}
 
@@ -91,16 +95,16 @@ page-few : (p : Project) → Accepted p → (grounds plan : List ℕ) (root : �
 unfolding page_with
 page-few p ok grounds plan root = omega (arith, page-fits p ok (take (modules p) grounds) (take (modules p) plan) root, ok.sizes.normal)
 
--- a project's number is 4 at most, or 10
+-- what refuses a project has a number of 4 at most, or 10
 
-abbrev pub Known : ℕ → Type 0
-Known n = (n ≤ 4) ⊎ (n ≡ 10)
+abbrev pub Known : Option Refusal → Type 0
+Known r = (number_of r ≤ 4) ⊎ (number_of r ≡ 10)
 
 refusal-known : (p : Project) → Known (refusal p)
 unfolding refusal
 refusal-known p = known (sizes_fit p) (values_fit p) (rows_rise p) (rows_agree p) (newer_fits p.newer)
   where
-    known : (a b c d e : Bool) → Known (cond a (cond b (cond c (cond d (cond e 0 10) 4) 3) 2) 1)
+    known : (a b c d e : Bool) → Known (cond a (cond b (cond c (cond d (cond e None (Some NewerRow)) (Some RowConflict)) (Some RowOrder)) (Some ColumnValue)) (Some ListSize))
     known true true true true true = inl (omega arith)
     known true true true true false = inr refl
     known true true true false e = inl (omega arith)
@@ -109,68 +113,86 @@ refusal-known p = known (sizes_fit p) (values_fit p) (rows_rise p) (rows_agree p
     known false b c d e = inl (omega arith)
 
 -- the tests alone ask for no argument and no room
-tests-alone : (n : ℕ) → answer n 0 ≡ answer (verdict n true true) 0
-tests-alone zero = refl
-tests-alone (suc n) = refl
+tests-alone : (r : Option Refusal) → ◌≡◌ {A = Result ℕ Refusal} (answer r 0) (answer (verdict r true true) 0)
+tests-alone None = refl
+tests-alone (Some x) = refl
 
--- a call without a number is on a project without one
-verdict-zero : (n : ℕ) (fits room : Bool) → verdict n fits room ≡ 0 → n ≡ 0
-verdict-zero zero fits room e = refl
-verdict-zero (suc n) fits room e = e
+-- a call that nothing refuses is on a project that nothing refuses
+verdict-none : (r : Option Refusal) (fits room : Bool) → verdict r fits room ≡ None → r ≡ None
+verdict-none None fits room e = refl
+verdict-none (Some x) fits room e = e
 
--- an answer by its number, of which 1 to 6 and 10 can be, and its count
+pub least : (x : Refusal) → 1 ≤ number x
+least ListSize = omega arith
+least ColumnValue = omega arith
+least RowOrder = omega arith
+least RowConflict = omega arith
+least Argument = omega arith
+least ShortSlice = omega arith
+least Text = omega arith
+least ShortForCircles = omega arith
+least PlanForm = omega arith
+least NewerRow = omega arith
+least PastSeason = omega arith
 
-module _ (call : Call) (a : Answer) (r : ℕ) (code : r ≡ coded a) where
+-- an answer by what refuses it, of which 1 to 6 and 10 can be, and its count
+
+module _ (call : Call) (a : Result ℕ Refusal) (r : ℕ) (code : r ≡ coded a) where
   abbrev Told : Type 0
   Told = AcceptedWith call a r ⊎ RefusedWith call a r
 
-  accepted : (count : ℕ) → count ≤ count_limit call → a ≡ answer 0 count → Told
+  accepted : (count : ℕ) → count ≤ count_limit call → a ≡ Ok count → Told
   accepted count few e = let q : r ≡ count = code ∙ ap coded e in inl (record { accepted = rw q e; within = omega arith })
 
-  refused : (n count : ℕ) → (suc n ≤ number_limit call) ⊎ (suc n ≡ 10) → a ≡ answer (suc n) count → Told
-  refused n count known e = inr (record { number = suc n; refused = e; code = code ∙ ap coded e; least = omega arith; known = known })
+  refused : (x : Refusal) → (number x ≤ number_limit call) ⊎ (number x ≡ 10) → a ≡ Err x → Told
+  refused x known e = inr (record { why = x; refused = e; code = code ∙ ap coded e; least = least x; known = known })
 
-  told : (n : ℕ) (fits room : Bool) (count : ℕ) → Known n → 6 ≤ number_limit call → (verdict n fits room ≡ 0 → count ≤ count_limit call) → a ≡ answer (verdict n fits room) count → Told
-  told zero true true count known l few e = accepted count (few refl) e
-  told zero true false count known l few e = refused 5 count (inl l) e
-  told zero false room count known l few e = refused 4 count (inl (omega arith)) e
-  told (suc n) fits room count known l few e = refused n count (⊎_map (λ k. omega arith) (λ q. q) known) e
+  told : (v : Option Refusal) (fits room : Bool) (count : ℕ) → Known v → 6 ≤ number_limit call → (verdict v fits room ≡ None → count ≤ count_limit call) → a ≡ answer (verdict v fits room) count → Told
+  told None true true count known l few e = accepted count (few refl) e
+  told None true false count known l few e = refused ShortSlice (inl l) e
+  told None false room count known l few e = refused Argument (inl (omega arith)) e
+  told (Some x) fits room count known l few e = refused x (⊎_map (λ k. omega arith) (λ q. q) known) e
 
-  told-room : (n : ℕ) (fits : Bool) (count : ℕ) → Known n → 8 ≤ number_limit call → (n ≡ 0 → count ≤ count_limit call) → a ≡ answer (cond (is_zero n) (cond fits 0 8) n) count → Told
-  told-room zero true count known l few e = accepted count (few refl) e
-  told-room zero false count known l few e = refused 7 count (inl l) e
-  told-room (suc n) fits count known l few e = refused n count (⊎_map (λ k. omega arith) (λ q. q) known) e
+  told-room : (v : Option Refusal) (fits : Bool) (count : ℕ) → Known v → 8 ≤ number_limit call → (v ≡ None → count ≤ count_limit call) → a ≡ answer (refused_or v (cond fits None (Some ShortForCircles))) count → Told
+  told-room None true count known l few e = accepted count (few refl) e
+  told-room None false count known l few e = refused ShortForCircles (inl l) e
+  told-room (Some x) fits count known l few e = refused x (⊎_map (λ k. omega arith) (λ q. q) known) e
 
-  told-load : (n : ℕ) (fits form room : Bool) (count : ℕ) → Known n → 9 ≤ number_limit call → (n ≡ 0 → count ≤ count_limit call) → a ≡ answer (cond (is_zero n) (cond fits (cond form (cond room 0 6) 9) 5) n) count → Told
-  told-load zero true true true count known l few e = accepted count (few refl) e
-  told-load zero true true false count known l few e = refused 5 count (inl (omega arith)) e
-  told-load zero true false room count known l few e = refused 8 count (inl l) e
-  told-load zero false form room count known l few e = refused 4 count (inl (omega arith)) e
-  told-load (suc n) fits form room count known l few e = refused n count (⊎_map (λ k. omega arith) (λ q. q) known) e
+  told-load : (v : Option Refusal) (fits form room : Bool) (count : ℕ) → Known v → 9 ≤ number_limit call → (v ≡ None → count ≤ count_limit call) → a ≡ answer (trial_refusal v fits form room) count → Told
+  told-load None true true true count known l few e = accepted count (few refl) e
+  told-load None true true false count known l few e = refused ShortSlice (inl (omega arith)) e
+  told-load None true false room count known l few e = refused PlanForm (inl l) e
+  told-load None false form room count known l few e = refused Argument (inl (omega arith)) e
+  told-load (Some x) fits form room count known l few e = refused x (⊎_map (λ k. omega arith) (λ q. q) known) e
 
--- and so is that with two further tests
-tested-known : (n : ℕ) (one two : Bool) → Known n → Known (tested_too n one two)
-tested-known n one two k = known (eqb n 1 || not one) (eqb n 2 || not two)
+-- and so does what refuses it with two further tests
+tested-known : (r : Option Refusal) (one two : Bool) → Known r → Known (tested_too r one two)
+tested-known None true true k = k
+tested-known None true false k = inl (omega arith)
+tested-known None false two k = inl (omega arith)
+tested-known (Some x) one two k = known x one two k
   where
-    known : (a b : Bool) → Known (cond a 1 (cond b 2 n))
-    known true b = inl (omega arith)
-    known false true = inl (omega arith)
-    known false false = k
+    known : (x : Refusal) (one two : Bool) → Known (Some x) → Known (tested_too (Some x) one two)
+    known ListSize one two k = k
+    known ColumnValue true two k = k
+    known x false two k = inl (omega arith)
+    known x true false k = inl (omega arith)
+    known x true true k = k
 
-module _ (t : Lent) (number-known : Known t.number) (tested : t.number ≡ 0 → Accepted t.project) where
+module _ (t : Lent) (number-known : Known t.refused) (tested : t.refused ≡ None → Accepted t.project) where
   -- the project as it is read
   abbrev p : Project
   p = t.project
 
-  module _ (first second : List ℕ) (a : Answer) (r : ℕ) (first' second' : List ℕ) (code : r ≡ coded a) where
+  module _ (first second : List ℕ) (a : Result ℕ Refusal) (r : ℕ) (first' second' : List ℕ) (code : r ≡ coded a) where
     by_number : (call : Call) → 6 ≤ number_limit call → (fits room : Bool) (count : ℕ) → (Accepted p → count ≤ count_limit call)
-        → a ≡ answer (verdict t.number fits room) count → AcceptedWith call a r ⊎ RefusedWith call a r
-    by_number call l fits room count few = told call a r code t.number fits room count number-known l (λ z. few (tested (verdict-zero t.number fits room z)))
+        → a ≡ answer (verdict t.refused fits room) count → AcceptedWith call a r ⊎ RefusedWith call a r
+    by_number call l fits room count few = told call a r code t.refused fits room count number-known l (λ z. few (tested (verdict-none t.refused fits room z)))
 
     by-promise : (call : Call) → Promise call t first second a first' second' → AcceptedWith call a r ⊎ RefusedWith call a r
     by-promise Sort h = by_number Sort (omega arith) true (leb (modules p) (length first) && leb (modules p) (length second)) (length (sorted_of p)) (λ ok. omega (arith, sorted-few p, ok.sizes.normal)) h.answered
     by-promise Circles h =
-        told-room Circles a r code t.number (leb (length (joined (circles_of p))) (length first) && leb (length (circles_of p)) (length second)) (length (circles_of p)) number-known (omega arith)
+        told-room Circles a r code t.refused (leb (length (joined (circles_of p))) (length first) && leb (length (circles_of p)) (length second)) (length (circles_of p)) number-known (omega arith)
         (λ z. circles-few p (tested z)) h.answered
     by-promise (Expected root) h = by_number (Expected root) (omega arith) (ltb root (modules p)) (leb (modules p) (length first)) (length (expected_of p root)) (λ ok. omega (arith, expected-few p root, ok.sizes.normal)) h.answered
     by-promise (Entries entries) h = by_number (Entries entries) (omega arith) (below (modules p) entries) (leb (modules p) (length first)) (length (expected_of_entries p entries)) (λ ok. omega (arith, entries-length p entries, ok.sizes.normal)) h.answered
@@ -182,30 +204,30 @@ module _ (t : Lent) (number-known : Known t.number) (tested : t.number ≡ 0 →
     by-promise (Plan seeds) h = by_number (Plan seeds) (omega arith) (seeds_fit (modules p) seeds) (leb (modules p) (length first)) (ones (plan_of p seeds)) (λ ok. omega (arith, ones-zeros (plan_of p seeds), length-plan p seeds, ok.sizes.normal)) h.answered
     by-promise (Takings seeds) h =
         let room : Bool = leb (modules p) (length first) && leb (modules p) (length second) in
-        told (Takings seeds) a r code t.number (seeds_fit (modules p) seeds) room (length h.members) number-known (omega arith)
-        (λ z. omega (arith, worklist-few p seeds h.members h.sizes (h.run z), (tested (verdict-zero t.number (seeds_fit (modules p) seeds) room z)).sizes.normal)) h.answered
+        told (Takings seeds) a r code t.refused (seeds_fit (modules p) seeds) room (length h.members) number-known (omega arith)
+        (λ z. omega (arith, worklist-few p seeds h.members h.sizes (h.run z), (tested (verdict-none t.refused (seeds_fit (modules p) seeds) room z)).sizes.normal)) h.answered
     by-promise Whole h = by_number Whole (omega arith) true (leb (modules p) (length first)) (ones (whole_plan p)) (λ ok. omega (arith, ones-zeros (whole_plan p), length_whole p, ok.sizes.normal)) h.answered
     by-promise Grounds h = by_number Grounds (omega arith) true (leb (modules p) (length first)) (ones (grounds_of p)) (λ ok. omega (arith, ones-zeros (grounds_of p), length-grounds p, ok.sizes.normal)) h.answered
     by-promise Share h = by_number Share (omega arith) true (leb 4 (length first)) 4 (λ ok. omega arith) h.answered
     by-promise (Line root number) h = by_number (Line root number) (omega arith) (is_analysed p root) (leb 41 (length first)) (length (page_line_of p root number)) (λ ok. omega (arith, line-fits p root ok number)) h.answered
     by-promise (Page root grounds plan) h = by_number (Page root grounds plan) (omega arith) (is_analysed p root) (leb (modules p) (length grounds) && (leb (modules p) (length plan) && leb (41 * modules p) (length first))) (length (page_with p grounds plan root)) (λ ok. page-few p ok grounds plan root) h.answered
     by-promise (Arrange names) h =
-        told (Arrange names) a r code (named_number t names) true (leb (length p.member) (length first)) (length p.member) (tested-known t.number true (ltb 0 (length names)) number-known) (omega arith)
+        told (Arrange names) a r code (named_refusal t names) true (leb (length p.member) (length first)) (length p.member) (tested-known t.refused true (ltb 0 (length names)) number-known) (omega arith)
         (λ z.
-        let ok = tested (none-tested t.number true (ltb 0 (length names)) (verdict-zero (named_number t names) true (leb (length p.member) (length first)) z)).0 in omega (arith, ok.sizes.member_chunk, ok.sizes.member)) h.answered
+        let ok = tested (none-tested t.refused true (ltb 0 (length names)) (verdict-none (named_refusal t names) true (leb (length p.member) (length first)) z)).0 in omega (arith, ok.sizes.member_chunk, ok.sizes.member)) h.answered
     by-promise (Load root plan) h =
-        told-load (Load root plan) a r code t.number (is_analysed p root) (plan_fits (modules p) plan) (leb (modules p) (length first) && leb (modules p) (length second)) (length (step_modules p plan root)) number-known (omega arith)
+        told-load (Load root plan) a r code t.refused (is_analysed p root) (plan_fits (modules p) plan) (leb (modules p) (length first) && leb (modules p) (length second)) (length (step_modules p plan root)) number-known (omega arith)
         (λ z. omega (arith, steps-few p plan root, (tested z).sizes.normal)) h.answered
-    by-promise Refusal h = by_number Refusal (omega arith) true true 0 (λ ok. omega arith) (h ∙ tests-alone t.number)
+    by-promise Test h = by_number Test (omega arith) true true 0 (λ ok. omega arith) (h ∙ tests-alone t.refused)
 
 module _ (runtime dynamic : ℕ) (bounds columns names : List ℕ) where
   abbrev written : Project
   written = table runtime dynamic bounds columns
 
-  pub number-known : Known (lent runtime dynamic bounds columns names).number
-  number-known = tested-known (table_number bounds columns written) (names_sized names) (names_in (modules written) names) (known (bounds_fit bounds columns))
+  pub number-known : Known (lent runtime dynamic bounds columns names).refused
+  number-known = tested-known (table_refusal bounds columns written) (names_sized names) (names_in (modules written) names) (known (bounds_fit bounds columns))
     where
-      known : (b : Bool) → Known (cond b (refusal written) 1)
+      known : (b : Bool) → Known (cond b (refusal written) (Some ListSize))
       known true = refusal-known written
       known false = inl (omega arith)
 
@@ -213,11 +235,11 @@ module _ (runtime dynamic : ℕ) (bounds columns names : List ℕ) where
   abbrev lent_at : Bool → Lent
   lent_at order = cond order (lent_named runtime dynamic bounds columns names) (lent runtime dynamic bounds columns names)
 
-  lent-known : (order : Bool) → Known (lent_at order).number
+  lent-known : (order : Bool) → Known (lent_at order).refused
   lent-known true = number-known
   lent-known false = number-known
 
-  lent-tested : (order : Bool) → (lent_at order).number ≡ 0 → Accepted (lent_at order).project
+  lent-tested : (order : Bool) → (lent_at order).refused ≡ None → Accepted (lent_at order).project
   lent-tested true z = lent-named bounds columns names written z
   lent-tested false z = lent-current bounds columns names written z
 
@@ -247,12 +269,15 @@ limit-below (Page root grounds plan) = omega arith
 limit-below (Arrange names) = omega arith
 limit-below (Load root plan) = omega arith
 limit-below Grounds = omega arith
-limit-below Refusal = omega arith
+limit-below Test = omega arith
+
+some-none : {x : Refusal} → Some x ≡ None → ⊥
+some-none e = cc
 
 pub below-exactly-if-accepted : BelowExactlyIfAccepted
 unfolding AnswersAreToldApart BelowExactlyIfAccepted
 below-exactly-if-accepted call runtime dynamic bounds columns names first second r first' second' e =
     ⊎_elim
-    (λ a. (λ l. ap number_of a.accepted, λ z. omega (arith, a.within, limit-below call)))
-    (λ f. (λ l. absurd (omega (arith, f.code)), λ z. absurd (omega (arith, f.least, ap number_of f.refused))))
+    (λ a. (λ l. ap refused_of a.accepted, λ z. omega (arith, a.within, limit-below call)))
+    (λ f. (λ l. absurd (omega (arith, f.code)), λ z. absurd (some-none (sym (ap refused_of f.refused) ∙ z))))
     (answers-are-told-apart call runtime dynamic bounds columns names first second r first' second' e)

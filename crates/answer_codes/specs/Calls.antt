@@ -1,8 +1,9 @@
 -- What a call on a project that was lent promises.
 -- Assumes nothing.
-use Rattle.std.specs.Prelude.{◌≡◌, Bool, true, false, cond, List, ℕ}
-use Rattle.tables.specs.declared.Answer.{Answer}
-use Rattle.table.specs.Table.{Lent, lent, answer}
+use Rattle.std.specs.Prelude.{◌≡◌, Bool, true, false, cond, List, ℕ, Result}
+use Rattle.tables.specs.declared.Refusal.{Refusal}
+use Rattle.tables.specs.Answers.{answer}
+use Rattle.table.specs.Table.{Lent, lent}
 use Rattle.arrangement.specs.OfProject.{lent_named}
 use Rattle.sort_modules.specs.Promise.{SortModules}
 use Rattle.sort_chunk_modules.specs.Promise.{SortChunkModules}
@@ -41,7 +42,7 @@ pub data Call : Type 0 where
   Page : ℕ → List ℕ → List ℕ → Call
   Arrange : List ℕ → Call
   Load : ℕ → List ℕ → Call
-  Refusal : Call
+  Test : Call
 
 -- whether an operation reads members in their order, as the arrangement has it
 abbrev pub reads_member_order : Call → Bool
@@ -63,7 +64,7 @@ reads_member_order (Line root number) = true
 reads_member_order (Page root grounds plan) = true
 reads_member_order (Arrange names) = false
 reads_member_order (Load root plan) = true
-reads_member_order Refusal = false
+reads_member_order Test = false
 
 -- a table as it was lent to an operation, its members as they are read where it reads their order
 abbrev pub lent_to : Call → ℕ → ℕ → List ℕ → List ℕ → List ℕ → Lent
@@ -71,7 +72,7 @@ lent_to call runtime dynamic bounds columns names =
     cond (reads_member_order call) (lent_named runtime dynamic bounds columns names) (lent runtime dynamic bounds columns names)
 
 -- each operation's own promise, of the outputs that it has
-abbrev pub Promise : Call → Lent → List ℕ → List ℕ → Answer → List ℕ → List ℕ → Type 0
+abbrev pub Promise : Call → Lent → List ℕ → List ℕ → Result ℕ Refusal → List ℕ → List ℕ → Type 0
 Promise Sort t first second r first' second' = SortModules t first second r first' second'
 Promise Circles t first second r first' second' = ImportCircles t first second r first' second'
 Promise (Expected root) t first second r first' second' = ExpectedOrder t root first r first'
@@ -90,4 +91,4 @@ Promise (Line root number) t first second r first' second' = PageLine t root num
 Promise (Page root grounds plan) t first second r first' second' = EntryPage t root grounds plan first r first'
 Promise (Arrange names) t first second r first' second' = SortChunkModules t names first r first'
 Promise (Load root plan) t first second r first' second' = LoadRun t root plan first second r first' second'
-Promise Refusal t first second r first' second' = r ≡ answer t.number 0
+Promise Test t first second r first' second' = r ≡ answer t.refused 0

@@ -1,38 +1,40 @@
 -- How a caller tells what is said of a plan, by the exported function's answer alone.
 -- Each statement is a type; `proofs/CheckToldApart.antt` inhabits it.
 -- Assumes nothing.
-use Rattle.std.specs.Prelude.{◌≡◌, ◌⊎◌, List, ℕ, ◌+◌, ◌*◌, ◌^◌, ◌≤◌, ◌<◌}
+use Rattle.std.specs.Prelude.{◌≡◌, ◌⊎◌, List, ℕ, ◌+◌, ◌*◌, ◌^◌, ◌≤◌, ◌<◌, Result, Ok, Err}
 use Rattle.tables.specs.Refusal.{module_limit}
+use Rattle.tables.specs.Answers.{number}
+use Rattle.tables.specs.declared.Refusal.{Refusal}
 use Rattle.table.specs.Table.{lent}
 use Rattle.plan_conditions.specs.declared.Judgement.{Judgement}
-use Rattle.plan_conditions.specs.declared.Judgement.TheVariants.{Accepted, Broken, Refused}
+use Rattle.plan_conditions.specs.declared.Judgement.TheVariants.{Accepted, Broken}
 use Rattle.plan_check.specs.Promise.{judgement}
 use Rattle.answer_codes.specs.Exported.{coded_judgement}
 
 -- the plan is accepted, and r is 0
-pub record AcceptedCode (j : Judgement) (r : ℕ) : Type 0 where
-  pub accepted : j ≡ Accepted
+pub record AcceptedCode (j : Result Judgement Refusal) (r : ℕ) : Type 0 where
+  pub accepted : j ≡ Ok Accepted
   pub code : r ≡ 0
 
 -- the plan breaks a condition, of 1 to 6, and r is its number times 2 ^ 16 plus the module, below 4,096
-pub record BrokenCode (j : Judgement) (r : ℕ) : Type 0 where
+pub record BrokenCode (j : Result Judgement Refusal) (r : ℕ) : Type 0 where
   pub condition : ℕ
   pub named : ℕ
-  pub broken : j ≡ Broken condition named
+  pub broken : j ≡ Ok (Broken condition named)
   pub code : r ≡ condition * 2 ^ 16 + named
   pub least : 1 ≤ condition
   pub most : condition ≤ 6
   pub inside : named < module_limit
 
 -- the call is refused, and r is 2 ^ 32 plus its number: 1 to 5, 9 or 10
-pub record RefusedCode (j : Judgement) (r : ℕ) : Type 0 where
-  pub number : ℕ
-  pub refused : j ≡ Refused number
-  pub code : r ≡ 2 ^ 32 + number
-  pub least : 1 ≤ number
-  pub known : (number ≤ 5) ⊎ ((number ≡ 9) ⊎ (number ≡ 10))
+pub record RefusedCode (j : Result Judgement Refusal) (r : ℕ) : Type 0 where
+  pub why : Refusal
+  pub refused : j ≡ Err why
+  pub code : r ≡ 2 ^ 32 + number why
+  pub least : 1 ≤ number why
+  pub known : (number why ≤ 5) ⊎ ((number why ≡ 9) ⊎ (number why ≡ 10))
 
-abbrev pub ToldBy : Judgement → ℕ → Type 0
+abbrev pub ToldBy : Result Judgement Refusal → ℕ → Type 0
 ToldBy j r = AcceptedCode j r ⊎ (BrokenCode j r ⊎ RefusedCode j r)
 
 -- every answer of the check is one of the three
@@ -43,4 +45,4 @@ JudgementsAreToldApart =
 
 -- and the answer says which, with its condition and module, or its number: one code is of one judgement
 unfoldable pub OneCodeOneJudgement : Type 0
-OneCodeOneJudgement = (j k : Judgement) (r : ℕ) → ToldBy j r → ToldBy k r → j ≡ k
+OneCodeOneJudgement = (j k : Result Judgement Refusal) (r : ℕ) → ToldBy j r → ToldBy k r → j ≡ k

@@ -4,51 +4,47 @@
 #![tactic(auto)]
 
 ghost use Rattle.std.specs.Prelude.{◌≡◌};
-ghost use Rattle.table.specs.Table.{answer};
-ghost use Rattle.answer_codes.specs.Exported.{coded, coded_judgement, coded_step};
+ghost use Rattle.answer_codes.specs.Exported.{coded, coded_judgement, coded_refusal, coded_step};
 
 use plan_conditions::Judgement;
 use planned_load::LoadStep;
-use tables::Answer;
+use tables::Refusal;
+
+// A refusal as a number.
+fn refusal_code(refusal: Refusal) -> u64
+    ensures { result ≡ coded_refusal refusal }
+{
+    4294967296 + refusal.number() as u64
+}
 
 // An answer as a number.
-pub fn code(answer: Answer) -> u64
+pub fn code(answer: Result<usize, Refusal>) -> u64
     ensures { result ≡ coded answer }
 {
     match answer {
-        Answer::Refused(n) => 4294967296 + n as u64,
-        Answer::Counted(c) => c as u64,
+        Ok(count) => count as u64,
+        Err(refusal) => refusal_code(refusal),
     }
 }
 
 // What is said of a plan, as a number.
-pub fn judgement_code(judgement: Judgement) -> u64
+pub fn judgement_code(judgement: Result<Judgement, Refusal>) -> u64
     ensures { result ≡ coded_judgement judgement }
 {
     match judgement {
-        Judgement::Accepted => 0,
-        Judgement::Broken(condition, module) => condition as u64 * 65536 + module as u64,
-        Judgement::Refused(n) => 4294967296 + n as u64,
+        Ok(Judgement::Accepted) => 0,
+        Ok(Judgement::Broken(condition, module)) => condition as u64 * 65536 + module as u64,
+        Err(refusal) => refusal_code(refusal),
     }
 }
 
 // A step of a tried load as a number.
-pub fn step_code(step: LoadStep) -> u64
+pub fn step_code(step: Result<Option<LoadStep>, Refusal>) -> u64
     ensures { result ≡ coded_step step }
 {
     match step {
-        LoadStep::Step(module, host) => module as u64 * 65536 + host as u64,
-        LoadStep::Done => 2147483648,
-        LoadStep::Refused(n) => 4294967296 + n as u64,
+        Ok(Some(LoadStep { module, host })) => module as u64 * 65536 + host as u64,
+        Ok(None) => 2147483648,
+        Err(refusal) => refusal_code(refusal),
     }
-}
-
-// The answer to the tests alone.
-pub fn tested(number: u32) -> Answer
-    ensures { result ≡ answer number 0 }
-{
-    if number == 0 {
-        return Answer::Counted(0);
-    }
-    Answer::Refused(number)
 }

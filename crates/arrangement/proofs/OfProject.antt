@@ -1,6 +1,6 @@
 -- The arrangement of an accepted project's members.
 -- Assumes nothing.
-use Rattle.std.specs.Prelude.{◌≡◌, ℕ, zero, suc, ◌≤◌, true, cond, ◌||◌, List, [], ◌++◌, length, take, drop, replicate}
+use Rattle.std.specs.Prelude.{◌≡◌, ℕ, zero, suc, ◌≤◌, true, cond, ◌||◌, List, [], ◌++◌, length, take, drop, replicate, None, Ok}
 use mathlib.Core.Path.{refl, sym, ap, ◌∙◌}
 use mathlib.Core.Logic.{⊎_elim}
 use mathlib.Core.List.{append-nil}
@@ -13,14 +13,18 @@ use Rattle.tables.specs.Project.{Project}
 use Rattle.tables.specs.Readings.{modules, chunks, is_analysed}
 use Rattle.tables.specs.Refusal.{row_limit}
 use Rattle.tables.specs.Accepted.{Accepted}
-use Rattle.table.specs.Table.{column_at, read, current, lent_as}
+use Rattle.tables.specs.Answers.{tested}
+use Rattle.table.specs.declared.Table.{Table}
+use Rattle.table.specs.Table.{column_at, table, read, current, lent_as, lent}
+use Rattle.table.specs.Lending.{as_lent, written}
 use Rattle.table.specs.Places.{Places}
 use Rattle.table.proofs.Laws.{read-own, lent_cut, lent-current, lent-names}
+use Rattle.table.proofs.Lending.{current-accepted}
 use Rattle.table.proofs.Reading.{Replacing, accepted-read}
 use Rattle.sort_modules.specs.Sort.{numbers}
 use Rattle.sort_modules.specs.OfProject.{numbers_of}
 use Rattle.names.specs.Names.{names_fit, names_in}
-use Rattle.arrangement.specs.OfProject.{key_in, arranged_of, members_read, named, named_lent, lent_named, lent_named_with}
+use Rattle.arrangement.specs.OfProject.{key_in, arranged_of, members_read, named, named_lent, lent_named, lent_named_with, as_named}
 use Rattle.arrangement.specs.inner.Rows.{Members, Fit}
 use Rattle.arrangement.proofs.Laws.{arranged-size, arranged-below}
 
@@ -115,8 +119,8 @@ pub lent-named-cut : (runtime dynamic : ℕ) (bounds columns names : List ℕ) {
     → lent_named_with runtime dynamic bounds columns names importers kinds targets ≡ lent_named runtime dynamic bounds columns names
 lent-named-cut runtime dynamic bounds columns names e1 e2 e3 = ap (named_lent names) (lent_cut runtime dynamic bounds columns names e1 e2 e3)
 
-module _ (bounds columns names : List ℕ) (p : Project) (accepts : (lent_as bounds columns names p).number ≡ 0) where
-  -- without a number, the project as it is read is accepted, and the names are those of its modules, or none at all
+module _ (bounds columns names : List ℕ) (p : Project) (accepts : (lent_as bounds columns names p).refused ≡ None) where
+  -- where nothing refuses it, the project as it is read is accepted, and the names are those of its modules, or none at all
 
   pub lent-named : Accepted (named (current p) names)
   lent-named = named-accepted (current p) (lent-current bounds columns names p accepts) names
@@ -124,6 +128,24 @@ module _ (bounds columns names : List ℕ) (p : Project) (accepts : (lent_as bou
   pub lent-fit : names_in (modules (current p)) names ≡ true
   unfolding current read
   lent-fit = lent-names bounds columns names p accepts
+
+-- a table that is the one made of these parts is so with its members as they are read
+pub as-named : (t : Table) (runtime dynamic : ℕ) (bounds columns : List ℕ) {names : List ℕ} → as_lent t ≡ lent runtime dynamic bounds columns names → t.names.now ≡ names
+    → as_named t ≡ lent_named runtime dynamic bounds columns names
+as-named t runtime dynamic bounds columns {names = names} e f = ap (λ (l : List ℕ). named_lent l (as_lent t)) f ∙ ap (named_lent names) e
+
+module _ (t : Table) where
+  -- a table with its members as they are read is the current one with them arranged, if it has names
+  pub named-project : (as_named t).project ≡ named (current (written t)) t.names.now
+  named-project = refl
+
+  pub counts-named : {n : ℕ} → n ≡ length (column_at t.bounds.now t.columns.now 0) → n ≡ modules (as_named t).project
+  unfolding table read current named
+  counts-named e = e
+
+  -- and it is accepted where the table passes the tests
+  pub named-passed : Ok tt ≡ tested (as_lent t).refused → Accepted (as_named t).project
+  named-passed passed = named-accepted (current (written t)) (current-accepted t passed) t.names.now
 
 -- a function that makes the members in the front of an array with a place for every row that a list can have, and reads the table with them
 module _ (w : Project) (importers kinds targets dependencies members names : List ℕ) (ok : Accepted (read w importers kinds targets dependencies members)) where

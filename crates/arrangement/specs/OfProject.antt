@@ -4,6 +4,7 @@ use Rattle.std.specs.Prelude.{ℕ, cond, List, length}
 use Rattle.lists.specs.Words.{is_zero}
 use Rattle.tables.specs.Project.{Project}
 use Rattle.tables.specs.Readings.{chunks}
+use Rattle.table.specs.declared.Table.{Table}
 use Rattle.table.specs.Table.{read, Lent, lent, lent_with}
 use Rattle.sort_modules.specs.OfProject.{numbers_of}
 use Rattle.module_keys.specs.Keys.{key_of}
@@ -27,7 +28,7 @@ named p names = read p p.record_module p.record_kind p.record_target p.dependenc
 
 -- what was lent, its members as they are read
 abbrev pub named_lent : List ℕ → Lent → Lent
-named_lent names t = record { number = t.number; project = named t.project names }
+named_lent names t = record { refused = t.refused; project = named t.project names }
 
 -- a table as it was lent, its members as they are read
 abbrev pub lent_named : ℕ → ℕ → List ℕ → List ℕ → List ℕ → Lent
@@ -36,3 +37,7 @@ lent_named runtime dynamic bounds columns names = named_lent names (lent runtime
 -- a table as it was lent, with its import records beside it, its members as they are read
 abbrev pub lent_named_with : ℕ → ℕ → List ℕ → List ℕ → List ℕ → List ℕ → List ℕ → List ℕ → Lent
 lent_named_with runtime dynamic bounds columns names importers kinds targets = named_lent names (lent_with runtime dynamic bounds columns names importers kinds targets)
+
+-- a table as it is lent, its members as they are read
+abbrev pub as_named : Table → Lent
+as_named t = lent_named_with t.runtime t.dynamic t.bounds.now t.columns.now t.names.now t.importers.now t.kinds.now t.targets.now

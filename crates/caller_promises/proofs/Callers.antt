@@ -1,13 +1,13 @@
 -- Demand 3 for callers from C and of the record forms, proved.
 -- Assumes nothing.
+use Rattle.std.specs.Prelude.{None, Result, Ok, Err}
 use mathlib.Core.Path.{◌≡◌, refl, sym, subst}
 use mathlib.Core.List.{List}
 use Prim.Native.Nat.{ℕ, ◌^◌, ◌<◌}
 use native.Mathlib.Omega.{arith}
 use Rattle.tables.specs.Project.{Project}
-use Rattle.tables.specs.Answers.{number_of, count_of}
-use Rattle.tables.specs.declared.Answer.{Answer}
-use Rattle.tables.specs.declared.Answer.TheVariants.{Refused, Counted}
+use Rattle.tables.specs.Answers.{refused_of, count_of}
+use Rattle.tables.specs.declared.Refusal.{Refusal}
 use Rattle.table.specs.Table.{table, with_records, lent}
 use Rattle.table.proofs.Laws.{lent-current}
 use Rattle.arrangement.specs.OfProject.{lent_named}
@@ -19,13 +19,13 @@ use Rattle.caller_promises.specs.Ways.{from_c, lent_records, lent_named_records,
 use Rattle.caller_promises.specs.DemandThree.{DemandThreeFromC, DemandThreeOfRecordForms}
 use Rattle.caller_promises.proofs.Held.{demand-three, plan-held, whole-held}
 
--- an answer whose code is below 2 ^ 32 has no number, and the code is its count
-below : (a : Answer) → coded a < 2 ^ 32 → (number_of a ≡ 0) × (coded a ≡ count_of a)
-below (Refused n) l = absurd (omega arith)
-below (Counted c) l = (refl, refl)
+-- an answer whose code is below 2 ^ 32 is no refusal, and the code is its count
+below : (a : Result ℕ Refusal) → coded a < 2 ^ 32 → (refused_of a ≡ None) × (coded a ≡ count_of a)
+below (Err e) l = absurd (omega arith)
+below (Ok c) l = (refl, refl)
 
-module _ (r : ℕ) (a : Answer) (code : r ≡ coded a) (l : r < 2 ^ 32) where
-  taken : (number_of a ≡ 0) × (r ≡ count_of a)
+module _ (r : ℕ) (a : Result ℕ Refusal) (code : r ≡ coded a) (l : r < 2 ^ 32) where
+  taken : (refused_of a ≡ None) × (r ≡ count_of a)
   taken = let b = below a (subst (λ (n : ℕ). n < 2 ^ 32) code l) in (b.0, subst (λ (n : ℕ). n ≡ count_of a) (sym code) b.1)
 
 pub demand_three_from_c : DemandThreeFromC

@@ -1,9 +1,10 @@
 -- Demand 3 for any way of calling whose accepted calls keep the operations' promises.
 -- Assumes nothing.
+use Rattle.std.specs.Prelude.{Option, None, Some, Result}
 use mathlib.Core.Path.{◌≡◌, refl, sym, ap, subst, ◌∙◌}
 use mathlib.Core.Bool.{Bool, true}
 use mathlib.Core.List.{List, ◌++◌}
-use Prim.Native.Nat.{ℕ, zero, suc}
+use Prim.Native.Nat.{ℕ}
 use lib.ListN.{length, take, drop}
 use lib.Seq.{take_at, drop_at}
 use lib.Dec.{leb}
@@ -11,9 +12,9 @@ use Rattle.lists.specs.Words.{has, ones}
 use Rattle.tables.specs.Project.{Project}
 use Rattle.tables.specs.Readings.{modules}
 use Rattle.tables.specs.Accepted.{Accepted}
-use Rattle.tables.specs.Answers.{number_of, count_of, verdict}
-use Rattle.tables.specs.declared.Answer.{Answer}
-use Rattle.table.specs.Table.{Lent, answer}
+use Rattle.tables.specs.Answers.{answer, refused_of, count_of, verdict}
+use Rattle.tables.specs.declared.Refusal.{Refusal}
+use Rattle.table.specs.Table.{Lent}
 use Rattle.seeds.specs.Seeds.{seeds_fit}
 use Rattle.wrap_rules.specs.Plan.{expected_sensitive_of}
 use Rattle.at_risk.specs.Promise.{actual_sensitive_of}
@@ -72,17 +73,17 @@ module _ (w : Way) (plans : (seeds : List ℕ) (c : w.PlanCall seeds) → Held (
         subst (λ (s : List ℕ). SameOrder s (expected_sensitive_of p root) (actual_sensitive_of p root)) (sym (marks-are (wholes c))) (whole_plan_keeps_the_order p root a e f);
   }
 
--- an accepted call's number is 0, and so is that of its tests
+-- nothing refuses an accepted call, nor its project
 
-number-zero : (v count : ℕ) (r : Answer) → r ≡ answer v count → number_of r ≡ 0 → v ≡ 0
-number-zero zero count r e z = refl
-number-zero (suc v) count r e z = ap number_of (sym e) ∙ z
+none-refused : (v : Option Refusal) (count : ℕ) (r : Result ℕ Refusal) → r ≡ answer v count → refused_of r ≡ None → v ≡ None
+none-refused None count r e z = refl
+none-refused (Some x) count r e z = ap refused_of (sym e) ∙ z
 
-verdict-zero : (n : ℕ) (fits room : Bool) → verdict n fits room ≡ 0 → n ≡ 0
-verdict-zero zero fits room e = refl
-verdict-zero (suc n) fits room e = e
+none-tested : (v : Option Refusal) (fits room : Bool) → verdict v fits room ≡ None → v ≡ None
+none-tested None fits room e = refl
+none-tested (Some x) fits room e = e
 
-module _ (t : Lent) (tests : t.number ≡ 0 → Accepted t.project) (slice left : List ℕ) (r : Answer) (ok : number_of r ≡ 0) (count : ℕ) (counts : count ≡ count_of r) where
+module _ (t : Lent) (tests : t.refused ≡ None → Accepted t.project) (slice left : List ℕ) (r : Result ℕ Refusal) (ok : refused_of r ≡ None) (count : ℕ) (counts : count ≡ count_of r) where
   abbrev made : Left
   made = record { project = t.project; slice = slice; left = left; count = count }
 
@@ -90,9 +91,9 @@ module _ (t : Lent) (tests : t.number ≡ 0 → Accepted t.project) (slice left 
   unfolding PlanIsLeast PlanCallLeavesThePlan
   plan-held seeds h =
       let q = plan_call_leaves_the_plan t seeds slice left r h ok in
-      let v : ℕ = plan_verdict t seeds (length slice) in
+      let v : Option Refusal = plan_verdict t seeds (length slice) in
       record {
-        tested = tests (verdict-zero t.number (seeds_fit (modules t.project) seeds) (leb (modules t.project) (length slice)) (number-zero v (ones (plan_of t.project seeds)) r h.answered ok));
+        tested = tests (none-tested t.refused (seeds_fit (modules t.project) seeds) (leb (modules t.project) (length slice)) (none-refused v (ones (plan_of t.project seeds)) r h.answered ok));
         size = (plan_is_least t.project seeds).holds.marks;
         written = q.written;
         count = counts ∙ q.count;
@@ -102,9 +103,9 @@ module _ (t : Lent) (tests : t.number ≡ 0 → Accepted t.project) (slice left 
   unfolding WholePlanIsLeast WholeCallLeavesThePlan
   whole-held h =
       let q = whole_call_leaves_the_plan t slice left r h ok in
-      let v : ℕ = whole_verdict t (length slice) in
+      let v : Option Refusal = whole_verdict t (length slice) in
       record {
-        tested = tests (verdict-zero t.number true (leb (modules t.project) (length slice)) (number-zero v (ones (whole_plan t.project)) r h.answered ok));
+        tested = tests (none-tested t.refused true (leb (modules t.project) (length slice)) (none-refused v (ones (whole_plan t.project)) r h.answered ok));
         size = (whole_plan_is_least t.project).holds.marks;
         written = q.written;
         count = counts ∙ q.count;

@@ -1,11 +1,11 @@
 -- The calls of specs/Witnesses.
 -- Assumes nothing.
+use Rattle.std.specs.Prelude.{Ok}
 use mathlib.Core.Path.{refl}
 use mathlib.Core.List.{List, [], ◌∷◌, ◌++◌}
 use Prim.Native.Nat.{ℕ}
 use native.Mathlib.Omega.{arith}
 use Rattle.tables.specs.Project.{missing}
-use Rattle.tables.specs.declared.Answer.TheVariants.{Counted}
 use Rattle.table.specs.Table.{part, column_at, table, read, bounds_fit}
 use Rattle.names.specs.Names.{lines_of, ended, names_fit, names_in, line_ends, names_sized}
 use Rattle.marked_cases.proofs.Computing.{computing}
@@ -36,7 +36,7 @@ plans_from_c = record {
     slice = slice;
     answer = 3;
     left = left;
-    promise = record { answer = Counted 3; code = refl; promised = record { answered = refl; written = refl } };
+    promise = record { answer = Ok 3; code = refl; promised = record { answered = refl; written = refl } };
     accepted = omega arith;
   };
   marks = refl;
@@ -54,7 +54,7 @@ plans_with_records = record {
     names = [];
     records = record { importer = 1; kind = 0; target = 2 } ∷ record { importer = 1; kind = 0; target = 3 } ∷ [];
     slice = slice;
-    answer = Counted 3;
+    answer = Ok 3;
     left = left;
     promise = record { answered = refl; written = refl };
     accepted = refl;

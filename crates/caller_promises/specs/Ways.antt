@@ -1,11 +1,11 @@
 -- The two ways of calling, beside the operations themselves: from C, and with the import records lent as a slice of records. An accepted call of each is what
 -- the called function promises, with an answer that isn't a refusal. The whole analysis reads the members of a project with names as they are arranged.
 -- Assumes nothing.
-use Rattle.std.specs.Prelude.{◌≡◌, List, [], ℕ, ◌^◌, ◌<◌, take}
+use Rattle.std.specs.Prelude.{◌≡◌, List, [], ℕ, ◌^◌, ◌<◌, take, None, Result}
 use Rattle.tables.specs.Project.{Project}
 use Rattle.tables.specs.Readings.{modules}
-use Rattle.tables.specs.Answers.{number_of, count_of}
-use Rattle.tables.specs.declared.Answer.{Answer}
+use Rattle.tables.specs.Answers.{refused_of, count_of}
+use Rattle.tables.specs.declared.Refusal.{Refusal}
 use Rattle.table.specs.Table.{Lent, lent, lent_with}
 use Rattle.arrangement.specs.OfProject.{named_lent, lent_named}
 use Rattle.wrap_plan.specs.Promise.{PlanFromSeeds}
@@ -71,11 +71,11 @@ from_c = record {
   of_whole = λ c. record { project = (lent_named c.runtime c.dynamic c.bounds c.columns c.names).project; slice = c.slice; left = c.left; count = c.answer };
 }
 
--- with records: `plan_records` and `analyze_records` with an answer that has no number
+-- with records: `plan_from_seeds` and `analyze_execution_order` on a table `with_records`, with an answer that is no refusal
 
--- an answer without a number
-abbrev pub is_counted : Answer → Type 0
-is_counted answer = number_of answer ≡ 0
+-- an answer that is no refusal
+abbrev pub is_counted : Result ℕ Refusal → Type 0
+is_counted answer = refused_of answer ≡ None
 
 -- a table as it was lent, with a slice of records
 abbrev pub lent_records : ℕ → ℕ → List ℕ → List ℕ → List ℕ → List Record → Lent
@@ -93,7 +93,7 @@ pub record RecordPlanCall (seeds : List ℕ) : Type 0 where
   pub names : List ℕ
   pub records : List Record
   pub slice : List ℕ
-  pub answer : Answer
+  pub answer : Result ℕ Refusal
   pub left : List ℕ
   pub promise : PlanFromSeeds (lent_records runtime dynamic bounds columns names records) seeds slice answer left
   pub accepted : is_counted answer
@@ -106,7 +106,7 @@ pub record RecordWholeCall : Type 0 where
   pub names : List ℕ
   pub records : List Record
   pub slice : List ℕ
-  pub answer : Answer
+  pub answer : Result ℕ Refusal
   pub left : List ℕ
   pub promise : WholeAnalysis (lent_named_records runtime dynamic bounds columns names records) slice answer left
   pub accepted : is_counted answer

@@ -1,29 +1,26 @@
--- A chunk's visit with the counters lent: what it asks and says, and what is known between the visits of the chunks that it loads.
+-- A chunk's visit with the counters lent: what is known between the visits of the chunks that it loads.
 -- Assumes nothing.
-use Rattle.std.specs.Prelude.{◌≡◌, ℕ, ◌+◌, ◌-◌, ◌<◌, ◌≤◌, Bool, true, false, cond, List, [], ◌∷◌, length, get_or, take, drop}
+use Rattle.std.specs.Prelude.{◌≡◌, ℕ, suc, ◌+◌, ◌-◌, ◌<◌, ◌≤◌, List, [], ◌∷◌, length, get_or, take, drop}
 use mathlib.Core.Path.{refl, sym, ap, subst, ◌∙◌}
-use mathlib.Core.List.{foldl}
+use mathlib.Core.List.{foldl, flat_map}
 use native.Mathlib.Omega.{arith}
-use lib.ListN.{length-drop}
+use native.Mathlib.Nat.{le_antisymm}
+use lib.ListN.{length-set, length-drop}
 use lib.Seq.{get_or-take, get_or-drop, length-take-le}
-use Rattle.lists.specs.Words.{zeros, keep}
+use Rattle.lists.specs.Words.{zeros, keep, count_from}
 use Rattle.walk.specs.Walk.{St, everywhere, Visits}
-use Rattle.walk.proofs.Going.{visited-keeps}
+use Rattle.walk.proofs.Visits.{Grown, set-zeros}
+use Rattle.walk.proofs.Going.{Going, going_start, going-none, going-found, going_end, met-visited, left-visited, visited-grown, visited-keeps}
+use Rattle.tables.specs.Project.{missing}
 use Rattle.tables.specs.Accepted.{Below, BelowOrMissing}
 use Rattle.visit_steps.specs.declared.inner.ActualOrderTraversal.{ActualOrderTraversal}
-use Rattle.visit_steps.specs.declared.inner.Pending.{Pending}
-use Rattle.visit_steps.specs.inner.Steps.{Spans, named, leads, part, Filling, in_way, pending, Next, Entered}
-use Rattle.visit_steps.proofs.Leading.{leads-inside}
+use Rattle.visit_steps.specs.inner.Steps.{Spans, named, leads, part, Filling, in_way, Passed, Entered}
+use Rattle.visit_steps.proofs.Leading.{named_some, named_none, leads-part, part-named}
 use Rattle.module_visits.specs.inner.Visits.{Ready, executing, hosted}
 use Rattle.chunk_visits.specs.inner.Visits.{ran_members, Visitable, Ran}
 use Rattle.module_visits.proofs.Hosting.{Kept, kept-all, kept_then, turns-kept}
-use Rattle.module_visits.proofs.Lending.{Lent, Lending, lent-turn, lending, lent-start, lent-marks, lent-keeps, lent-within, lent-falls, lent-leads, lent-next, lent-nearer, lent-end}
 use Rattle.module_visits.proofs.ModuleVisits.{ready-still}
 use Rattle.module_visits.proofs.MemberVisits as R
-
--- the modules' marks, the order and the hosts, with a count
-abbrev made : List ℕ × List ℕ × List ℕ → ℕ → St Filling
-made x n = executing x.0 x.1 x.2 n
 
 -- a part of a column keeps the column's bound
 part-below : (n start end : ℕ) (column : List ℕ) → start ≤ end → end ≤ length column → Below n column → Below n (take (end - start) (drop start column))
@@ -31,10 +28,12 @@ part-below n start end column o w b i l =
     let size : length (take (end - start) (drop start column)) ≡ end - start = length-take-le (end - start) (drop start column) (omega (arith, length-drop start column)) in
     rw (get_or-take (end - start) (drop start column) i 0 (omega (arith, size)), get_or-drop) (b (start + i) (omega (arith, size)))
 
-module _ (ways starts triggers member member_starts load_starts loads : List ℕ) where
-  abbrev act : St Filling → ℕ → St Filling
-  act = ran_members ways starts triggers member member_starts
+-- between two rows of a chunk that was entered: the visits so far lead from the marked chunk's state to the slices and the counters
+pub record Between (ways starts triggers member member_starts load_starts loads : List ℕ) (c : ℕ) (marked marks order hosts : List ℕ) (h : ActualOrderTraversal) (rows : List ℕ) (i : ℕ) (t : ActualOrderTraversal) (cs ms os hs : List ℕ) : Type 0 where
+  pub equal : t.next ≡ t.placed
+  pub going : Going (leads load_starts loads) everywhere (ran_members ways starts triggers member member_starts) (named rows) 0 (record { marks = marked; made = executing marks order hosts h.placed }) i (record { marks = cs; made = executing ms os hs t.placed })
 
+module _ (ways starts triggers member member_starts load_starts loads : List ℕ) where
   -- what the functions ask and say
   abbrev pub Needs : List ℕ → List ℕ → List ℕ → List ℕ → ℕ → ActualOrderTraversal → Type 0
   Needs cmarks marks order hosts c h = Visitable ways starts triggers member member_starts load_starts loads cmarks marks order hosts c h
@@ -43,26 +42,25 @@ module _ (ways starts triggers member member_starts load_starts loads : List ℕ
   Says cmarks marks order hosts c h cmarks' marks' order' hosts' r =
       Visits (leads load_starts loads) everywhere (ran_members ways starts triggers member member_starts) (record { marks = cmarks; made = executing marks order hosts h.placed }) (c ∷ []) (record { marks = cmarks'; made = executing marks' order' hosts' r.placed }) × (r.next ≡ r.placed)
 
-  abbrev pub Proceeds : List ℕ → Pending → Type 0
-  Proceeds cmarks p = (p.end ≤ length loads) × BelowOrMissing (length cmarks) loads
-
   -- executing members keeps the slices' lengths and the room
-  act-kept : (s a : St Filling) (c : ℕ) → Kept s a → Kept s (act a c)
+  act-kept : (s a : St Filling) (c : ℕ) → Kept s a → Kept s (ran_members ways starts triggers member member_starts a c)
   unfolding ran_members
   act-kept s a c k = kept_then k (turns-kept (leads starts triggers) a (keep (in_way 1 ways) (part member_starts member c)))
 
-  -- what a loop over what is pending keeps
-  abbrev pub Going : List ℕ → List ℕ → List ℕ → ℕ → ActualOrderTraversal → List ℕ → Pending → Pending → ActualOrderTraversal → List ℕ → List ℕ → List ℕ → List ℕ → Type 0
-  Going marks order hosts c h marked first p t ms ks os hs = Lending load_starts loads act made (marks, order, hosts) h c marked first p t ms (ks, os, hs)
+  -- a chunk that was met is passed
+  pub passed : {cmarks marks order hosts marked : List ℕ} {c : ℕ} {h : ActualOrderTraversal} → Needs cmarks marks order hosts c h → Passed cmarks c marked → Says cmarks marks order hosts c h marked marks order hosts h
+  passed {cmarks} {marks} {order} {hosts} {marked} {c} {h} within p = (
+    subst (λ (l : List ℕ). Visits (leads load_starts loads) everywhere (ran_members ways starts triggers member member_starts) (record { marks = cmarks; made = executing marks order hosts h.placed }) (c ∷ []) (record { marks = l; made = executing marks order hosts h.placed })) (sym p.same)
+        (met-visited (leads load_starts loads) everywhere (ran_members ways starts triggers member member_starts) (record { marks = cmarks; made = executing marks order hosts h.placed }) c p.met),
+    within.ready.room.equal,
+  )
 
   module _ (cmarks marks order hosts : List ℕ) (c : ℕ) (h : ActualOrderTraversal) (within : Needs cmarks marks order hosts c h) where
-    abbrev from : St Filling
-    from = executing marks order hosts h.placed
-
     -- what a visit leaves keeps them too, so that modules can execute after it
     pub last_fits : (last : List ℕ) → Below (length marks) last → (cs ks os hs : List ℕ) (r : ActualOrderTraversal) → Says cmarks marks order hosts c h cs ks os hs r → R.Needs ways starts triggers last 2 ks os hs r
     last_fits last inside cs ks os hs r d =
-        let k : Kept from (executing ks os hs r.placed) = visited-keeps (leads load_starts loads) everywhere act (Kept from) (act-kept from) d.0 (kept-all from) in (
+        let from = executing marks order hosts h.placed in
+        let k : Kept from (executing ks os hs r.placed) = visited-keeps (leads load_starts loads) everywhere (ran_members ways starts triggers member member_starts) (Kept from) (act-kept from) d.0 (kept-all from) in (
           ready-still within.ready ks os hs r k.marks k.order k.hosts d.1 k.room,
           within.each ∙ sym k.marks,
           subst (λ (n : ℕ). Below n last) (sym k.marks) inside,
@@ -73,93 +71,93 @@ module _ (ways starts triggers member member_starts load_starts loads : List ℕ
         → Ran ways starts triggers member member_starts load_starts loads c last cmarks (executing marks order hosts h.placed) cs (executing ks' os' hs' r'.placed)
     ran last cs ks os hs r d ks' os' hs' r' e = record { visited = executing ks os hs r.placed; visits = d.0; finally = e.0 }
 
-    module _ (marked : List ℕ) (first : Pending) (e : Entered load_starts loads cmarks c marked first) where
-      abbrev pub Turn : Type 0
-      Turn = Lent load_starts loads act made cmarks (marks, order, hosts) h c marked first e
+module _ {ways starts triggers member member_starts load_starts loads cmarks marks order hosts : List ℕ} {c : ℕ} {h : ActualOrderTraversal}
+    (within : Needs ways starts triggers member member_starts load_starts loads cmarks marks order hosts c h) {marked rows : List ℕ} (e : Entered load_starts loads cmarks c marked rows) where
+  pub between_start : Between ways starts triggers member member_starts load_starts loads c marked marks order hosts h rows 0 h marked marks order hosts
+  between_start = record { equal = within.ready.room.equal; going = going_start (leads load_starts loads) everywhere (ran_members ways starts triggers member member_starts) (named rows) 0 _ }
 
-      abbrev pub turn : (p : Pending) (t : ActualOrderTraversal) (ms ks os hs : List ℕ) → Going marks order hosts c h marked first p t ms ks os hs → Turn
-      turn p t ms ks os hs g = lent-turn load_starts loads act made cmarks (marks, order, hosts) h c marked first e p t ms (ks, os, hs) g
+  module _ {i : ℕ} {t : ActualOrderTraversal} {cs ms os hs : List ℕ} (b : Between ways starts triggers member member_starts load_starts loads c marked marks order hosts h rows i t cs ms os hs) where
+    one_less : suc (zeros marked) ≡ zeros cmarks
+    one_less = ap (λ (l : List ℕ). suc (zeros l)) e.marked ∙ set-zeros cmarks c e.fresh
 
-      abbrev pub going : (u : Turn) → Going marks order hosts c h marked first u.p u.t u.ms u.xs.0 u.xs.1 u.xs.2
-      going u = lending load_starts loads act made cmarks (marks, order, hosts) h c marked first e u
+    grown : Grown marked cs
+    grown = visited-grown (leads load_starts loads) everywhere (ran_members ways starts triggers member member_starts) b.going.so_far
 
-      abbrev pub start : Turn
-      start = lent-start load_starts loads act made cmarks (marks, order, hosts) h c marked first e within.ready.room.equal
+    same-chunks : length cs ≡ length cmarks
+    same-chunks = grown.len ∙ ap length e.marked ∙ length-set cmarks c 1
 
-      module _ (t : Turn) where
-        abbrev now-at : St Filling
-        now-at = made t.xs t.t.placed
+    kept : Kept (executing marks order hosts h.placed) (executing ms os hs t.placed)
+    kept =
+        visited-keeps (leads load_starts loads) everywhere (ran_members ways starts triggers member member_starts) (Kept (executing marks order hosts h.placed))
+        (act-kept ways starts triggers member member_starts load_starts loads (executing marks order hosts h.placed)) b.going.so_far (kept-all (executing marks order hosts h.placed))
 
-        kept : Kept from now-at
-        kept = lent-keeps load_starts loads act made cmarks (marks, order, hosts) h c marked first e t (Kept from) (act-kept from) (kept-all from)
+    pub falls : zeros cs < zeros cmarks
+    falls = let g = grown in omega (arith, g.fewer, one_less)
 
-        pub same-chunks : length t.ms ≡ length cmarks
-        same-chunks = lent-marks load_starts loads act made cmarks (marks, order, hosts) h c marked first e t
+    ordered : get_or load_starts c 0 ≤ get_or load_starts (c + 1) 0
+    ordered = within.spans.rising c within.chunk
 
-        pub same-marks : length t.xs.0 ≡ length marks
-        same-marks = kept.marks
+    ended-by : get_or load_starts (c + 1) 0 ≤ length loads
+    ended-by = within.spans.within c within.chunk
 
-        pub same-order : length t.xs.1 ≡ length order
-        same-order = kept.order
+    still-ready : Ready starts triggers ms os hs t
+    still-ready = ready-still within.ready ms os hs t kept.marks kept.order kept.hosts b.equal kept.room
 
-        pub same-hosts : length t.xs.2 ≡ length hosts
-        same-hosts = kept.hosts
+    -- a chunk that is loaded can be visited
+    pub call_fits : i < length rows → (get_or rows i 0 ≡ missing → ⊥) → Needs ways starts triggers member member_starts load_starts loads cs ms os hs (get_or rows i 0) t
+    call_fits l o = record {
+      ready = still-ready;
+      each = within.each ∙ sym kept.marks;
+      members = subst (λ (n : ℕ). Below n member) (sym kept.marks) within.members;
+      parts = subst (Spans member_starts (length member)) (sym same-chunks) within.parts;
+      spans = subst (Spans load_starts (length loads)) (sym same-chunks) within.spans;
+      inside = subst (λ (n : ℕ). BelowOrMissing n loads) (sym same-chunks) within.inside;
+      chunk =
+          let p : get_or (part load_starts loads c) i 0 < length cmarks =
+          part-named load_starts loads c ordered ended-by (length cmarks) i within.inside (rw e.followed at l) (λ q. o (ap (λ (r : List ℕ). get_or r i 0) e.followed ∙ q)) in
+          omega (arith, p, ap (λ (r : List ℕ). get_or r i 0) e.followed, same-chunks);
+    }
 
-        still-ready : Ready starts triggers t.xs.0 t.xs.1 t.xs.2 t.t
-        still-ready = ready-still within.ready t.xs.0 t.xs.1 t.xs.2 t.t same-marks same-order same-hosts t.equal kept.room
+    pub between_none : get_or rows i 0 ≡ missing → Between ways starts triggers member member_starts load_starts loads c marked marks order hosts h rows (i + 1) t cs ms os hs
+    between_none o = record { equal = b.equal; going = going-none (leads load_starts loads) everywhere (ran_members ways starts triggers member member_starts) (named rows) 0 _ b.going (named_none rows i o) }
 
-        pub next_fits : (ms : List ℕ) → length ms ≡ length cmarks → Proceeds ms t.p
-        next_fits ms l = (lent-within load_starts loads act made cmarks (marks, order, hosts) h c marked first e t, subst (λ (n : ℕ). BelowOrMissing n loads) (sym l) within.inside)
+    pub between_more : (get_or rows i 0 ≡ missing → ⊥) → {u : ActualOrderTraversal} {cs' ms' os' hs' : List ℕ} → Says ways starts triggers member member_starts load_starts loads cs ms os hs (get_or rows i 0) t cs' ms' os' hs' u
+        → Between ways starts triggers member member_starts load_starts loads c marked marks order hosts h rows (i + 1) u cs' ms' os' hs'
+    between_more o {u} {cs'} {ms'} {os'} {hs'} d = record {
+      equal = d.1;
+      going = going-found (leads load_starts loads) everywhere (ran_members ways starts triggers member member_starts) (named rows) 0 _ b.going {u = record { marks = cs'; made = executing ms' os' hs' u.placed }} (named_some rows i o) d.0;
+    }
 
-        module _ (more : t.p.more ≡ true) where
-          pub falls : zeros t.ms < zeros cmarks
-          falls = lent-falls load_starts loads act made cmarks (marks, order, hosts) h c marked first e t more
+    -- past the last row, the chunk's own members can execute
+    pub own-fits : Spans member_starts (length member) (c + 1)
+    own-fits =
+        let s = within.parts in
+        let l = within.chunk in
+        record { room = omega (arith, s.room, l); rising = λ m k. s.rising m (omega (arith, l)); within = λ m k. s.within m (omega (arith, l)) }
 
-          pub call_fits : Needs t.ms t.xs.0 t.xs.1 t.xs.2 t.p.place t.t
-          call_fits = record {
-            ready = still-ready;
-            each = within.each ∙ sym same-marks;
-            members = subst (λ (n : ℕ). Below n member) (sym same-marks) within.members;
-            parts = subst (Spans member_starts (length member)) (sym same-chunks) within.parts;
-            spans = subst (Spans load_starts (length loads)) (sym same-chunks) within.spans;
-            inside = subst (λ (n : ℕ). BelowOrMissing n loads) (sym same-chunks) within.inside;
-            chunk = subst (λ (n : ℕ). t.p.place < n) (sym same-chunks) (leads-inside load_starts loads c (length cmarks) t.p.place (within.spans.within c within.chunk) within.inside (lent-leads load_starts loads act made cmarks (marks, order, hosts) h c marked first e t more));
-          }
+    pub run_fits : {own : List ℕ} → own ≡ part member_starts member c → R.Needs ways starts triggers own 1 ms os hs t
+    run_fits {own} o = (
+      still-ready,
+      within.each ∙ sym kept.marks,
+      subst (λ (n : ℕ). Below n own) (sym kept.marks)
+          (subst (Below (length marks)) (sym o)
+          (part-below (length marks) (get_or member_starts c 0) (get_or member_starts (c + 1) 0) member (within.parts.rising c within.chunk) (within.parts.within c within.chunk) within.members)),
+    )
 
-          abbrev pub next-turn : (r : Pending) (u : ActualOrderTraversal) (ms ks os hs : List ℕ) → Next loads ms t.p r → Says t.ms t.xs.0 t.xs.1 t.xs.2 t.p.place t.t ms ks os hs u → Turn
-          next-turn r u ms ks os hs n d = lent-next load_starts loads act made cmarks (marks, order, hosts) h c marked first e t more r u ms (ks, os, hs) n d.1 d.0
-
-          pub nearer : (r : Pending) (ms : List ℕ) → Next loads ms t.p r → length (pending (named loads) r) < length (pending (named loads) t.p)
-          nearer r ms n = lent-nearer load_starts loads act made cmarks (marks, order, hosts) h c marked first e t more r ms n
-
-        -- the members that are executed last
-        abbrev pub Own : List ℕ → Type 0
-        Own own = own ≡ cond t.p.entered (part member_starts member c) []
-
-        pub own-fits : Spans member_starts (length member) (c + 1)
-        own-fits =
-            let s = within.parts in
-            let l = within.chunk in
-            record { room = omega (arith, s.room, l); rising = λ m k. s.rising m (omega (arith, l)); within = λ m k. s.within m (omega (arith, l)) }
-
-        own-inside : (b : Bool) → Below (length marks) (cond b (part member_starts member c) [])
-        own-inside true = part-below (length marks) (get_or member_starts c 0) (get_or member_starts (c + 1) 0) member (within.parts.rising c within.chunk) (within.parts.within c within.chunk) within.members
-        own-inside false = λ i l. absurd (omega arith)
-
-        pub run_fits : (own : List ℕ) → Own own → R.Needs ways starts triggers own 1 t.xs.0 t.xs.1 t.xs.2 t.t
-        run_fits own o = (
-          still-ready,
-          within.each ∙ sym same-marks,
-          subst (λ (n : ℕ). Below n own) (sym same-marks) (subst (Below (length marks)) (sym o) (own-inside t.p.entered)),
+    -- and the chunk is visited once they have
+    pub ended : length rows ≤ i → i ≤ length rows → {own : List ℕ} → own ≡ part member_starts member c → {r : ActualOrderTraversal} {ks' os' hs' : List ℕ}
+        → R.Says ways starts triggers own 1 ms os hs t ks' os' hs' r → Says ways starts triggers member member_starts load_starts loads cmarks marks order hosts c h cs ks' os' hs' r
+    unfolding ran_members
+    ended past upto {own} o {r} {ks'} {os'} {hs'} d =
+        let act : St Filling → ℕ → St Filling = ran_members ways starts triggers member member_starts in
+        let all : leads load_starts loads c ≡ flat_map (named rows) (count_from 0 (length rows - 0)) =
+        leads-part load_starts loads c ordered ended-by ∙ ap (λ (l : List ℕ). flat_map (named l) (count_from 0 (length l - 0))) (sym e.followed) in
+        let v : Visits (leads load_starts loads) everywhere act (record { marks = marked; made = executing marks order hosts h.placed }) (leads load_starts loads c) (record { marks = cs; made = executing ms os hs t.placed }) =
+        going_end (leads load_starts loads) everywhere act (named rows) 0 _ b.going {end = length rows} (le_antisymm upto past) all in
+        let executed : act (executing ms os hs t.placed) c ≡ executing ks' os' hs' r.placed =
+        ap (λ (l : List ℕ). foldl (hosted (leads starts triggers)) (executing ms os hs t.placed) (keep (in_way 1 ways) l)) (sym o) ∙ d.0 in (
+          subst (λ (s : St Filling). Visits (leads load_starts loads) everywhere act (record { marks = cmarks; made = executing marks order hosts h.placed }) (c ∷ []) (record { marks = cs; made = s })) executed
+              (left-visited (leads load_starts loads) everywhere act (record { marks = cmarks; made = executing marks order hosts h.placed }) (record { marks = cs; made = executing ms os hs t.placed }) c refl e.fresh
+              (subst (λ (k : List ℕ). Visits (leads load_starts loads) everywhere act (record { marks = k; made = executing marks order hosts h.placed }) (leads load_starts loads c) (record { marks = cs; made = executing ms os hs t.placed })) e.marked v)),
+          d.1,
         )
-
-        acted : (b : Bool) (s : St Filling) → foldl (hosted (leads starts triggers)) s (keep (in_way 1 ways) (cond b (part member_starts member c) [])) ≡ cond b (act s c) s
-        unfolding ran_members
-        acted true s = refl
-        acted false s = refl
-
-        pub ended : (own : List ℕ) → Own own → (r : ActualOrderTraversal) (ks os hs : List ℕ) → t.p.more ≡ false → R.Says ways starts triggers own 1 t.xs.0 t.xs.1 t.xs.2 t.t ks os hs r → Says cmarks marks order hosts c h t.ms ks os hs r
-        ended own o r ks os hs none d =
-            let executed : cond t.p.entered (act now-at c) now-at ≡ executing ks os hs r.placed =
-            sym (acted t.p.entered now-at) ∙ ap (λ (l : List ℕ). foldl (hosted (leads starts triggers)) now-at (keep (in_way 1 ways) l)) (sym o) ∙ d.0 in
-            (subst (λ (s : St Filling). Visits (leads load_starts loads) everywhere act (record { marks = cmarks; made = executing marks order hosts h.placed }) (c ∷ []) (record { marks = t.ms; made = s })) executed (lent-end load_starts loads act made cmarks (marks, order, hosts) h c marked first e t none), d.1)

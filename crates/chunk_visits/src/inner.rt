@@ -8,7 +8,8 @@ ghost use Rattle.module_visits.specs.inner.Visits.{executing};
 ghost use Rattle.chunk_visits.specs.inner.Visits.{ran_members, Visitable, Ran};
 
 use module_visits::inner::execute_members;
-use visit_steps::inner::{ActualOrderTraversal, enter, members, next};
+use tables::ModuleIdx;
+use visit_steps::inner::{ActualOrderTraversal, enter, part};
 
 // Visits a chunk: marks it, visits the chunks that it loads, and then executes its members with wrap 0. The counters go on into their executions.
 fn visit_actual_chunk<'a>(
@@ -29,8 +30,13 @@ fn visit_actual_chunk<'a>(
     requires { Visitable ways.now starts.now triggers.now member.now member_starts.now load_starts.now loads.now chunk_marks.old marks.old order.old hosts.old c traversal.old }
     ensures { Visits (leads load_starts.now loads.now) everywhere (ran_members ways.now starts.now triggers.now member.now member_starts.now) (record { marks = chunk_marks.old; made = executing marks.old order.old hosts.old traversal.old.placed }) (c ∷ []) (record { marks = chunk_marks.new; made = executing marks.new order.new hosts.new traversal.new.placed }) × (traversal.new.next ≡ traversal.new.placed) }
 {
-    let mut visit = enter(load_starts, loads, chunk_marks, c);
-    while visit.more {
+    let Some(rows) = enter(load_starts, loads, chunk_marks, c) else {
+        return;
+    };
+    for &load in rows {
+        if load == ModuleIdx::MISSING {
+            continue;
+        }
         visit_actual_chunk(
             ways,
             starts,
@@ -43,12 +49,11 @@ fn visit_actual_chunk<'a>(
             marks,
             order,
             hosts,
-            visit.place,
+            load,
             traversal,
         );
-        visit = next(loads, chunk_marks, visit);
     }
-    let own = members(member, member_starts, c, visit.entered);
+    let own = part(member, member_starts, c);
     execute_members(
         ways, starts, triggers, own, marks, order, hosts, 1, traversal,
     );

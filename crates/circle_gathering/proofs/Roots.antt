@@ -1,32 +1,14 @@
 -- Meeting the roots in turn: there is room at each of them.
 -- Assumes nothing.
-use Rattle.std.specs.Prelude.{◌≡◌, ℕ, zero, suc, ◌-◌, ◌*◌, ◌<◌, ◌≤◌, List, [], ◌∷◌, length, get_or}
-use mathlib.Core.Path.{refl, sym, ap, ◌∙◌}
-use mathlib.Core.List.{flat_map}
+use Rattle.std.specs.Prelude.{◌≡◌, ℕ, ◌*◌, ◌≤◌, List, length}
+use mathlib.Core.Path.{sym, ◌∙◌}
 use native.Mathlib.Omega.{arith}
-use Rattle.lists.specs.Words.{count_from}
 use Rattle.walk.proofs.Visits.{zeros-le}
-use Rattle.tables.specs.Accepted.{Below}
 use Rattle.tables.specs.Refusal.{row_limit}
 use Rattle.circle_search.specs.inner.Search.{Held, Searches}
 use Rattle.circle_search.proofs.Searches.{met-kept, met-keeps, met-room}
 use Rattle.circle_visit.specs.Visit.{Listed, write, led_by, held, Leads, Room}
 use Rattle.circle_visit.proofs.Turns.{targets-few}
-
--- a root a row
-pub ones-length : (g : ℕ → ℕ) (i n : ℕ) → length (flat_map (λ (row : ℕ). g row ∷ []) (count_from i n)) ≡ n
-unfolding flat_map
-ones-length g i zero = refl
-ones-length g i (suc n) = ap suc (ones-length g (suc i) n)
-
--- the roots but the first
-pub root-later : (runtime : ℕ) (entry : List ℕ) (at : ℕ) → (at ≡ 0 → ⊥) → get_or entry (at - 1) 0 ≡ get_or (runtime ∷ entry) at 0
-root-later runtime entry zero n = absurd (n refl)
-root-later runtime entry (suc at) n = let e : suc at - 1 ≡ at = omega arith in ap (λ (k : ℕ). get_or entry k 0) e
-
-pub root_below : (n runtime : ℕ) (entry : List ℕ) → runtime < n → Below n entry → (at : ℕ) → at ≤ length entry → get_or (runtime ∷ entry) at 0 < n
-root_below n runtime entry r b zero l = r
-root_below n runtime entry r b (suc at) l = b at (omega arith)
 
 module _ {starts led : List ℕ} (states : List ℕ) (leads : Leads starts led (length states)) (stack paths lengths : List ℕ) (same : length stack ≡ length states) where
   abbrev start : Held Listed

@@ -1,7 +1,7 @@
 -- What is left of the circles in the slices.
 -- Assumes nothing.
-use Rattle.std.specs.Prelude.{◌≡◌, ℕ, suc, ◌+◌, ◌<◌, ◌≤◌, Bool, cond, ◌&&◌, leb, List, [], ◌∷◌, ◌++◌, length, drop, set}
-use mathlib.Core.Path.{sym, ap, ◌∙◌}
+use Rattle.std.specs.Prelude.{◌≡◌, ℕ, suc, ◌+◌, ◌<◌, ◌≤◌, Bool, cond, ◌&&◌, leb, List, [], ◌∷◌, ◌++◌, length, drop, set, None, Some, Ok, Err}
+use mathlib.Core.Path.{refl, sym, ap, ◌∙◌}
 use mathlib.Core.List.{foldl}
 use native.Mathlib.Nat.{add-zero, zero-add}
 use native.Mathlib.Numerals.{add-one}
@@ -11,11 +11,10 @@ use lib.Seq.{sets}
 use borrow.Author.Tests.{le-leb, lt-leb}
 use Rattle.lists.proofs.Laws.{and-join, and-out}
 use Rattle.lists.proofs.Fronts.{sets-front}
-use Rattle.tables.specs.Answers.{after}
-use Rattle.tables.specs.declared.Answer.TheVariants.{Refused, Counted}
-use Rattle.table.specs.Table.{answer}
+use Rattle.tables.specs.declared.Refusal.TheVariants.{ShortForCircles}
+use Rattle.tables.proofs.Answering.{answer-refused, answer-accepted, after-refused, after-accepted}
 use Rattle.circle_visit.specs.Visit.{Listed, listed, write}
-use Rattle.circle_gathering.specs.Gathering.{joined, lengths_of, room_number, Gathered}
+use Rattle.circle_gathering.specs.Gathering.{joined, lengths_of, room_refusal, Gathered}
 
 sets-append : (l : List ℕ) (i : ℕ) (xs ys : List ℕ) → sets l i (xs ++ ys) ≡ sets (sets l i xs) (i + length xs) ys
 sets-append l i [] ys = ap (λ (k : ℕ). sets l k ys) (sym (add-zero i))
@@ -46,8 +45,8 @@ module _ (circles : List (List ℕ)) (paths lengths : List ℕ) {paths' lengths'
   pub counted-all : count ≡ length circles
   counted-all = ap (λ (a : Listed). a.count) whole ∙ zero-add (length circles)
 
-  pub used_all : used ≡ length (joined circles)
-  used_all = ap (λ (a : Listed). a.used) whole ∙ zero-add (length (joined circles))
+  pub used-all : used ≡ length (joined circles)
+  used-all = ap (λ (a : Listed). a.used) whole ∙ zero-add (length (joined circles))
 
   pub paths-all : length (joined circles) ≤ length paths → paths' ≡ joined circles ++ drop (length (joined circles)) paths
   paths-all h = ap (λ (a : Listed). a.paths) whole ∙ sets-front paths (joined circles) h
@@ -57,38 +56,33 @@ module _ (circles : List (List ℕ)) (paths lengths : List ℕ) {paths' lengths'
 
 -- the three answers
 module _ (circles : List (List ℕ)) (paths lengths : List ℕ) where
-  short : room_number circles (length paths) (length lengths) ≡ 8 → Gathered circles paths lengths (Refused 8) paths lengths
-  short e = rw-all (sym e)
-    where
-      rw-all : 8 ≡ room_number circles (length paths) (length lengths) → Gathered circles paths lengths (Refused 8) paths lengths
-      rw-all q = record {
-        answered = ap (λ (v : ℕ). answer v (length circles)) q;
-        listed = ap (λ (v : ℕ). after v paths (joined circles)) q;
-        measured = ap (λ (v : ℕ). after v lengths (lengths_of circles)) q;
-      }
+  short : room_refusal circles (length paths) (length lengths) ≡ Some ShortForCircles → Gathered circles paths lengths (Err ShortForCircles) paths lengths
+  short e = record { answered = answer-refused (length circles) e; listed = after-refused paths (joined circles) e; measured = after-refused lengths (lengths_of circles) e }
 
-  pub paths-short : length paths < length (joined circles) → Gathered circles paths lengths (Refused 8) paths lengths
-  paths-short h = short (ap (λ (b : Bool). cond (b && leb (length circles) (length lengths)) 0 8) (lt-leb (length (joined circles)) (length paths) h))
+  pub paths-short : length paths < length (joined circles) → Gathered circles paths lengths (Err ShortForCircles) paths lengths
+  paths-short h = short (ap (λ (b : Bool). cond (b && leb (length circles) (length lengths)) None (Some ShortForCircles)) (lt-leb (length (joined circles)) (length paths) h))
 
-  pub lengths_short : length lengths < length circles → Gathered circles paths lengths (Refused 8) paths lengths
-  lengths_short h = short (ap (λ (b : Bool). cond b 0 8) (and-out (leb (length (joined circles)) (length paths)) (leb (length circles) (length lengths)) (lt-leb (length circles) (length lengths) h)))
+  pub lengths-short : length lengths < length circles → Gathered circles paths lengths (Err ShortForCircles) paths lengths
+  lengths-short h =
+      short
+      (ap (λ (b : Bool). cond b None (Some ShortForCircles)) (and-out (leb (length (joined circles)) (length paths)) (leb (length circles) (length lengths)) (lt-leb (length circles) (length lengths) h)))
 
-  -- there is none
-  pub none-there : length circles ≡ 0 → Gathered circles paths lengths (Counted 0) paths lengths
-  none-there e = go circles e
-    where
-      go : (l : List (List ℕ)) → length l ≡ 0 → Gathered l paths lengths (Counted 0) paths lengths
-      go [] z =
-          let q : 0 ≡ room_number [] (length paths) (length lengths) = sym (ap (λ (x : Bool). cond x 0 8) (and-join (leb 0 (length paths)) (leb 0 (length lengths)) (le-leb 0 (length paths) (omega arith)) (le-leb 0 (length lengths) (omega arith)))) in
-          record { answered = ap (λ (v : ℕ). answer v 0) q; listed = ap (λ (v : ℕ). after v paths []) q; measured = ap (λ (v : ℕ). after v lengths []) q }
-      go (x ∷ l) z = absurd (omega arith)
+  room : length (joined circles) ≤ length paths → length circles ≤ length lengths → room_refusal circles (length paths) (length lengths) ≡ None
+  room a b =
+      ap (λ (x : Bool). cond x None (Some ShortForCircles))
+      (and-join (leb (length (joined circles)) (length paths)) (leb (length circles) (length lengths)) (le-leb (length (joined circles)) (length paths) a) (le-leb (length circles) (length lengths) b))
 
   pub both-fit : {paths' lengths' : List ℕ} {count used r : ℕ} → length (joined circles) ≤ length paths → length circles ≤ length lengths → r ≡ length circles
-      → listed paths' lengths' count used ≡ foldl write (listed paths lengths 0 0) circles → Gathered circles paths lengths (Counted r) paths' lengths'
-  both-fit {r = r} a b c e =
-      let q : 0 ≡ room_number circles (length paths) (length lengths) = sym (ap (λ (x : Bool). cond x 0 8) (and-join (leb (length (joined circles)) (length paths)) (leb (length circles) (length lengths)) (le-leb (length (joined circles)) (length paths) a) (le-leb (length circles) (length lengths) b))) in
+      → listed paths' lengths' count used ≡ foldl write (listed paths lengths 0 0) circles → Gathered circles paths lengths (Ok r) paths' lengths'
+  both-fit a b c e =
+      let z = room a b in
       record {
-        answered = ap Counted c ∙ ap (λ (v : ℕ). answer v (length circles)) q;
-        listed = paths-all circles paths lengths e a ∙ ap (λ (v : ℕ). after v paths (joined circles)) q;
-        measured = lengths-all circles paths lengths e b ∙ ap (λ (v : ℕ). after v lengths (lengths_of circles)) q;
+        answered = answer-accepted z c;
+        listed = after-accepted paths (joined circles) z (paths-all circles paths lengths e a);
+        measured = after-accepted lengths (lengths_of circles) z (lengths-all circles paths lengths e b);
       }
+
+-- there is none
+pub none-there : (circles : List (List ℕ)) (paths lengths : List ℕ) → length circles ≡ 0 → Gathered circles paths lengths (Ok 0) paths lengths
+none-there [] paths lengths z = both-fit [] paths lengths {count = 0} {used = 0} (omega arith) (omega arith) refl refl
+none-there (x ∷ l) paths lengths z = absurd (omega arith)

@@ -13,19 +13,8 @@ ghost use Rattle.circle_gathering.specs.inner.Searching.{Searched};
 use circle_rows::inner::lead_rows;
 use circle_visit::inner::{Found, meet};
 use table::{MODULE_LIMIT, ROW_LIMIT};
-use tables::Answer;
+use tables::Refusal;
 use tables::inner::first_rows;
-
-// The roots in order: the runtime, and then the entries in row order.
-fn root_at(entry: &[u32], runtime: u32, at: usize) -> u32
-    requires { at ≤ length entry.now }
-    ensures { result ≡ slice_index (runtime ∷ entry.now) at }
-{
-    if at == 0 {
-        return runtime;
-    }
-    entry[at - 1]
-}
 
 // Meets the runtime and then the entries in row order.
 fn meet_roots<'a>(
@@ -43,10 +32,10 @@ fn meet_roots<'a>(
     requires room { length stack.old ≡ length states.old }
     ensures { Searches (led_by starts.now led.now) write (held states.old stack.old 0 paths.old lengths.old 0 0) (runtime ∷ entry.now) (held states.new stack.new 0 paths.new lengths.new result.count result.used) }
 {
-    let mut found = Found { count: 0, used: 0 };
-    for row in 0..entry.len() + 1 {
-        let root = root_at(entry, runtime, row);
-        found = meet(starts, led, states, stack, paths, lengths, root, 0, found);
+    let none = Found { count: 0, used: 0 };
+    let mut found = meet(starts, led, states, stack, paths, lengths, runtime, 0, none);
+    for root in entry {
+        found = meet(starts, led, states, stack, paths, lengths, *root, 0, found);
     }
     found
 }
@@ -87,7 +76,7 @@ fn write_circles<'a>(
     lengths: &mut [u32],
     runtime: u32,
     n: usize,
-) -> Answer
+) -> Result<usize, Refusal>
     requires { Searched starts.now led.now entry.now runtime n }
     ensures { Gathered (circles (led_by starts.now led.now) n (runtime ∷ entry.now)) paths.old lengths.old result paths.new lengths.new }
 {
@@ -105,16 +94,13 @@ fn write_circles<'a>(
     let count = found.count;
     let used = found.used;
     if count == 0 {
-        return Answer::Counted(0);
+        return Ok(0);
     }
-    if paths.len() < used {
-        return Answer::Refused(8);
-    }
-    if lengths.len() < count {
-        return Answer::Refused(8);
+    if paths.len() < used || lengths.len() < count {
+        return Err(Refusal::ShortForCircles);
     }
     search_circles(starts, led, entry, paths, lengths, runtime, n);
-    Answer::Counted(count)
+    Ok(count)
 }
 
 // The circles of the sort's walk: the paths one after the other, and their lengths.
@@ -128,7 +114,7 @@ pub fn gather_circles<'a>(
     lengths: &mut [u32],
     runtime: u32,
     dynamic: u32,
-) -> Answer
+) -> Result<usize, Refusal>
     requires fit { Fit normal.now record_module.now record_kind.now record_target.now (length normal.now) }
     requires importers { Below (length normal.now) record_module.now }
     requires roots { (runtime < length normal.now) × Below (length normal.now) entry.now × (length entry.now ≤ 16384) }

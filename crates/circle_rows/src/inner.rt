@@ -5,7 +5,6 @@ ghost use Rattle.tables.specs.Accepted.{Below};
 ghost use Rattle.sort_visit.specs.Visit.{Fit};
 ghost use Rattle.circle_rows.specs.Rows.{Led, LedOnce};
 
-use lists::inner::fill;
 use sort_steps::inner::led;
 use tables::ModuleIdx;
 
@@ -26,10 +25,9 @@ fn lead_once<'a>(
     requires row { row < length record_module.now }
     ensures { Led (row_targets (is_static dynamic) any_target normal.now record_kind.now record_target.now row) (slice_index record_module.now row) seen.old result seen.new }
 {
-    let t = led(normal, record_kind, record_target, dynamic, row);
-    if t == ModuleIdx::MISSING {
-        return t;
-    }
+    let Some(t) = led(normal, record_kind, record_target, dynamic, row) else {
+        return ModuleIdx::MISSING;
+    };
     let by = record_module[row] + 1;
     let at = t as usize;
     if seen[at] == by {
@@ -54,9 +52,9 @@ pub fn lead_rows<'a>(
     requires places { length leads.old ≡ length record_module.now }
     ensures { LedOnce record_module.now (targets_of (is_static dynamic) any_target normal.now record_module.now record_kind.now record_target.now) (length seen.old) leads.new }
 {
-    fill(seen, 0);
-    for row in 0..record_module.len() {
-        leads[row] = lead_once(
+    seen.fill(0);
+    for (row, lead) in leads.iter_mut().enumerate() {
+        *lead = lead_once(
             normal,
             record_module,
             record_kind,

@@ -7,14 +7,12 @@ ghost use Rattle.circle_search.specs.Circles.{from};
 pub fn place_of(begun: &[u32], m: u32) -> usize
     ensures { (result ≤ length begun.now) × (drop result begun.now ≡ from m begun.now) }
 {
-    let mut i = 0;
-    while i < begun.len() {
-        if begun[i] == m {
+    for (i, b) in begun.iter().enumerate() {
+        if *b == m {
             return i;
         }
-        i += 1;
     }
-    i
+    begun.len()
 }
 
 // Writes a value, if there is a place for it.
@@ -31,9 +29,7 @@ pub fn put_all(source: &[u32], slots: &mut [u32], at: usize)
     requires { at + length source.now ≤ 9223372036854775807 }
     ensures { slots.new ≡ sets slots.old at source.now }
 {
-    let mut i = 0;
-    while i < source.len() {
-        put_at(slots, at + i, source[i]);
-        i += 1;
+    for (i, value) in source.iter().enumerate() {
+        put_at(slots, at + i, *value);
     }
 }

@@ -1,13 +1,14 @@
 -- A loop that joins the tests of all rows: what is joined and what is left are all.
 -- Assumes nothing.
-use Rattle.std.specs.Prelude.{◌≡◌, ℕ, ◌+◌, ◌-◌, ◌<◌, ◌≤◌, Bool, true, false, cond, ◌&&◌, List, [], ◌∷◌, length, get_or, drop}
+use Rattle.std.specs.Prelude.{◌≡◌, ℕ, ◌+◌, ◌-◌, ◌<◌, ◌≤◌, Bool, true, false, cond, not, ◌&&◌, ◌||◌, eqb, List, [], ◌∷◌, length, get_or, drop}
 use mathlib.Core.Path.{refl, sym, ◌∙◌}
 use native.Mathlib.Numerals.{add-one}
 use native.Mathlib.Omega.{arith}
-use lib.ListN.{drop_of_length-le}
+use lib.ListN.{drop_of_length-le, get_or-eq_default}
 use lib.Seq.{drop-cons}
 use Rattle.lists.specs.Words.{every, count_from, up_to}
-use Rattle.lists.proofs.Laws.{mem-every, mem-count_from, count-step, count-end}
+use Rattle.tables.specs.Project.{missing}
+use Rattle.lists.proofs.Laws.{or_right, mem-every, mem-count_from, count-step, count-end}
 use Rattle.lists.proofs.Tests.{and-true}
 
 pub drop-next : (xs : List ℕ) (i : ℕ) → i < length xs → drop i xs ≡ get_or xs i 0 ∷ drop (i + 1) xs
@@ -50,5 +51,24 @@ module _ (f : ℕ → Bool) (n : ℕ) where
     counts-joined l = joined-all f all ok h (count-end i n l)
 
     -- all that is left passes
-    pub counts-passed : ((k : ℕ) → i ≤ k → f k ≡ true) → ok ≡ all
-    counts-passed p = sym (and-true ok) ∙ (rw (mem-every f (count_from i (n - i)) (λ k m. p k (mem-count_from i (n - i) m).0)) at h)
+    pub counts-passed : ((k : ℕ) → i ≤ k → k < n → f k ≡ true) → ok ≡ all
+    counts-passed p =
+        sym (and-true ok)
+        ∙ (rw (mem-every f (count_from i (n - i)) (λ k m. let r = mem-count_from i (n - i) m in p k r.0 (omega arith))) at h)
+
+-- a use names a record of its statement's module
+abbrev pub own : List ℕ → List ℕ → List ℕ → List ℕ → ℕ → Bool
+own statement_module record_module use_statement use_record row =
+    eqb (get_or statement_module (get_or use_statement row 0) 0) (get_or record_module (get_or use_record row 0) 0)
+
+-- a reference of form 0 or 1 has a symbol
+abbrev pub plain : List ℕ → List ℕ → ℕ → Bool
+plain reference_form reference_symbol row = eqb (get_or reference_form row 0) 2 || not (eqb (get_or reference_symbol row 0) missing)
+
+-- and so has a row past the symbols
+pub plain_past : (reference_form reference_symbol : List ℕ) (row : ℕ) → length reference_symbol ≤ row → plain reference_form reference_symbol row ≡ true
+plain_past reference_form reference_symbol row h = or_right (eqb (get_or reference_form row 0) 2) (not (eqb (get_or reference_symbol row 0) missing)) (rw (get_or-eq_default reference_symbol 0 h))
+
+pub ruleset rows = (row-joined, rows-joined)
+
+pub ruleset counted = (counts_start, count-joined, counts-joined)

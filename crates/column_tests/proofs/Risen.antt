@@ -31,3 +31,5 @@ module _ (xs : List ℕ) (all ok : Bool) (i : ℕ) (some : 1 ≤ i) (h : (ok && 
   -- at most one row is left
   pub rises-joined : length xs ≤ i → ok ≡ all
   rises-joined l = sym (and-true ok) ∙ (rw (rises-few (drop (i - 1) xs) (rw length-drop (omega arith))) at h)
+
+pub ruleset risen = (rise-joined, rises-joined)

@@ -2,7 +2,6 @@
 // rows at a time.
 ghost use Rattle.std.specs.Prelude.{◌≡◌, ℕ, length, nat_eq, slice_index};
 ghost use Rattle.lists.specs.Words.{every};
-ghost use Rattle.column_tests.specs.Shorter.{Shorter};
 ghost use Rattle.tables.specs.Accepted.{Below};
 ghost use Rattle.tables.specs.Lookups.{Rising};
 ghost use Rattle.tables.specs.Refusal.{module_limit, chunk_limit, below, below_or_missing, rises, uses_own, plain_symbols, entries_once, imports_once, newer_fits};
@@ -14,35 +13,29 @@ use tables::ModuleIdx;
 pub fn value_at(column: &[u32], row: usize) -> u32
     ensures { result ≡ slice_index column.now row }
 {
-    if row < column.len() {
-        return column[row];
-    }
-    0
+    column.get(row).copied().unwrap_or(0)
 }
 
 // Whether every value is below a bound.
+#[tactic(auto, using(crate::proofs::Every::rows), unfolding(tables::specs::Refusal::below))]
 fn under(column: &[u32], bound: u32) -> bool
     ensures { result ≡ below bound column.now }
 {
     let mut fit = true;
-    let mut i = 0;
-    while i < column.len() {
-        fit = fit & (column[i] < bound);
-        i += 1;
+    for x in column {
+        fit = fit & (*x < bound);
     }
     fit
 }
 
 // Whether every value is below a bound or the missing mark.
+#[tactic(auto, using(crate::proofs::Every::rows), unfolding(tables::specs::Refusal::below_or_missing))]
 fn under_or_missing(column: &[u32], bound: u32) -> bool
     ensures { result ≡ below_or_missing bound column.now }
 {
     let mut fit = true;
-    let mut i = 0;
-    while i < column.len() {
-        let x = column[i];
-        fit = fit & ((x < bound) | (x == ModuleIdx::MISSING));
-        i += 1;
+    for x in column {
+        fit = fit & ((*x < bound) | (*x == ModuleIdx::MISSING));
     }
     fit
 }
@@ -51,49 +44,48 @@ fn under_or_missing(column: &[u32], bound: u32) -> bool
 pub fn all_below(column: &[u32], n: usize) -> bool
     ensures { result ≡ below n column.now }
 {
-    if (ModuleIdx::MISSING as usize) < n {
+    let Ok(bound) = u32::try_from(n) else {
         return true;
-    }
-    under(column, n as u32)
+    };
+    under(column, bound)
 }
 
 // Whether every value is below n or the missing mark.
 pub fn all_below_or_missing(column: &[u32], n: usize) -> bool
     ensures { result ≡ below_or_missing n column.now }
 {
-    if (ModuleIdx::MISSING as usize) < n {
+    let Ok(bound) = u32::try_from(n) else {
         return true;
-    }
-    under_or_missing(column, n as u32)
+    };
+    under_or_missing(column, bound)
 }
 
 // Whether no row is below the row above.
+#[tactic(auto, using(crate::proofs::Risen::risen))]
 pub fn is_rising(column: &[u32]) -> bool
     ensures { result ≡ rises column.now }
 {
     let mut rising = true;
-    let mut i = 1;
-    while i < column.len() {
+    for i in 1..column.len() {
         rising = rising & (column[i - 1] <= column[i]);
-        i += 1;
     }
     rising
 }
 
 // Whether this value stands at every place that a column names.
+#[tactic(auto, using(crate::proofs::Every::rows))]
 pub fn all_at<'a>(values: &'a [u32], column: &'a [u32], value: u32) -> bool
     ensures { result ≡ every (λ (x : ℕ). nat_eq (slice_index values.now x) value) column.now }
 {
     let mut fit = true;
-    let mut i = 0;
-    while i < column.len() {
-        fit = fit & (value_at(values, column[i] as usize) == value);
-        i += 1;
+    for x in column {
+        fit = fit & (value_at(values, *x as usize) == value);
     }
     fit
 }
 
 // Whether every use names a record of its statement's module.
+#[tactic(auto, using(crate::proofs::Every::counted), unfolding(tables::specs::Refusal::uses_own))]
 pub fn uses_own<'a>(
     statement_module: &'a [u32],
     record_module: &'a [u32],
@@ -103,51 +95,36 @@ pub fn uses_own<'a>(
     ensures { result ≡ uses_own statement_module.now record_module.now use_statement.now use_record.now }
 {
     let mut fit = true;
-    let mut i = 0;
-    while i < use_statement.len() {
-        let statement = use_statement[i] as usize;
+    for (i, statement) in use_statement.iter().enumerate() {
         let used = value_at(use_record, i) as usize;
-        fit = fit & (value_at(statement_module, statement) == value_at(record_module, used));
-        i += 1;
+        fit = fit
+            & (value_at(statement_module, *statement as usize) == value_at(record_module, used));
     }
     fit
 }
 
-// How many rows two columns both have.
-fn rows_of_both<'a>(first: &'a [u32], second: &'a [u32]) -> usize
-    ensures { Shorter (length first.now) (length second.now) result }
-{
-    if first.len() < second.len() {
-        return first.len();
-    }
-    second.len()
-}
-
 // Whether every reference of form 0 or 1 has a symbol.
+#[tactic(auto, using(crate::proofs::Every::counted), unfolding(tables::specs::Refusal::plain_symbols))]
 pub fn plain_symbols<'a>(reference_form: &'a [u32], reference_symbol: &'a [u32]) -> bool
     ensures { result ≡ plain_symbols reference_form.now reference_symbol.now }
 {
-    let rows = rows_of_both(reference_form, reference_symbol);
+    let rows = reference_form.len().min(reference_symbol.len());
     let mut fit = true;
-    let mut i = 0;
-    while i < rows {
+    for i in 0..rows {
         fit = fit & ((reference_form[i] == 2) | (reference_symbol[i] != ModuleIdx::MISSING));
-        i += 1;
     }
     fit
 }
 
 // Whether every `newer` is the missing mark or the number of a later row.
+#[tactic(auto, using(crate::proofs::Every::counted), unfolding(tables::specs::Refusal::newer_fits))]
 pub fn newer_fits(newer: &[u32]) -> bool
     ensures { result ≡ newer_fits newer.now }
 {
     let mut fit = true;
-    let mut i = 0;
-    while i < newer.len() {
-        let next = newer[i];
-        let at = next as usize;
-        fit = fit & ((next == ModuleIdx::MISSING) | ((i < at) & (at < newer.len())));
-        i += 1;
+    for (i, next) in newer.iter().enumerate() {
+        let at = *next as usize;
+        fit = fit & ((*next == ModuleIdx::MISSING) | ((i < at) & (at < newer.len())));
     }
     fit
 }
@@ -158,14 +135,12 @@ pub fn entries_once(entry: &[u32]) -> bool
     ensures { result ≡ entries_once entry.now }
 {
     let mut marks = [0u32; MODULE_LIMIT];
-    let mut i = 0;
-    while i < entry.len() {
-        let at = entry[i] as usize;
+    for module in entry {
+        let at = *module as usize;
         if marks[at] != 0 {
             return false;
         }
         marks[at] = 1;
-        i += 1;
     }
     true
 }
@@ -179,15 +154,13 @@ pub fn imports_once<'a>(import_chunk: &'a [u32], imports: &'a [u32]) -> bool
     ensures { result ≡ imports_once import_chunk.now imports.now }
 {
     let mut stamps = [0u32; CHUNK_LIMIT];
-    let mut i = 0;
-    while i < import_chunk.len() {
+    for i in 0..import_chunk.len() {
         let stamp = import_chunk[i] + 1;
         let to = imports[i] as usize;
         if stamps[to] == stamp {
             return false;
         }
         stamps[to] = stamp;
-        i += 1;
     }
     true
 }

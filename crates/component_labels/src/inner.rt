@@ -7,7 +7,6 @@ ghost use Rattle.strong_connection.specs.Cycles.{labels as labelsOver};
 ghost use Rattle.strong_connection.specs.inner.Graph.{Graph, Threaded};
 ghost use Rattle.component_labels.specs.inner.Labelling.{Numbered, in_both, relabelled, component_labelled, labelled, ChunksLabelled};
 
-use lists::inner::fill;
 use strong_connection::inner::{leads, reach};
 use table::{CHUNK_LIMIT, ROW_LIMIT};
 use tables::ModuleIdx;
@@ -131,7 +130,7 @@ fn label_rows(
     ensures { labels.new ≡ labelsOver (length labels.old) (values_of from.now to.now) }
 {
     let n = labels.len();
-    fill(labels, ModuleIdx::MISSING);
+    labels.fill(ModuleIdx::MISSING);
     let mut numbers = [0u32; CHUNK_LIMIT];
     number_all(from, to, heads, nexts, &mut numbers[..n]);
     for row in 0..from.len() {
@@ -151,11 +150,10 @@ pub fn count_labelled(labels: &[u32]) -> usize
     ensures { result ≡ length (keep labelled labels.now) }
 {
     let mut count = 0;
-    for c in 0..labels.len() {
-        if labels[c] == ModuleIdx::MISSING {
-            continue;
+    for label in labels {
+        if *label != ModuleIdx::MISSING {
+            count += 1;
         }
-        count += 1;
     }
     count
 }

@@ -17,8 +17,8 @@ fn mark_labels(chunk: &[u32], labels: &[u32], plan: &[u32], hits: &mut [u32])
     requires { length plan.now ≡ length chunk.now }
     ensures { Owners (looked missing labels.now chunk.now) plan.now (length chunk.now) hits.old hits.new }
 {
-    for m in 0..chunk.len() {
-        let label = value_at(labels, chunk[m], ModuleIdx::MISSING);
+    for (m, &at) in chunk.iter().enumerate() {
+        let label = value_at(labels, at, ModuleIdx::MISSING);
         if hits.len() <= label as usize {
             continue;
         }

@@ -1,6 +1,7 @@
 -- Outside the premises the two part: for each premise a project of two modules that passes the tests, what evaluation executes from module 0
 -- where every record target is requested, and the expected order of module 0.
 -- Assumes nothing.
+use Rattle.std.specs.Prelude.{None}
 use mathlib.Core.Path.{◌≡◌, refl}
 use mathlib.Core.List.{List, [], ◌∷◌, flat_map}
 use Prim.Native.Nat.{ℕ}
@@ -61,7 +62,7 @@ Row = Project × List ℕ × List ℕ
 -- the project is accepted, and gives the two lists
 abbrev Gives : Row → Type 0
 Gives (p, executed, expected) =
-    (refusal p ≡ 0)
+    (refusal p ≡ None)
     × ((evaluate_from p 2 0).executed ≡ executed)
     × (keep (flagged p.included) (post_order (targets_of is_import normal_target p.normal p.record_module p.record_kind p.record_target) everywhere (modules p) (0 ∷ [])) ≡ expected)
 

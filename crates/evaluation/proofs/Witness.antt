@@ -1,6 +1,8 @@
 -- A project that passes the tests and meets the premises: a cycle of three modules and a request repeated, beside modules that are not
 -- reached and break every premise. What module evaluation executes there is computed.
 -- Assumes nothing.
+use Rattle.std.specs.Prelude.{Option, None}
+use Rattle.tables.specs.declared.Refusal.{Refusal}
 use mathlib.Core.Path.{◌≡◌, refl, sym, subst, ◌∙◌}
 use mathlib.Core.Bool.{Bool, true, not, ◌&&◌, true≢false}
 use mathlib.Core.List.{List, [], ◌∷◌, zip, Memᴰ}
@@ -94,12 +96,12 @@ ring = record {
   seed = [];
 }
 
--- the number of a project's tests, with all that they are made of open
-unfoldable pub tested : Project → ℕ
+-- what refuses a project, with all that it is made of open
+unfoldable pub tested : Project → Option Refusal
 unfolding refusal sized sizes_fit values_fit rows_rise rows_agree below below_or_missing rises all_normal uses_own depended_resolved plain_symbols entries_once imports_once newer_fits zip
 tested p = refusal p
 
-pub ring-passes : refusal ring ≡ 0
+pub ring-passes : refusal ring ≡ None
 unfolding tested
 ring-passes = refl
 

@@ -1,103 +1,49 @@
 // Expected order of an entry.
 #![tactic(auto)]
 
-ghost use Rattle.table.specs.Table.{lent, lent_with};
+ghost use Rattle.table.specs.Lending.{as_lent};
 ghost use Rattle.expected_order.specs.Promise.{ExpectedOrder};
 
 use current_columns::inner::read_current;
 use inner::list_expected;
-use refusal::refusal_number;
-use table::{
-    DEPENDENCY, MEMBER, MODULE_LIMIT, NORMAL, RECORD_KIND, RECORD_MODULE, RECORD_TARGET, ROW_LIMIT,
-    column, rows,
-};
-use tables::Answer;
+use refusal::test;
+use table::{DEPENDENCY, MEMBER, MODULE_LIMIT, NORMAL, ROW_LIMIT, Table};
+use tables::Refusal;
 
 pub mod inner;
 
-// The expected order of a module row, written from place 0, of a table whose import records are lent beside it.
-pub fn expected_order_with_records<'a>(
-    runtime: u32,
-    dynamic: u32,
-    bounds: &'a [u32],
-    columns: &'a [u32],
-    names: &'a [u8],
-    importers: &'a [u32],
-    kinds: &'a [u32],
-    targets: &'a [u32],
-    root: u32,
-    expected: &mut [u32],
-) -> Answer
-    ensures { ExpectedOrder (lent_with runtime dynamic bounds.now columns.now names.now importers.now kinds.now targets.now) root expected.old result expected.new }
+// The expected order of a module row, written from place 0. The count is that of the listed modules.
+#[tactic(auto, unfolding(table::specs::Table::table, table::specs::Table::read, table::specs::Table::current))]
+pub fn expected_order(table: &Table, root: u32, expected: &mut [u32]) -> Result<usize, Refusal>
+    ensures { ExpectedOrder (as_lent table.now) root expected.old result expected.new }
 {
-    let refused = refusal_number(
-        runtime, dynamic, bounds, columns, names, importers, kinds, targets,
-    );
-    if refused != 0 {
-        return Answer::Refused(refused);
-    }
-    let modules = rows(bounds, columns, NORMAL);
+    test(table)?;
+    let modules = table.rows(NORMAL);
     if modules <= (root as usize) {
-        return Answer::Refused(5);
+        return Err(Refusal::Argument);
     }
     if expected.len() < modules {
-        return Answer::Refused(6);
+        return Err(Refusal::ShortSlice);
     }
     let mut read_targets = [0u32; ROW_LIMIT];
     let mut read_dependencies = [0u32; ROW_LIMIT];
-    read_current(
-        runtime,
-        dynamic,
-        bounds,
-        columns,
-        importers,
-        kinds,
-        targets,
-        &mut read_targets,
-        &mut read_dependencies,
-    );
-    let records = targets.len();
-    let dependency_rows = rows(bounds, columns, DEPENDENCY);
+    read_current(table, &mut read_targets, &mut read_dependencies);
+    let records = table.targets.len();
+    let dependency_rows = table.rows(DEPENDENCY);
     let mut marks = [0u32; MODULE_LIMIT];
     let count = list_expected(
-        runtime,
-        dynamic,
-        bounds,
-        columns,
-        importers,
-        kinds,
+        table.runtime,
+        table.dynamic,
+        table.bounds,
+        table.columns,
+        table.importers,
+        table.kinds,
         &read_targets[..records],
         &read_dependencies[..dependency_rows],
-        column(bounds, columns, MEMBER),
+        table.column(MEMBER),
         &mut marks[..modules],
         expected,
         root,
     );
-    Answer::Counted(count)
-}
-
-// The expected order of a module row, written from place 0.
-pub fn expected_order<'a>(
-    runtime: u32,
-    dynamic: u32,
-    bounds: &'a [u32],
-    columns: &'a [u32],
-    names: &'a [u8],
-    root: u32,
-    expected: &mut [u32],
-) -> Answer
-    ensures { ExpectedOrder (lent runtime dynamic bounds.now columns.now names.now) root expected.old result expected.new }
-{
-    expected_order_with_records(
-        runtime,
-        dynamic,
-        bounds,
-        columns,
-        names,
-        column(bounds, columns, RECORD_MODULE),
-        column(bounds, columns, RECORD_KIND),
-        column(bounds, columns, RECORD_TARGET),
-        root,
-        expected,
-    )
+    Ok(count)
 }

@@ -1,5 +1,6 @@
 -- The steps over an input ask for what its lines do, in whatever pieces it comes.
 -- Assumes nothing.
+use Rattle.tables.specs.declared.Refusal.TheVariants.{Text, PastSeason}
 use mathlib.Core.Path.{◌≡◌, refl, sym, ap, ap₂, ◌∙◌}
 use mathlib.Core.Logic.{◌⊎◌, inl, inr, ⊎_elim}
 use mathlib.Core.Bool.{Bool, true, false, cond, ◌&&◌}
@@ -87,7 +88,7 @@ line-due left l name k = ⊎_elim holds (whole l k) (both (elem 0 l))
     holds : elem 0 l ≡ true → due (turn_of_line (held left l)) name ≡ asked_by l ∷ []
     holds e =
         rw e
-        (sym (ap (λ (x : Bool). cond x (File l) (Refused 7) ∷ []) (and-out (leb 1 (length l)) (leb (length l) 255 && false) (and-out (leb (length l) 255) false refl))))
+        (sym (ap (λ (x : Bool). cond x (File l) (Refused Text) ∷ []) (and-out (leb 1 (length l)) (leb (length l) 255 && false) (and-out (leb (length l) 255) false refl))))
 
     whole : (l : List ℕ) → Kept l name → elem 0 l ≡ false → due (turn_of_line (held left l)) name ≡ asked_by l ∷ []
     whole [] k e = refl
@@ -122,9 +123,9 @@ rest-closed name (b ∷ s) = rest-closed (kept_after closed b name) s
 rest-none : (name s : List ℕ) → rest (held zero []) name s ≡ in_turn zero (lines_of s)
 unfolding rest finished turn_at names_after in_turn lines_of
 rest-none name [] = refl
-rest-none name (b ∷ s) = ap (λ (xs : List Asked). Refused 11 ∷ xs) (rest-closed (kept_after (held zero []) b name) s) ∙ sym (some (eqb b 10) (lines_of s))
+rest-none name (b ∷ s) = ap (λ (xs : List Asked). Refused PastSeason ∷ xs) (rest-closed (kept_after (held zero []) b name) s) ∙ sym (some (eqb b 10) (lines_of s))
   where
-    some : (lf : Bool) (ls : List (List ℕ)) → in_turn zero (cond lf ([] ∷ ls) (opened b ls)) ≡ Refused 11 ∷ []
+    some : (lf : Bool) (ls : List (List ℕ)) → in_turn zero (cond lf ([] ∷ ls) (opened b ls)) ≡ Refused PastSeason ∷ []
     some true ls = refl
     some false [] = refl
     some false (l ∷ ls) = refl

@@ -1,5 +1,7 @@
 -- What standard input asks for: its lines, which of them are names, and the limit.
 -- Assumes nothing.
+use Rattle.tables.specs.declared.Refusal.{Refusal}
+use Rattle.tables.specs.declared.Refusal.TheVariants.{Text, PastSeason}
 use Rattle.std.specs.Prelude.{Bool, cond, not, ◌&&◌, List, [], ◌∷◌, ℕ, zero, suc, length, eqb, leb}
 use Rattle.lists.specs.Words.{elem}
 
@@ -20,16 +22,16 @@ is_name l = leb 1 (length l) && (leb (length l) 255 && not (elem 0 l))
 -- a file to open, or a refusal without one
 pub data Asked : Type 0 where
   File : List ℕ → Asked
-  Refused : ℕ → Asked
+  Refused : Refusal → Asked
 
 -- a line that is no name "counts as 7"
 abbrev pub asked_by : List ℕ → Asked
-asked_by l = cond (is_name l) (File l) (Refused 7)
+asked_by l = cond (is_name l) (File l) (Refused Text)
 
 -- each line in turn, as many as are left; the one that follows is refused with 11, "before any other number and without opening it", and ends the report
 unfoldable pub in_turn : ℕ → List (List ℕ) → List Asked
 in_turn left [] = []
-in_turn zero (l ∷ ls) = Refused 11 ∷ []
+in_turn zero (l ∷ ls) = Refused PastSeason ∷ []
 in_turn (suc left) (l ∷ ls) = asked_by l ∷ in_turn left ls
 
 -- what an input asks for: "up to 10,000 projects"

@@ -1,5 +1,6 @@
 -- What the splitting of an input keeps and answers, byte by byte.
 -- Assumes nothing.
+use Rattle.tables.specs.declared.Refusal.TheVariants.{Text, PastSeason}
 use Rattle.std.specs.Prelude.{true, false, cond, ◌||◌, List, [], ◌∷◌, ℕ, ◌+◌, ◌-◌, set, take, eqb, ltb}
 use Rattle.file_names.specs.declared.Names.{Names}
 use Rattle.file_names.specs.declared.Step.{Step}
@@ -13,11 +14,11 @@ begun = record { left = 10000; length = 0; zero = false; over = false }
 
 -- at the end of a line: its file, or 7
 unfoldable pub turn_of_line : Names → Turn
-turn_of_line n = cond n.zero (Refused 7) (cond (eqb n.length 0) (Refused 7) (cond (ltb 255 n.length) (Refused 7) (File n.length)))
+turn_of_line n = cond n.zero (Refused Text) (cond (eqb n.length 0) (Refused Text) (cond (ltb 255 n.length) (Refused Text) (File n.length)))
 
 -- at a byte: 11 as soon as one follows the last line that may come; else what an LF ends
 unfoldable pub turn_at : Names → ℕ → Turn
-turn_at n b = cond n.over Nothing (cond (eqb n.left 0) (Refused 11) (cond (eqb b 10) (turn_of_line n) Nothing))
+turn_at n b = cond n.over Nothing (cond (eqb n.left 0) (Refused PastSeason) (cond (eqb b 10) (turn_of_line n) Nothing))
 
 -- what is known after a byte
 unfoldable pub names_after : Names → ℕ → Names

@@ -4,6 +4,8 @@
 ghost use Rattle.std.specs.Prelude.{◌≡◌, cond, ◌+◌, ltb};
 ghost use Rattle.file_names.specs.Steps.{begun, turn_of_line, turn_at, names_after, kept_after, stepped, finished};
 
+use tables::Refusal;
+
 // How many names are taken.
 pub const NAMES: u32 = 10000;
 
@@ -25,7 +27,7 @@ pub struct Names {
 pub enum Turn {
     Nothing,
     File(usize),
-    Refused(u32),
+    Refused(Refusal),
 }
 
 #[derive(Clone, Copy)]
@@ -52,19 +54,14 @@ fn turn_of_line(names: Names) -> Turn
     ensures { result ≡ turn_of_line names }
 {
     let length = names.length;
-    if names.zero {
-        return Turn::Refused(7);
-    }
-    if length == 0 {
-        return Turn::Refused(7);
-    }
-    if NAME_BYTES < length {
-        return Turn::Refused(7);
+    if names.zero || length == 0 || NAME_BYTES < length {
+        return Turn::Refused(Refusal::Text);
     }
     Turn::File(length)
 }
 
 // What is due at a byte.
+#[tactic(auto, unfolding(crate::specs::Steps::turn_at))]
 fn turn_at(names: Names, b: u8) -> Turn
     ensures { result ≡ turn_at names b }
 {
@@ -72,7 +69,7 @@ fn turn_at(names: Names, b: u8) -> Turn
         return Turn::Nothing;
     }
     if names.left == 0 {
-        return Turn::Refused(11);
+        return Turn::Refused(Refusal::PastSeason);
     }
     if b == b'\n' {
         return turn_of_line(names);
@@ -91,6 +88,7 @@ fn longer(length: usize) -> usize
 }
 
 // What is known after a byte.
+#[tactic(auto, unfolding(crate::specs::Steps::names_after))]
 fn names_after(names: Names, b: u8) -> Names
     ensures { result ≡ names_after names b }
 {
@@ -124,6 +122,7 @@ fn names_after(names: Names, b: u8) -> Names
 }
 
 // Keeps a byte of a line, where a name has a place for it.
+#[tactic(auto, unfolding(crate::specs::Steps::kept_after))]
 fn keep_byte(names: Names, name: &mut [u8; NAME_BYTES], b: u8)
     ensures { name.new ≡ kept_after names b name.old }
 {
@@ -137,6 +136,7 @@ fn keep_byte(names: Names, name: &mut [u8; NAME_BYTES], b: u8)
 }
 
 // Takes the next byte. The bytes of the line at hand are kept in `name`, as far as they fit.
+#[tactic(auto, unfolding(crate::specs::Steps::stepped))]
 pub fn take_byte(names: Names, name: &mut [u8; NAME_BYTES], b: u8) -> Step
     ensures value { result ≡ stepped names b }
     ensures name_after { name.new ≡ kept_after names b name.old }

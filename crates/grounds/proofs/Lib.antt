@@ -1,2 +1,2 @@
--- `Promise`: what the operation promises, in each of its cases.
+-- `Promise`: what the operation promises where its project is refused.
 pub mod Promise

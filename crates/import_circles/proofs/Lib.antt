@@ -1,3 +1,3 @@
--- `Promise`: the operation's cases. `Counts`: the walk stays among the modules, and how many circles there can be.
+-- `Promise`: what the operation promises where its project is refused. `Counts`: the walk stays among the modules, and how many circles there can be.
 pub mod Promise
 pub mod Counts

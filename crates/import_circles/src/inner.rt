@@ -8,7 +8,7 @@ ghost use Rattle.import_circles.specs.OfProject.{circles_of};
 
 use circle_gathering::inner::gather_circles;
 use table::{ENTRY, NORMAL, column};
-use tables::Answer;
+use tables::Refusal;
 
 // The circles of an accepted project.
 pub fn list_circles<'a>(
@@ -23,7 +23,7 @@ pub fn list_circles<'a>(
     members: &'a [u32],
     paths: &mut [u32],
     lengths: &mut [u32],
-) -> Answer
+) -> Result<usize, Refusal>
     requires accepted { let p : Project = read (table runtime dynamic bounds.now columns.now) importers.now kinds.now targets.now dependencies.now members.now in Accepted p }
     ensures { let p : Project = read (table runtime dynamic bounds.now columns.now) importers.now kinds.now targets.now dependencies.now members.now in Gathered (circles_of p) paths.old lengths.old result paths.new lengths.new }
 {

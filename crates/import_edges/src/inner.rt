@@ -54,8 +54,8 @@ pub fn spread(
     requires { Spreadable from.now to.now heads.now nexts.now set.now marks.old }
     ensures { Spreads from.now to.now set.now marks.new }
 {
-    for m in 0..set.len() {
-        if set[m] == 0 {
+    for (m, &mark) in set.iter().enumerate() {
+        if mark == 0 {
             continue;
         }
         if marks[m] != 0 {

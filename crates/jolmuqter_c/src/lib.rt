@@ -1,13 +1,21 @@
-// What the static library exports: each function of `jolmuqter` under its name, with its clauses.
+// What the static library exports: the operations as functions for C and Rust, on a project that is lent as a table. The answers are numbers, as
+// `answer_codes` says.
 #![tactic(auto)]
 
 ghost use Rattle.std.specs.Prelude.{◌≡◌, []};
+ghost use Rattle.tables.specs.Answers.{answer};
 ghost use Rattle.table.specs.Table.{lent};
+ghost use Rattle.table.specs.Lending.{as_lent};
 ghost use Rattle.arrangement.specs.OfProject.{lent_named};
-ghost use Rattle.answer_codes.specs.Calls.{Sort, Circles, Expected, Entries, Actual, Labels, Reach, OrderRisk, CycleRisk, Plan, Takings, Whole, Grounds, Share, Line, Page, Arrange, Load, Refusal};
+ghost use Rattle.answer_codes.specs.Calls.{Sort, Circles, Expected, Entries, Actual, Labels, Reach, OrderRisk, CycleRisk, Plan, Takings, Whole, Grounds, Share, Line, Page, Arrange, Load, Test};
 ghost use Rattle.plan_check.specs.Promise.{judgement};
 ghost use Rattle.load_trial.specs.Promise.{load_step};
 ghost use Rattle.answer_codes.specs.Exported.{coded_judgement, coded_step, Exported};
+
+use answer_codes::{code, judgement_code, step_code};
+use refusal::test;
+use table::Table;
+use tables::Refusal;
 
 // The number of each module, and the sorted list.
 #[unsafe(no_mangle)]
@@ -22,7 +30,11 @@ pub extern "C" fn jolmuqter_sort_modules<'a>(
 ) -> u64
     ensures { Exported Sort (lent runtime dynamic bounds.now columns.now names.now) numbers.old sorted.old result numbers.new sorted.new }
 {
-    jolmuqter::jolmuqter_sort_modules(runtime, dynamic, bounds, columns, names, numbers, sorted)
+    code(sort_modules::sort_modules(
+        &Table::new(runtime, dynamic, bounds, columns, names),
+        numbers,
+        sorted,
+    ))
 }
 
 // The import circles: the paths one after the other, and their lengths.
@@ -38,7 +50,11 @@ pub extern "C" fn jolmuqter_import_circles<'a>(
 ) -> u64
     ensures { Exported Circles (lent runtime dynamic bounds.now columns.now names.now) paths.old lengths.old result paths.new lengths.new }
 {
-    jolmuqter::jolmuqter_import_circles(runtime, dynamic, bounds, columns, names, paths, lengths)
+    code(import_circles::import_circles(
+        &Table::new(runtime, dynamic, bounds, columns, names),
+        paths,
+        lengths,
+    ))
 }
 
 // The expected order of any module row.
@@ -54,7 +70,11 @@ pub extern "C" fn jolmuqter_expected_order<'a>(
 ) -> u64
     ensures { Exported (Expected root) (lent runtime dynamic bounds.now columns.now names.now) order.old [] result order.new [] }
 {
-    jolmuqter::jolmuqter_expected_order(runtime, dynamic, bounds, columns, names, root, order)
+    code(expected_order::expected_order(
+        &Table::new(runtime, dynamic, bounds, columns, names),
+        root,
+        order,
+    ))
 }
 
 // The expected order of any module rows, walked together.
@@ -70,7 +90,11 @@ pub extern "C" fn jolmuqter_entries_order<'a>(
 ) -> u64
     ensures { Exported (Entries entries.now) (lent runtime dynamic bounds.now columns.now names.now) order.old [] result order.new [] }
 {
-    jolmuqter::jolmuqter_entries_order(runtime, dynamic, bounds, columns, names, entries, order)
+    code(entries_order::entries_order(
+        &Table::new(runtime, dynamic, bounds, columns, names),
+        entries,
+        order,
+    ))
 }
 
 // The actual order of an analysed entry, and the hosts.
@@ -87,7 +111,12 @@ pub extern "C" fn jolmuqter_actual_order<'a>(
 ) -> u64
     ensures { Exported (Actual root) (lent_named runtime dynamic bounds.now columns.now names.now) order.old hosts.old result order.new hosts.new }
 {
-    jolmuqter::jolmuqter_actual_order(runtime, dynamic, bounds, columns, names, root, order, hosts)
+    code(actual_order::actual_order(
+        &Table::new(runtime, dynamic, bounds, columns, names),
+        root,
+        order,
+        hosts,
+    ))
 }
 
 // The label of each chunk.
@@ -102,7 +131,10 @@ pub extern "C" fn jolmuqter_labels<'a>(
 ) -> u64
     ensures { Exported Labels (lent runtime dynamic bounds.now columns.now names.now) labels.old [] result labels.new [] }
 {
-    jolmuqter::jolmuqter_labels(runtime, dynamic, bounds, columns, names, labels)
+    code(chunk_cycles::labels(
+        &Table::new(runtime, dynamic, bounds, columns, names),
+        labels,
+    ))
 }
 
 // Whether a chunk reaches a cyclic one.
@@ -117,7 +149,7 @@ pub extern "C" fn jolmuqter_chunk_reach<'a>(
 ) -> u64
     ensures { Exported (Reach chunk) (lent runtime dynamic bounds.now columns.now names.now) [] [] result [] [] }
 {
-    jolmuqter::jolmuqter_chunk_reach(runtime, dynamic, bounds, columns, names, chunk)
+    code(chunk_cycles::chunk_reach(&Table::new(runtime, dynamic, bounds, columns, names), chunk))
 }
 
 // The order risk of an analysed entry.
@@ -133,7 +165,11 @@ pub extern "C" fn jolmuqter_order_risk<'a>(
 ) -> u64
     ensures { Exported (OrderRisk root) (lent_named runtime dynamic bounds.now columns.now names.now) risk.old [] result risk.new [] }
 {
-    jolmuqter::jolmuqter_order_risk(runtime, dynamic, bounds, columns, names, root, risk)
+    code(order_risk::order_risk(
+        &Table::new(runtime, dynamic, bounds, columns, names),
+        root,
+        risk,
+    ))
 }
 
 // The cycle risk of an analysed entry.
@@ -149,7 +185,11 @@ pub extern "C" fn jolmuqter_cycle_risk<'a>(
 ) -> u64
     ensures { Exported (CycleRisk root) (lent runtime dynamic bounds.now columns.now names.now) risk.old [] result risk.new [] }
 {
-    jolmuqter::jolmuqter_cycle_risk(runtime, dynamic, bounds, columns, names, root, risk)
+    code(cycle_risk::cycle_risk(
+        &Table::new(runtime, dynamic, bounds, columns, names),
+        root,
+        risk,
+    ))
 }
 
 // The plan from lent seeds.
@@ -165,7 +205,11 @@ pub extern "C" fn jolmuqter_plan_from_seeds<'a>(
 ) -> u64
     ensures { Exported (Plan seeds.now) (lent runtime dynamic bounds.now columns.now names.now) plan.old [] result plan.new [] }
 {
-    jolmuqter::jolmuqter_plan_from_seeds(runtime, dynamic, bounds, columns, names, seeds, plan)
+    code(wrap_plan::plan_from_seeds(
+        &Table::new(runtime, dynamic, bounds, columns, names),
+        seeds,
+        plan,
+    ))
 }
 
 // The same by a worklist.
@@ -181,7 +225,11 @@ pub extern "C" fn jolmuqter_plan_by_worklist<'a>(
 ) -> u64
     ensures { Exported (Plan seeds.now) (lent runtime dynamic bounds.now columns.now names.now) plan.old [] result plan.new [] }
 {
-    jolmuqter::jolmuqter_plan_by_worklist(runtime, dynamic, bounds, columns, names, seeds, plan)
+    code(plan_by_worklist::plan_by_worklist(
+        &Table::new(runtime, dynamic, bounds, columns, names),
+        seeds,
+        plan,
+    ))
 }
 
 // That worklist: its modules in the order in which they are taken, and how many are listed after each number of takings.
@@ -198,9 +246,12 @@ pub extern "C" fn jolmuqter_takings_from_seeds<'a>(
 ) -> u64
     ensures { Exported (Takings seeds.now) (lent runtime dynamic bounds.now columns.now names.now) list.old lengths.old result list.new lengths.new }
 {
-    jolmuqter::jolmuqter_takings_from_seeds(
-        runtime, dynamic, bounds, columns, names, seeds, list, lengths,
-    )
+    code(takings_from_seeds::takings_from_seeds(
+        &Table::new(runtime, dynamic, bounds, columns, names),
+        seeds,
+        list,
+        lengths,
+    ))
 }
 
 // Whether a plan made elsewhere is accepted with these seeds, or what it breaks first.
@@ -216,7 +267,11 @@ pub extern "C" fn jolmuqter_check_plan<'a>(
 ) -> u64
     ensures { result ≡ coded_judgement (judgement (lent runtime dynamic bounds.now columns.now names.now) seeds.now plan.now) }
 {
-    jolmuqter::jolmuqter_check_plan(runtime, dynamic, bounds, columns, names, seeds, plan)
+    judgement_code(plan_check::check_plan(
+        &Table::new(runtime, dynamic, bounds, columns, names),
+        seeds,
+        plan,
+    ))
 }
 
 // The plan of the whole analysis.
@@ -231,7 +286,10 @@ pub extern "C" fn jolmuqter_plan<'a>(
 ) -> u64
     ensures { Exported Whole (lent_named runtime dynamic bounds.now columns.now names.now) plan.old [] result plan.new [] }
 {
-    jolmuqter::jolmuqter_plan(runtime, dynamic, bounds, columns, names, plan)
+    code(order_analysis::analyze_execution_order(
+        &Table::new(runtime, dynamic, bounds, columns, names),
+        plan,
+    ))
 }
 
 // The ground of each module's sensitivity.
@@ -246,7 +304,10 @@ pub extern "C" fn jolmuqter_grounds<'a>(
 ) -> u64
     ensures { Exported Grounds (lent runtime dynamic bounds.now columns.now names.now) grounds.old [] result grounds.new [] }
 {
-    jolmuqter::jolmuqter_grounds(runtime, dynamic, bounds, columns, names, grounds)
+    code(grounds::grounds(
+        &Table::new(runtime, dynamic, bounds, columns, names),
+        grounds,
+    ))
 }
 
 // The share of the eligible modules that are planned.
@@ -261,7 +322,7 @@ pub extern "C" fn jolmuqter_share<'a>(
 ) -> u64
     ensures { Exported Share (lent_named runtime dynamic bounds.now columns.now names.now) share.old [] result share.new [] }
 {
-    jolmuqter::jolmuqter_share(runtime, dynamic, bounds, columns, names, share)
+    code(shares::write_share(&Table::new(runtime, dynamic, bounds, columns, names), share))
 }
 
 // The page of an analysed entry, by grounds and a plan that were made before.
@@ -279,9 +340,13 @@ pub extern "C" fn jolmuqter_entry_page<'a>(
 ) -> u64
     ensures { Exported (Page root grounds.now plan.now) (lent_named runtime dynamic bounds.now columns.now names.now) page.old [] result page.new [] }
 {
-    jolmuqter::jolmuqter_entry_page(
-        runtime, dynamic, bounds, columns, names, root, grounds, plan, page,
-    )
+    code(wall_page::entry_page(
+        &Table::new(runtime, dynamic, bounds, columns, names),
+        grounds,
+        plan,
+        root,
+        page,
+    ))
 }
 
 // One line of an analysed entry's page, by its number from 0.
@@ -298,7 +363,12 @@ pub extern "C" fn jolmuqter_page_line<'a>(
 ) -> u64
     ensures { Exported (Line root number) (lent_named runtime dynamic bounds.now columns.now names.now) line.old [] result line.new [] }
 {
-    jolmuqter::jolmuqter_page_line(runtime, dynamic, bounds, columns, names, root, number, line)
+    code(wall_line::page_line(
+        &Table::new(runtime, dynamic, bounds, columns, names),
+        root,
+        number,
+        line,
+    ))
 }
 
 // The members of each chunk as `sort_chunk_modules` arranges them, at the chunk's member rows.
@@ -313,7 +383,10 @@ pub extern "C" fn jolmuqter_sort_chunk_modules<'a>(
 ) -> u64
     ensures { Exported (Arrange names.now) (lent runtime dynamic bounds.now columns.now names.now) members.old [] result members.new [] }
 {
-    jolmuqter::jolmuqter_sort_chunk_modules(runtime, dynamic, bounds, columns, names, members)
+    code(sort_chunk_modules::sort_chunk_modules(
+        &Table::new(runtime, dynamic, bounds, columns, names),
+        members,
+    ))
 }
 
 // A step of an analysed entry's load with a plan, by its number from 0.
@@ -330,7 +403,12 @@ pub extern "C" fn jolmuqter_load_step<'a>(
 ) -> u64
     ensures { result ≡ coded_step (load_step (lent_named runtime dynamic bounds.now columns.now names.now) root plan.now number) }
 {
-    jolmuqter::jolmuqter_load_step(runtime, dynamic, bounds, columns, names, root, number, plan)
+    step_code(load_trial::load_step(
+        &Table::new(runtime, dynamic, bounds, columns, names),
+        root,
+        plan,
+        number,
+    ))
 }
 
 // All steps of an analysed entry's load with a plan: their modules, and their hosts.
@@ -348,9 +426,21 @@ pub extern "C" fn jolmuqter_load_run<'a>(
 ) -> u64
     ensures { Exported (Load root plan.now) (lent_named runtime dynamic bounds.now columns.now names.now) steps.old hosts.old result steps.new hosts.new }
 {
-    jolmuqter::jolmuqter_load_run(
-        runtime, dynamic, bounds, columns, names, root, plan, steps, hosts,
-    )
+    code(load_trial::load_run(
+        &Table::new(runtime, dynamic, bounds, columns, names),
+        root,
+        plan,
+        steps,
+        hosts,
+    ))
+}
+
+// The test of a table as an operation whose count is 0.
+fn tested(table: &Table) -> Result<usize, Refusal>
+    ensures { result ≡ answer (as_lent table.now).refused 0 }
+{
+    test(table)?;
+    Ok(0)
 }
 
 // The test of the tables alone: 0 if every operation would go on.
@@ -362,7 +452,7 @@ pub extern "C" fn jolmuqter_refusal<'a>(
     columns: &'a [u32],
     names: &'a [u8],
 ) -> u64
-    ensures { Exported Refusal (lent runtime dynamic bounds.now columns.now names.now) [] [] result [] [] }
+    ensures { Exported Test (lent runtime dynamic bounds.now columns.now names.now) [] [] result [] [] }
 {
-    jolmuqter::jolmuqter_refusal(runtime, dynamic, bounds, columns, names)
+    code(tested(&Table::new(runtime, dynamic, bounds, columns, names)))
 }

@@ -1,16 +1,16 @@
 -- The promises of specs/Checked, inhabited.
 -- Assumes nothing.
+use Rattle.std.specs.Prelude.{None}
 use mathlib.Core.Path.{◌≡◌, refl, sym, ap, subst, ◌∙◌}
-use mathlib.Core.Logic.{⊎_elim}
 use mathlib.Core.Bool.{Bool, true, false, not, ◌&&◌, true≢false}
 use mathlib.Core.List.{List}
 use Prim.Native.Nat.{ℕ, ◌≤◌, ◌<◌}
 use native.Mathlib.Omega.{arith}
-use lib.ListN.{length, get_or}
+use lib.ListN.{length}
 use lib.Dec.{eqb, leb}
 use borrow.Author.Tests.{eq-eqb, le-leb}
 use Rattle.lists.specs.Words.{every, elem, has}
-use Rattle.lists.proofs.Laws.{both, and_parts, and-join, has_in, mem-every}
+use Rattle.lists.proofs.Laws.{and_parts, and-join, has_in, mem-every}
 use Rattle.lists.proofs.Members.{mem-at}
 use Rattle.tables.specs.Project.{Project, missing}
 use Rattle.tables.specs.Readings.{modules}
@@ -44,10 +44,10 @@ both-not : (a b : Bool) → (a ≡ true → b ≡ true) → (a && not b) ≡ fal
 both-not true b h = ap not (h refl)
 both-not false b h = refl
 
-few : (p : Project) → refusal p ≡ 0 → modules p ≤ missing
+few : (p : Project) → refusal p ≡ None → modules p ≤ missing
 few p ok = omega (arith, (accepted p ok).sizes.normal)
 
-module _ (p : Project) (seeds plan : List ℕ) (ok : refusal p ≡ 0) where
+module _ (p : Project) (seeds plan : List ℕ) (ok : refusal p ≡ None) where
   -- the lowest module that breaks a condition
   abbrev found : Condition → ℕ
   found c = lowest (broken p seeds plan c) (modules p)

@@ -1,15 +1,15 @@
 -- The promises of specs/Late, inhabited.
 -- Assumes nothing.
-use mathlib.Core.Path.{◌≡◌, refl, sym, ap, subst, ◌∙◌}
+use mathlib.Core.Path.{◌≡◌, sym, ap, subst, ◌∙◌}
 use mathlib.Core.Logic.{⊎_elim}
-use mathlib.Core.Bool.{true, false, ◌&&◌, ◌||◌, or-false, true≢false}
-use mathlib.Core.List.{List, [], ◌++◌}
+use mathlib.Core.Bool.{false, ◌&&◌, ◌||◌, or-false, true≢false}
+use mathlib.Core.List.{List, []}
 use Prim.Native.Nat.{ℕ}
-use lib.ListN.{length, drop, take}
+use lib.ListN.{drop}
 use lib.Seq.{take_at}
 use Rattle.lists.specs.Words.{elem, has, ones}
 use Rattle.lists.proofs.Laws.{iff-eq, and-join, or_parts, or_left, or_right, elem_mem, mem-elem}
-use Rattle.walk.specs.Joining.{set_of, Joins, Place}
+use Rattle.walk.specs.Joining.{set_of, Joins}
 use Rattle.walk.proofs.Joins.{joins-weaker, joins-place, joins-count, StartOrAsked, Order, close-order}
 use Rattle.tables.specs.Project.{Project}
 use Rattle.tables.specs.Readings.{modules}
@@ -19,7 +19,7 @@ use Rattle.chunk_cycles.specs.Cycles.{labels_of}
 use Rattle.eligibility.specs.Eligible.{eligible}
 use Rattle.wrap_rules.specs.Plan.{asked, start, plan_from, orders_of}
 use Rattle.wrap_rules.proofs.Monotone.{asked-monotone, asked-asks}
-use Rattle.wrap_rules.proofs.Plans.{start-length, start_has, plan-seeds, plan-same}
+use Rattle.wrap_rules.proofs.Plans.{start-length, start_has, plan-same}
 use Rattle.wrap_plan.specs.Promise.{plan_of}
 use Rattle.promises.specs.Statements.{MoreSeedsKeepThePlan, LeavesPlan, PlanIsLeast, PlanCallLeavesThePlan}
 use Rattle.lent_plans.specs.Late.{MembersAre, LateSeedsJoin, FinishedPlansStay, AskedFor, ruled, MayJoin, as_seed, by_rule, JoiningOrder, PlansJoinInOrder, AcceptedCall, marked, LateCallsJoin, FinishedCallsStay, CallsJoinInOrder}

@@ -1,13 +1,13 @@
 -- What is promised of planning on from an old plan, and of the order in which a plan's members join.
 -- Each statement is a type; `proofs/` inhabits it under the same name in small letters.
 -- Assumes nothing.
-use Rattle.std.specs.Prelude.{◌≡◌, Bool, true, false, ◌&&◌, ◌||◌, List, ℕ, length, take}
+use Rattle.std.specs.Prelude.{◌≡◌, Bool, true, false, ◌&&◌, ◌||◌, List, ℕ, length, take, None, Result}
 use Rattle.lists.specs.Words.{elem, has, ones}
 use Rattle.walk.specs.Joining.{set_of, Joins, Place}
 use Rattle.tables.specs.Project.{Project}
 use Rattle.tables.specs.Readings.{modules}
-use Rattle.tables.specs.Answers.{number_of, count_of}
-use Rattle.tables.specs.declared.Answer.{Answer}
+use Rattle.tables.specs.Answers.{refused_of, count_of}
+use Rattle.tables.specs.declared.Refusal.{Refusal}
 use Rattle.table.specs.Table.{Lent}
 use Rattle.chunk_cycles.specs.Cycles.{labels_of}
 use Rattle.eligibility.specs.Eligible.{eligible}
@@ -55,10 +55,10 @@ PlansJoinInOrder = (p : Project) (seeds : List ℕ) → JoiningOrder p seeds (pl
 -- an accepted call: the slice that it is lent, its answer, and the slice that it leaves
 pub record AcceptedCall (t : Lent) (seeds : List ℕ) : Type 0 where
   pub slice : List ℕ
-  pub answer : Answer
+  pub answer : Result ℕ Refusal
   pub left : List ℕ
   pub promise : PlanFromSeeds t seeds slice answer left
-  pub accepted : number_of answer ≡ 0
+  pub accepted : refused_of answer ≡ None
 
 -- the modules' marks in a slice
 abbrev pub marked : Project → List ℕ → List ℕ

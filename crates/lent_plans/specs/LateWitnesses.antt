@@ -1,13 +1,11 @@
 -- For each promise of `Late` with premises, a listing that meets them, with a conclusion that isn't empty; and for each rule a module that joins by
 -- it alone.
 -- Assumes nothing.
-use Rattle.std.specs.Prelude.{◌≡◌, Bool, true, false, not, ◌&&◌, ◌||◌, List, [], ◌∷◌, ℕ}
-use Rattle.lists.specs.Words.{is_zero, any, every, elem, has}
+use Rattle.std.specs.Prelude.{◌≡◌, Bool, true, false, not, ◌&&◌, ◌||◌, List, [], ◌∷◌, ℕ, Ok}
+use Rattle.lists.specs.Words.{any, every, elem, has}
 use Rattle.walk.specs.Joining.{set_of, Joins}
 use Rattle.tables.specs.Project.{Project, project, missing}
 use Rattle.tables.specs.Readings.{modules}
-use Rattle.tables.specs.Refusal.{refusal}
-use Rattle.tables.specs.declared.Answer.TheVariants.{Counted}
 use Rattle.chunk_cycles.specs.Cycles.{labels_of}
 use Rattle.eligibility.specs.Eligible.{eligible}
 use Rattle.wrap_rules.specs.Plan.{Rule, suffix_rule, component_rule, import_rule, read_rule, asks, orders_of}
@@ -36,10 +34,10 @@ pub record FinishedPlanWitness : Type 0 where
 
 -- the same as accepted calls, each with one place past the marks
 pub record LateCallsWitness : Type 0 where
-  pub old : PlanFromSeeds (lent_by two_entries) (1 ∷ []) (9 ∷ 9 ∷ 9 ∷ 9 ∷ 9 ∷ 7 ∷ []) (Counted 2) (0 ∷ 1 ∷ 0 ∷ 1 ∷ 0 ∷ 7 ∷ [])
-  pub on : PlanFromSeeds (lent_by two_entries) (2 ∷ 3 ∷ 1 ∷ 2 ∷ []) (8 ∷ 8 ∷ 8 ∷ 8 ∷ 8 ∷ 6 ∷ []) (Counted 4) (0 ∷ 1 ∷ 1 ∷ 1 ∷ 1 ∷ 6 ∷ [])
-  pub whole : PlanFromSeeds (lent_by two_entries) (2 ∷ 1 ∷ []) (9 ∷ 9 ∷ 9 ∷ 9 ∷ 9 ∷ 7 ∷ []) (Counted 4) (0 ∷ 1 ∷ 1 ∷ 1 ∷ 1 ∷ 7 ∷ [])
-  pub again : PlanFromSeeds (lent_by two_entries) (3 ∷ 1 ∷ 3 ∷ []) (8 ∷ 8 ∷ 8 ∷ 8 ∷ 8 ∷ 6 ∷ []) (Counted 2) (0 ∷ 1 ∷ 0 ∷ 1 ∷ 0 ∷ 6 ∷ [])
+  pub old : PlanFromSeeds (lent_by two_entries) (1 ∷ []) (9 ∷ 9 ∷ 9 ∷ 9 ∷ 9 ∷ 7 ∷ []) (Ok 2) (0 ∷ 1 ∷ 0 ∷ 1 ∷ 0 ∷ 7 ∷ [])
+  pub on : PlanFromSeeds (lent_by two_entries) (2 ∷ 3 ∷ 1 ∷ 2 ∷ []) (8 ∷ 8 ∷ 8 ∷ 8 ∷ 8 ∷ 6 ∷ []) (Ok 4) (0 ∷ 1 ∷ 1 ∷ 1 ∷ 1 ∷ 6 ∷ [])
+  pub whole : PlanFromSeeds (lent_by two_entries) (2 ∷ 1 ∷ []) (9 ∷ 9 ∷ 9 ∷ 9 ∷ 9 ∷ 7 ∷ []) (Ok 4) (0 ∷ 1 ∷ 1 ∷ 1 ∷ 1 ∷ 7 ∷ [])
+  pub again : PlanFromSeeds (lent_by two_entries) (3 ∷ 1 ∷ 3 ∷ []) (8 ∷ 8 ∷ 8 ∷ 8 ∷ 8 ∷ 6 ∷ []) (Ok 2) (0 ∷ 1 ∷ 0 ∷ 1 ∷ 0 ∷ 6 ∷ [])
   pub grown : MembersAre (2 ∷ 3 ∷ 1 ∷ 2 ∷ []) (λ (m : ℕ). has (marked two_entries (0 ∷ 1 ∷ 0 ∷ 1 ∷ 0 ∷ 7 ∷ [])) m || elem m (2 ∷ []))
   pub all : MembersAre (2 ∷ 1 ∷ []) (λ (m : ℕ). elem m (1 ∷ []) || elem m (2 ∷ []))
   pub members : MembersAre (3 ∷ 1 ∷ 3 ∷ []) (has (marked two_entries (0 ∷ 1 ∷ 0 ∷ 1 ∷ 0 ∷ 7 ∷ [])))

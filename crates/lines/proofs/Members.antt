@@ -1,5 +1,6 @@
 -- The members of a set of marks, listed one by one.
 -- Assumes nothing.
+use Rattle.std.specs.Prelude.{None}
 use Prim.Native.Nat.{ℕ, ◌+◌, ◌-◌, ◌≤◌, ◌<◌}
 use native.Mathlib.Omega.{arith}
 use native.Mathlib.Numerals.{add-one}
@@ -11,7 +12,7 @@ use lib.Seq.{sets}
 use borrow.Author.Tests.{le-leb}
 use Rattle.lists.specs.Words.{count_from, up_to, keep, has}
 use Rattle.lists.proofs.Laws.{count-step, count-end, has-not, has-yes}
-use Rattle.lines.specs.Lines.{members, members_number}
+use Rattle.lines.specs.Lines.{members, members_refusal}
 
 -- n members below i have been listed: what is left to do gives the whole
 pub record Listing (marks out₀ out : List ℕ) (n i : ℕ) : Type 0 where
@@ -60,5 +61,5 @@ module _ (marks out₀ : List ℕ) where
         (omega (arith, ap length q, g.count), ap (sets out n) (sym q) ∙ g.put)
 
 -- where the call is accepted
-pub fits : (marks out : List ℕ) → length marks ≤ 4096 → length marks ≤ length out → 0 ≡ members_number marks out
-fits marks out h l = simp (le-leb (length marks) 4096 h, le-leb (length marks) (length out) l)
+pub fits : (marks out : List ℕ) → length marks ≤ 4096 → length marks ≤ length out → members_refusal marks out ≡ None
+fits marks out h l = rw (le-leb (length marks) 4096 h, le-leb (length marks) (length out) l)

@@ -14,10 +14,10 @@ use Rattle.tables.specs.Project.{missing}
 use Rattle.form.specs.Form.{spell, number, field, spaced, line}
 use Rattle.form.proofs.Fields.{split, number_short, number-long}
 use Rattle.form.proofs.Runs.{sets-append}
-use Rattle.tables.specs.Answers.{after}
-use Rattle.tables.specs.declared.Answer.TheVariants.{Refused, Counted}
-use Rattle.table.specs.Table.{answer}
-use Rattle.lines.specs.Lines.{line_of, line_number, PutAt}
+use Rattle.std.specs.Prelude.{Some, Ok, Err}
+use Rattle.tables.specs.Answers.{answer, after}
+use Rattle.tables.specs.declared.Refusal.TheVariants.{ShortSlice}
+use Rattle.lines.specs.Lines.{line_of, line_refusal, PutAt}
 use Rattle.lines.proofs.Answered.{refused-by, accepted-by}
 use Rattle.lines.proofs.Puts.{put_then}
 
@@ -124,15 +124,15 @@ put_whole d at word xs ys d₁ p d₂ q d₃ r d₄ t a b c e =
 
 -- the answers
 module _ (out word entry numbers : List ℕ) where
-  too_short : length out < length (line_of word entry numbers) → 6 ≡ line_number out (line_of word entry numbers)
-  too_short h = simp (lt-leb (length (line_of word entry numbers)) (length out) h)
+  too_short : length out < length (line_of word entry numbers) → line_refusal out (line_of word entry numbers) ≡ Some ShortSlice
+  too_short h = rw (lt-leb (length (line_of word entry numbers)) (length out) h)
 
   pub refused : length out < length (line_of word entry numbers)
-      → (Refused 6 ≡ answer (line_number out (line_of word entry numbers)) (length (line_of word entry numbers))) × (out ≡ after (line_number out (line_of word entry numbers)) out (line_of word entry numbers))
-  refused h = refused-by (line_number out (line_of word entry numbers)) (length (line_of word entry numbers)) out (line_of word entry numbers) 5 (too_short h)
+      → (Err ShortSlice ≡ answer (line_refusal out (line_of word entry numbers)) (length (line_of word entry numbers))) × (out ≡ after (line_refusal out (line_of word entry numbers)) out (line_of word entry numbers))
+  refused h = refused-by (line_refusal out (line_of word entry numbers)) (length (line_of word entry numbers)) out (line_of word entry numbers) (too_short h)
 
   pub written : (out' : List ℕ) (r : ℕ) → length (line_of word entry numbers) ≤ length out → PutAt out 0 (line_of word entry numbers) out' r
-      → (Counted r ≡ answer (line_number out (line_of word entry numbers)) (length (line_of word entry numbers))) × (out' ≡ after (line_number out (line_of word entry numbers)) out (line_of word entry numbers))
+      → (Ok r ≡ answer (line_refusal out (line_of word entry numbers)) (length (line_of word entry numbers))) × (out' ≡ after (line_refusal out (line_of word entry numbers)) out (line_of word entry numbers))
   written out' r h p =
-      accepted-by (line_number out (line_of word entry numbers)) (length (line_of word entry numbers)) out (line_of word entry numbers) r out'
-      (simp (le-leb (length (line_of word entry numbers)) (length out) h)) (omega (arith, p.next)) (p.put ∙ sets-front out (line_of word entry numbers) h)
+      accepted-by (line_refusal out (line_of word entry numbers)) (length (line_of word entry numbers)) out (line_of word entry numbers) r out'
+      (rw (le-leb (length (line_of word entry numbers)) (length out) h)) (omega (arith, p.next)) (p.put ∙ sets-front out (line_of word entry numbers) h)

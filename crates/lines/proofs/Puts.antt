@@ -1,13 +1,12 @@
 -- What is put, one run after another.
 -- Assumes nothing.
-use Prim.Native.Nat.{ℕ, ◌+◌, ◌<◌}
+use Prim.Native.Nat.{ℕ}
 use native.Mathlib.Omega.{arith}
-use native.Mathlib.Numerals.{add-one}
-use mathlib.Core.Path.{◌≡◌, refl, sym, ap, ap₂, ◌∙◌}
+use mathlib.Core.Path.{◌≡◌, refl, ap₂, ◌∙◌}
 use mathlib.Core.List.{List, [], ◌++◌}
-use lib.ListN.{length, take, get_or, set, length-append}
-use lib.Seq.{sets, take-suc, length-take-le}
-use Rattle.form.proofs.Runs.{sets-append, store-more}
+use lib.ListN.{length-append}
+use lib.Seq.{sets}
+use Rattle.form.proofs.Runs.{sets-append}
 use Rattle.lines.specs.Lines.{PutAt}
 
 -- a run behind a run
@@ -23,10 +22,3 @@ put_as e a = rw e at a
 
 pub put-none : (d : List ℕ) (at : ℕ) → PutAt d at [] d at
 put-none d at = record { next = omega arith; put = refl }
-
--- a copy
-pub copy_more : (d : List ℕ) (at : ℕ) (word d' : List ℕ) (j : ℕ) → j < length word → d' ≡ sets d at (take j word)
-    → set d' (at + j) (get_or word j 0) ≡ sets d at (take (j + 1) word)
-copy_more d at word d' j h e =
-    store-more d at (take j word) d' j (get_or word j 0) e (sym (length-take-le j word (omega arith)))
-    ∙ ap (sets d at) (sym (take-suc word j 0 h) ∙ ap (λ (k : ℕ). take k word) (sym (add-one j)))

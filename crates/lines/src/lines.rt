@@ -28,27 +28,19 @@ fn field_len(v: u32) -> usize
     number_len(v)
 }
 
-#[derive(Clone, Copy)]
-pub enum Room {
-    Left(usize),
-    Short,
-}
-
 // What is left of `room` bytes behind the numbers, each with a space before it.
-pub fn room_after(room: usize, numbers: &[u32]) -> Room
+pub fn room_after(room: usize, numbers: &[u32]) -> Option<usize>
     ensures { RoomIs room numbers.now result }
 {
     let mut left = room;
-    let mut j = 0;
-    while j < numbers.len() {
-        let n = field_len(numbers[j]);
-        if left <= n {
-            return Room::Short;
+    for n in numbers {
+        let k = field_len(*n);
+        if left <= k {
+            return None;
         }
-        left -= n + 1;
-        j += 1;
+        left -= k + 1;
     }
-    Room::Left(left)
+    Some(left)
 }
 
 fn digit(d: u32) -> u8
@@ -95,12 +87,8 @@ pub fn put_bytes(out: &mut [u8], at: usize, word: &[u8]) -> usize
     requires { at + length word.now ≤ length out.old }
     ensures { PutAt out.old at word.now out.new result }
 {
-    let mut j = 0;
-    while j < word.len() {
-        out[at + j] = word[j];
-        j += 1;
-    }
-    at + j
+    out[at..at + word.len()].copy_from_slice(word);
+    at + word.len()
 }
 
 // Writes each number with a space before it.
@@ -109,11 +97,9 @@ pub fn put_fields(out: &mut [u8], at: usize, numbers: &[u32]) -> usize
     ensures { PutAt out.old at (spaced numbers.now) out.new result }
 {
     let mut p = at;
-    let mut j = 0;
-    while j < numbers.len() {
+    for n in numbers {
         p = put_byte(out, p, b' ');
-        p = put_field(out, p, numbers[j]);
-        j += 1;
+        p = put_field(out, p, *n);
     }
     p
 }

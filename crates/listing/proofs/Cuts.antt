@@ -74,86 +74,86 @@ module _ (rows ends values₀ bounds₀ : List ℕ) where
   unfolding total
   cutting h = record { below = omega arith; climbs = h; back = omega arith; wide = refl; put = refl; noted = refl }
 
-  module _ (values bounds : List ℕ) (l first to j : ℕ) (g : Cutting rows ends values₀ bounds₀ values bounds l first to j) where
-    pub cut-sizes : (length values ≡ length values₀) × (length bounds ≡ length bounds₀)
-    cut-sizes =
-        let left : List (List ℕ) = cut (drop l widths) (drop l ends) first rows in (
-          sets-size values values₀ to 0 (flatten left) (flatten (all rows ends)) g.put,
-          sets-size bounds bounds₀ (j + 1) 1 (tails to left) (tails 0 (all rows ends)) g.noted,
-        )
+module _ {rows ends values₀ bounds₀ values bounds : List ℕ} {l first to j : ℕ} (g : Cutting rows ends values₀ bounds₀ values bounds l first to j) where
+  pub cut-sizes : (length values ≡ length values₀) × (length bounds ≡ length bounds₀)
+  cut-sizes =
+      let left : List (List ℕ) = cut (drop l widths) (drop l ends) first rows in (
+        sets-size values values₀ to 0 (flatten left) (flatten (all rows ends)) g.put,
+        sets-size bounds bounds₀ (j + 1) 1 (tails to left) (tails 0 (all rows ends)) g.noted,
+      )
 
-    pub cut-end : 15 ≤ l → (values ≡ sets values₀ 0 (flatten (all rows ends))) × (bounds ≡ sets bounds₀ 1 (tails 0 (all rows ends)))
-    unfolding cut flatten tails
-    cut-end h =
-        let e : l ≡ 15 = omega (arith, g.below) in (
-          ap (λ (i : ℕ). sets values to (flatten (cut (drop i widths) (drop l ends) first rows))) (sym e) ∙ g.put,
-          ap (λ (i : ℕ). sets bounds (j + 1) (tails to (cut (drop i widths) (drop l ends) first rows))) (sym e) ∙ g.noted,
-        )
+  pub cut-end : 15 ≤ l → (values ≡ sets values₀ 0 (flatten (all rows ends))) × (bounds ≡ sets bounds₀ 1 (tails 0 (all rows ends)))
+  unfolding cut flatten tails
+  cut-end h =
+      let e : l ≡ 15 = omega (arith, g.below) in (
+        ap (λ (i : ℕ). sets values to (flatten (cut (drop i widths) (drop l ends) first rows))) (sym e) ∙ g.put,
+        ap (λ (i : ℕ). sets bounds (j + 1) (tails to (cut (drop i widths) (drop l ends) first rows))) (sym e) ∙ g.noted,
+      )
 
-    module _ (t : l < 15) (size : length ends ≡ 15) (w : ℕ) (ew : w ≡ get_or widths l 0) (e : ℕ) (ee : e ≡ get_or ends l 0) where
-      climb : Climbs first (e ∷ drop (l + 1) ends) 32768
-      climb =
-          let q : drop l ends ≡ e ∷ drop (l + 1) ends =
-          drop-cons ends l 0 (omega arith) ∙ ap₂ (λ (x i : ℕ). x ∷ drop i ends) (sym ee) (sym (add-one l)) in
-          rw q at g.climbs
+  module _ (t : l < 15) (size : length ends ≡ 15) {w : ℕ} (ew : w ≡ get_or widths l 0) {e : ℕ} (ee : e ≡ get_or ends l 0) where
+    climb : Climbs first (e ∷ drop (l + 1) ends) 32768
+    climb =
+        let q : drop l ends ≡ e ∷ drop (l + 1) ends =
+        drop-cons ends l 0 (omega arith) ∙ ap₂ (λ (x i : ℕ). x ∷ drop i ends) (sym ee) (sym (add-one l)) in
+        rw q at g.climbs
 
-      pub cut_up : first ≤ e
-      cut_up = (climbs-head climb).0
+    pub cut_up : first ≤ e
+    cut_up = (climbs-head climb).0
 
-      pub cut-wide : (0 < w) × (w < 9) × (j + w < 35)
-      unfolding total
-      cut-wide =
-          let n = narrow l t in
-          let q : total (drop l widths) ≡ get_or widths l 0 + total (drop (suc l) widths) = ap total (drop-cons widths l 0 t) in
-          (omega (arith, n.0, ew), omega (arith, n.1, ew), omega (arith, q, g.wide, ew))
+    pub cut-wide : (0 < w) × (w < 9) × (j + w < 35)
+    unfolding total
+    cut-wide =
+        let n = narrow l t in
+        let q : total (drop l widths) ≡ get_or widths l 0 + total (drop (suc l) widths) = ap total (drop-cons widths l 0 t) in
+        (omega (arith, n.0, ew), omega (arith, n.1, ew), omega (arith, q, g.wide, ew))
 
-      pub cut-room : (first + (e - first) / w * w ≤ 32768) × (to + (e - first) / w * w ≤ 32768)
-      cut-room =
-          let m : (e - first) / w * w ≤ e - first = div-mul-le_self (e - first) w in
-          let k : e ≤ 32768 = climbs-limit (climbs-head climb).1 in
-          (omega (arith, cut_up), omega (arith, cut_up, g.back))
+    pub cut-room : (first + (e - first) / w * w ≤ 32768) × (to + (e - first) / w * w ≤ 32768)
+    cut-room =
+        let m : (e - first) / w * w ≤ e - first = div-mul-le_self (e - first) w in
+        let k : e ≤ 32768 = climbs-limit (climbs-head climb).1 in
+        (omega (arith, cut_up), omega (arith, cut_up, g.back))
 
-      pub cut-more : (values' bounds' : List ℕ) (to' : ℕ) → to' ≡ to + (e - first) / w * w
-          → values' ≡ sets values to (flatten (stripes w first ((e - first) / w) rows (up_to w)))
-          → bounds' ≡ sets bounds (j + 1) (tails to (stripes w first ((e - first) / w) rows (up_to w)))
-          → Cutting rows ends values₀ bounds₀ values' bounds' (l + 1) e to' (j + w)
-      unfolding cut total stripes
-      cut-more values' bounds' to' et ev eb =
-          record {
-            below = omega arith;
-            climbs = (climbs-head climb).1;
-            back = omega (arith, et, div-mul-le_self (e - first) w, cut_up, g.back);
-            wide = omega (arith, ap total (drop-cons widths l 0 t), ap (λ (i : ℕ). total (drop i widths)) (add-one l), g.wide, ew);
-            put =
-                ap₂ (λ (x : List ℕ) (i : ℕ). sets x i (flatten rest)) ev place
-                ∙ sets-append values to (flatten now) (flatten rest)
-                ∙ ap (sets values to) (sym (flatten-append now rest))
-                ∙ ap (λ (cs : List (List ℕ)). sets values to (flatten cs)) (sym whole)
-                ∙ g.put;
-            noted =
-                ap₂ (λ (x : List ℕ) (i : ℕ). sets x (j + w + 1) (tails i rest)) eb place
-                ∙ ap (λ (i : ℕ). sets (sets bounds (j + 1) (tails to now)) i (tails (to + length (flatten now)) rest)) {x = j + w + 1} {y = j + 1 + length (tails to now)}
-                (omega (arith, tails-length to now, count))
-                ∙ sets-append bounds (j + 1) (tails to now) (tails (to + length (flatten now)) rest)
-                ∙ ap (sets bounds (j + 1)) (sym (tails-append to now rest))
-                ∙ ap (λ (cs : List (List ℕ)). sets bounds (j + 1) (tails to cs)) (sym whole)
-                ∙ g.noted;
-          }
-        where
-          now : List (List ℕ)
-          now = stripes w first ((e - first) / w) rows (up_to w)
+    pub cut-more : (values' bounds' : List ℕ) (to' : ℕ) → to' ≡ to + (e - first) / w * w
+        → values' ≡ sets values to (flatten (stripes w first ((e - first) / w) rows (up_to w)))
+        → bounds' ≡ sets bounds (j + 1) (tails to (stripes w first ((e - first) / w) rows (up_to w)))
+        → Cutting rows ends values₀ bounds₀ values' bounds' (l + 1) e to' (j + w)
+    unfolding cut total stripes
+    cut-more values' bounds' to' et ev eb =
+        record {
+          below = omega arith;
+          climbs = (climbs-head climb).1;
+          back = omega (arith, et, div-mul-le_self (e - first) w, cut_up, g.back);
+          wide = omega (arith, ap total (drop-cons widths l 0 t), ap (λ (i : ℕ). total (drop i widths)) (add-one l), g.wide, ew);
+          put =
+              ap₂ (λ (x : List ℕ) (i : ℕ). sets x i (flatten rest)) ev place
+              ∙ sets-append values to (flatten now) (flatten rest)
+              ∙ ap (sets values to) (sym (flatten-append now rest))
+              ∙ ap (λ (cs : List (List ℕ)). sets values to (flatten cs)) (sym whole)
+              ∙ g.put;
+          noted =
+              ap₂ (λ (x : List ℕ) (i : ℕ). sets x (j + w + 1) (tails i rest)) eb place
+              ∙ ap (λ (i : ℕ). sets (sets bounds (j + 1) (tails to now)) i (tails (to + length (flatten now)) rest)) {x = j + w + 1} {y = j + 1 + length (tails to now)}
+              (omega (arith, tails-length to now, count))
+              ∙ sets-append bounds (j + 1) (tails to now) (tails (to + length (flatten now)) rest)
+              ∙ ap (sets bounds (j + 1)) (sym (tails-append to now rest))
+              ∙ ap (λ (cs : List (List ℕ)). sets bounds (j + 1) (tails to cs)) (sym whole)
+              ∙ g.noted;
+        }
+      where
+        now : List (List ℕ)
+        now = stripes w first ((e - first) / w) rows (up_to w)
 
-          rest : List (List ℕ)
-          rest = cut (drop (l + 1) widths) (drop (l + 1) ends) e rows
+        rest : List (List ℕ)
+        rest = cut (drop (l + 1) widths) (drop (l + 1) ends) e rows
 
-          count : length now ≡ w
-          count = length-map (up_to w) (λ (k : ℕ). stripe w (first + k) ((e - first) / w) rows) ∙ length-count_from 0 w
+        count : length now ≡ w
+        count = length-map (up_to w) (λ (k : ℕ). stripe w (first + k) ((e - first) / w) rows) ∙ length-count_from 0 w
 
-          place : to' ≡ to + length (flatten now)
-          place = et ∙ ap (λ (i : ℕ). to + i) (ap (λ (i : ℕ). (e - first) / w * i) (sym (length-count_from 0 w)) ∙ sym (stripes-size w first ((e - first) / w) rows (up_to w)))
+        place : to' ≡ to + length (flatten now)
+        place = et ∙ ap (λ (i : ℕ). to + i) (ap (λ (i : ℕ). (e - first) / w * i) (sym (length-count_from 0 w)) ∙ sym (stripes-size w first ((e - first) / w) rows (up_to w)))
 
-          whole : cut (drop l widths) (drop l ends) first rows ≡ now ++ rest
-          whole =
-              ap₂ (λ (ws es : List ℕ). cut ws es first rows)
-              (drop-cons widths l 0 t ∙ ap₂ (λ (x i : ℕ). x ∷ drop i widths) (sym ew) (sym (add-one l)))
-              (drop-cons ends l 0 (omega arith) ∙ ap₂ (λ (x i : ℕ). x ∷ drop i ends) (sym ee) (sym (add-one l)))
+        whole : cut (drop l widths) (drop l ends) first rows ≡ now ++ rest
+        whole =
+            ap₂ (λ (ws es : List ℕ). cut ws es first rows)
+            (drop-cons widths l 0 t ∙ ap₂ (λ (x i : ℕ). x ∷ drop i widths) (sym ew) (sym (add-one l)))
+            (drop-cons ends l 0 (omega arith) ∙ ap₂ (λ (x i : ℕ). x ∷ drop i ends) (sym ee) (sym (add-one l)))

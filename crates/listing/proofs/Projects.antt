@@ -1,6 +1,7 @@
 -- What was read is the text of one table, or of none.
 -- Assumes nothing.
-use Rattle.std.specs.Prelude.{◌≡◌, ℕ, suc, ◌+◌, ◌-◌, ◌*◌, ◌/◌, ◌<◌, ◌≤◌, true, List, [], ◌∷◌, ◌++◌, map, length, get_or, drop}
+use Rattle.tables.specs.declared.Refusal.TheVariants.{Text}
+use Rattle.std.specs.Prelude.{◌≡◌, ℕ, suc, ◌+◌, ◌-◌, ◌*◌, ◌/◌, ◌<◌, ◌≤◌, true, List, [], ◌∷◌, ◌++◌, map, length, get_or, drop, Option, Some, None, Ok, Err}
 use native.Mathlib.Omega.{arith}
 use native.Mathlib.Nat.{zero-mul, suc-mul, mul_comm, mul-div_cancel}
 use mathlib.Core.Path.{refl, sym, ap, ap₂, ◌∙◌, subst}
@@ -19,15 +20,11 @@ use Rattle.form.proofs.Injective as form
 use Rattle.form.proofs.Transposing.{transpose-length}
 use Rattle.named_form.specs.NamedForm.{NameList, name_section, list_fits, RendersNamed}
 use Rattle.name_list.specs.Lying.{NamesLie}
-use Rattle.name_list.specs.declared.Found.{Found}
-use Rattle.name_list.specs.declared.Found.TheVariants.{Names, Broken}
 use Rattle.text_rows.specs.inner.Cells.{widths, heads, texts, Wholes, stops}
-use Rattle.text_rows.specs.inner.Steps.{AllRead, AllIs, Room, Steps}
+use Rattle.text_rows.specs.inner.Steps.{AllRead, AllIs, start_of_text, Steps}
 use Rattle.listing.specs.inner.Columns.{cut, Climbs}
 use Rattle.listing.specs.Reading.{columns_of, values_of, bounds_of, tails, Reads}
-use Rattle.listing.specs.declared.Reading.TheVariants.{Refused, Read}
 use Rattle.text_rows.specs.declared.inner.Cursor.{Cursor}
-use Rattle.text_rows.specs.declared.inner.Cursor.TheVariants.{On, Off}
 use Rattle.listing.proofs.Cuts.{tails-length, flatten-append}
 use Rattle.listing.proofs.Tables.{row_values, Shaped, no-list, a-list, Positive, all, over, all-wholes, from-wholes, cut-columns, stops-climb, stops-length, rows-size}
 
@@ -193,7 +190,7 @@ module _ (s : List ℕ) (p : Project) (l : NameList) (r : RendersNamed s p l) wh
       let w = all-wholes names widths (lists p) refl (lists-shaped p) r.0 in
       (w.0, sym r.2 ∙ ap (λ (x : List ℕ). x ++ name_section l) (sym w.1))
 
-  pub read_off : (d d' e e' : List ℕ) → AllIs s heads d d' e e' 0 (On 0 0) Off → ⊥
+  pub read_off : (d d' e e' : List ℕ) → AllIs s heads d d' e e' 0 start_of_text None → ⊥
   read_off d d' e e' a = a vss (name_section l) row-text.0 row-text.1
 
 -- all lists were read, up to `at`
@@ -264,7 +261,7 @@ module _ (s d e : List ℕ) (at k : ℕ) (d' e' : List ℕ) (a : AllRead s heads
           ap (λ (n : ℕ). n / 8) {x = get_or e' 1 0 - 2} {y = r * 8} (omega (arith, first-sizes.0, first-sizes.1)) ∙ mul-div_cancel r (omega arith)
 
       -- something else behind the lists
-      pub read-broken : NamesLie s at ((get_or e' 1 0 - 2) / 8) Broken → (p : Project) (l : NameList) → RendersNamed s p l → ⊥
+      pub read-broken : NamesLie s at ((get_or e' 1 0 - 2) / 8) None → (p : Project) (l : NameList) → RendersNamed s p l → ⊥
       unfolding RendersNamed
       read-broken n p l r =
           let o = same p l r in
@@ -316,11 +313,11 @@ module _ (s d e : List ℕ) (at k : ℕ) (d' e' : List ℕ) (a : AllRead s heads
 
         pub accepted : (settings settings' bounds bounds' columns columns' : List ℕ) (from to : ℕ) → length s ≤ 65536
             → length settings ≡ 2 → length bounds ≡ 35 → length columns ≡ 32768
-            → NamesLie s at ((get_or e' 1 0 - 2) / 8) (Names from to)
+            → NamesLie s at ((get_or e' 1 0 - 2) / 8) (Some (from, to))
             → settings' ≡ sets settings 0 (get_or d' 0 0 ∷ get_or d' 1 0 ∷ [])
             → bounds' ≡ sets bounds 0 (0 ∷ tails 0 (cut (drop 1 widths) (drop 1 e') 2 d'))
             → columns' ≡ sets columns 0 (flatten (cut (drop 1 widths) (drop 1 e') 2 d'))
-            → Reads s settings settings' bounds bounds' columns columns' (Read (k - 2) from to)
+            → Reads s settings settings' bounds bounds' columns columns' (Ok (record { values = k - 2; from = from; to = to }))
         unfolding flatten
         accepted settings settings' bounds bounds' columns columns' from to h ls lb lc n es eb ec = (
           result,
@@ -338,43 +335,43 @@ module _ (s d e : List ℕ) (at k : ℕ) (d' e' : List ℕ) (a : AllRead s heads
         )
 
 -- the reader's answers
-module _ {s d d' e e' : List ℕ} {r : Cursor} (a : Steps s heads d d' e e' 0 (On 0 0) r) where
-  turned : (q : Cursor) → r ≡ q → Steps s heads d d' e e' 0 (On 0 0) q
-  turned q h = rw h at a
+module _ {s d d' e e' : List ℕ} {r : Option Cursor} (a : Steps s heads d d' e e' 0 start_of_text r) where
+  pub refuse-off : r ≡ None → (x y z : List ℕ) → Reads s x x y y z z (Err Text)
+  refuse-off h x y z = let b : Steps s heads d d' e e' 0 start_of_text None = rw h at a in (refl, (λ p l t. read_off s p l t.1 d d' e e' b.all), refl, refl, refl)
 
-  pub refuse-off : r ≡ Off → (x y z : List ℕ) → Reads s x x y y z z (Refused 7)
-  refuse-off h x y z = (refl, (λ p l t. read_off s p l t.1 d d' e e' (turned Off h).all), refl, refl, refl)
+  module _ (c : Cursor) (h : r ≡ Some c) (le : length e ≡ 15) where
+    turned : Steps s heads d d' e e' 0 start_of_text (Some c)
+    turned = rw h at a
 
-  module _ (at k : ℕ) (h : r ≡ On at k) (le : length e ≡ 15) where
-    lists-read : AllRead s heads 0 0 d e 0 at k d' e'
-    lists-read = (turned (On at k) h).all
+    lists-read : AllRead s heads 0 0 d e 0 c.at c.count d' e'
+    lists-read = turned.all
 
-    pub refuse-unsettled : (get_or e' 0 0 ≡ 2 → ⊥) → (x y z : List ℕ) → Reads s x x y y z z (Refused 7)
-    refuse-unsettled n x y z = (refl, (λ p l t. read-unsettled s d e at k d' e' lists-read le n p l t.1), refl, refl, refl)
+    pub refuse-unsettled : (get_or e' 0 0 ≡ 2 → ⊥) → (x y z : List ℕ) → Reads s x x y y z z (Err Text)
+    refuse-unsettled n x y z = (refl, (λ p l t. read-unsettled s d e c.at c.count d' e' lists-read le n p l t.1), refl, refl, refl)
 
     module _ (two : get_or e' 0 0 ≡ 2) where
       pub settled-end : 2 ≤ get_or e' 1 0
-      settled-end = modules-end s d e at k d' e' lists-read le two
+      settled-end = modules-end s d e c.at c.count d' e' lists-read le two
 
-      module _ {q : Found} (n : NamesLie s at ((get_or e' 1 0 - 2) / 8) q) where
-        pub refuse-broken : q ≡ Broken → (x y z : List ℕ) → Reads s x x y y z z (Refused 7)
-        refuse-broken b x y z = (refl, (λ p l t. read-broken s d e at k d' e' lists-read le two (rw b at n) p l t.1), refl, refl, refl)
+      module _ {q : Option (ℕ × ℕ)} (n : NamesLie s c.at ((get_or e' 1 0 - 2) / 8) q) where
+        pub refuse-broken : q ≡ None → (x y z : List ℕ) → Reads s x x y y z z (Err Text)
+        refuse-broken b x y z = (refl, (λ p l t. read-broken s d e c.at c.count d' e' lists-read le two (rw b at n) p l t.1), refl, refl, refl)
 
       module _ (ld : length d ≡ 32768) (ls : length s ≤ 65536) where
-        count_fits : k ≤ 32768
-        count_fits = let o : Room s (On at k) = (turned (On at k) h).room in omega (arith, o.1)
+        count_fits : c.count ≤ 32768
+        count_fits = let t = turned in omega (arith, t.room.1, t.room.0, ls)
 
         pub accept-climbs : Climbs 2 (drop 1 e') 32768 × (length e' ≡ 15)
-        accept-climbs = (ends-climb s d e at k d' e' lists-read le two ld count_fits, ends-size s d e at k d' e' lists-read le)
+        accept-climbs = (ends-climb s d e c.at c.count d' e' lists-read le two ld count_fits, ends-size s d e c.at c.count d' e' lists-read le)
 
-        pub accept-count : 2 ≤ k
-        accept-count = omega (arith, result-size s d e at k d' e' lists-read le two ld count_fits)
+        pub accept-count : 2 ≤ c.count
+        accept-count = omega (arith, result-size s d e c.at c.count d' e' lists-read le two ld count_fits)
 
-        pub accept : {q : Found} (from to : ℕ) → NamesLie s at ((get_or e' 1 0 - 2) / 8) q → q ≡ Names from to
+        pub accept : {q : Option (ℕ × ℕ)} (from to : ℕ) → NamesLie s c.at ((get_or e' 1 0 - 2) / 8) q → q ≡ Some (from, to)
             → (settings settings' bounds bounds' columns columns' : List ℕ) → length settings ≡ 2 → length bounds ≡ 35 → length columns ≡ 32768
             → settings' ≡ sets settings 0 (get_or d' 0 0 ∷ get_or d' 1 0 ∷ [])
             → bounds' ≡ sets bounds 0 (0 ∷ tails 0 (cut (drop 1 widths) (drop 1 e') 2 d'))
             → columns' ≡ sets columns 0 (flatten (cut (drop 1 widths) (drop 1 e') 2 d'))
-            → Reads s settings settings' bounds bounds' columns columns' (Read (k - 2) from to)
+            → Reads s settings settings' bounds bounds' columns columns' (Ok (record { values = c.count - 2; from = from; to = to }))
         accept {q} from to n g settings settings' bounds bounds' columns columns' hs hb hc =
-            accepted s d e at k d' e' lists-read le two ld count_fits settings settings' bounds bounds' columns columns' from to ls hs hb hc (rw g at n)
+            accepted s d e c.at c.count d' e' lists-read le two ld count_fits settings settings' bounds bounds' columns columns' from to ls hs hb hc (rw g at n)

@@ -62,53 +62,53 @@ module _ (rows values₀ bounds₀ : List ℕ) (first w n to j : ℕ) where
         noted = ap₂ (λ (i : ℕ) (ks : List ℕ). sets bounds₀ i (tails to (stripes w first n rows ks))) {x = j + 0 + 1} {y = j + 1} (omega arith) e;
       }
 
-  module _ (values bounds : List ℕ) (k at : ℕ) (g : Spreading rows values₀ bounds₀ first w n to j values bounds k at) where
-    pub spread-sizes : (length values ≡ length values₀) × (length bounds ≡ length bounds₀)
-    spread-sizes =
-        let all : List (List ℕ) = stripes w first n rows (up_to w) in
-        let left : List (List ℕ) = stripes w first n rows (count_from k (w - k)) in (
-          sets-size values values₀ at to (flatten left) (flatten all) g.put,
-          sets-size bounds bounds₀ (j + k + 1) (j + 1) (tails at left) (tails to all) g.noted,
-        )
+module _ {rows values₀ bounds₀ : List ℕ} {first w n to j : ℕ} {values bounds : List ℕ} {k at : ℕ} (g : Spreading rows values₀ bounds₀ first w n to j values bounds k at) where
+  pub spread-sizes : (length values ≡ length values₀) × (length bounds ≡ length bounds₀)
+  spread-sizes =
+      let all : List (List ℕ) = stripes w first n rows (up_to w) in
+      let left : List (List ℕ) = stripes w first n rows (count_from k (w - k)) in (
+        sets-size values values₀ at to (flatten left) (flatten all) g.put,
+        sets-size bounds bounds₀ (j + k + 1) (j + 1) (tails at left) (tails to all) g.noted,
+      )
 
-    -- the next column has room
-    pub spread-room : k < w → to + n * w ≤ 32768 → at + n ≤ 32768
-    spread-room h r =
-        let m : suc k * n ≤ w * n = mul-le-mul_right n h in
-        omega (arith, suc-mul k n, mul_comm n w, g.place)
+  -- the next column has room
+  pub spread-room : k < w → to + n * w ≤ 32768 → at + n ≤ 32768
+  spread-room h r =
+      let m : suc k * n ≤ w * n = mul-le-mul_right n h in
+      omega (arith, suc-mul k n, mul_comm n w, g.place)
 
-    pub spread-more : (values' : List ℕ) → k < w → values' ≡ sets values at (stripe w (first + k) n rows)
-        → Spreading rows values₀ bounds₀ first w n to j values' (set bounds (j + (k + 1)) (at + n)) (k + 1) (at + n)
-    unfolding stripes flatten tails
-    spread-more values' h e =
-        let s : List ℕ = stripe w (first + k) n rows in
-        let ls : List (List ℕ) = stripes w first n rows (count_from (k + 1) (w - (k + 1))) in
-        let l : length s ≡ n = stripe-length w (first + k) n rows in
-        let q : stripes w first n rows (count_from k (w - k)) ≡ s ∷ ls = ap (stripes w first n rows) (count-step k w h) in
-        record {
-          below = omega arith;
-          place = omega (arith, g.place, ap (λ (i : ℕ). i * n) (add-one k) ∙ suc-mul k n);
-          put =
-              ap₂ (λ (x : List ℕ) (i : ℕ). sets x i (flatten ls)) e (ap (λ (i : ℕ). at + i) (sym l))
-              ∙ sets-append values at s (flatten ls)
-              ∙ ap (λ (cs : List (List ℕ)). sets values at (flatten cs)) (sym q)
-              ∙ g.put;
-          noted =
-              ap₂ (λ (i m : ℕ). sets (set bounds i (at + n)) m (tails (at + n) ls)) {x = j + (k + 1)} {y = j + k + 1} {u = j + (k + 1) + 1} {v = suc (j + k + 1)} (omega arith) (omega arith)
-              ∙ ap (λ (i : ℕ). sets (set bounds (j + k + 1) (at + i)) (suc (j + k + 1)) (tails (at + i) ls)) (sym l)
-              ∙ ap (λ (cs : List (List ℕ)). sets bounds (j + k + 1) (tails at cs)) (sym q)
-              ∙ g.noted;
-        }
+  pub spread-more : (values' : List ℕ) → k < w → values' ≡ sets values at (stripe w (first + k) n rows)
+      → Spreading rows values₀ bounds₀ first w n to j values' (set bounds (j + k + 1) (at + n)) (k + 1) (at + n)
+  unfolding stripes flatten tails
+  spread-more values' h e =
+      let s : List ℕ = stripe w (first + k) n rows in
+      let ls : List (List ℕ) = stripes w first n rows (count_from (k + 1) (w - (k + 1))) in
+      let l : length s ≡ n = stripe-length w (first + k) n rows in
+      let q : stripes w first n rows (count_from k (w - k)) ≡ s ∷ ls = ap (stripes w first n rows) (count-step k w h) in
+      record {
+        below = omega arith;
+        place = omega (arith, g.place, ap (λ (i : ℕ). i * n) (add-one k) ∙ suc-mul k n);
+        put =
+            ap₂ (λ (x : List ℕ) (i : ℕ). sets x i (flatten ls)) e (ap (λ (i : ℕ). at + i) (sym l))
+            ∙ sets-append values at s (flatten ls)
+            ∙ ap (λ (cs : List (List ℕ)). sets values at (flatten cs)) (sym q)
+            ∙ g.put;
+        noted =
+            ap (λ (m : ℕ). sets (set bounds (j + k + 1) (at + n)) m (tails (at + n) ls)) {x = j + (k + 1) + 1} {y = suc (j + k + 1)} (omega arith)
+            ∙ ap (λ (i : ℕ). sets (set bounds (j + k + 1) (at + i)) (suc (j + k + 1)) (tails (at + i) ls)) (sym l)
+            ∙ ap (λ (cs : List (List ℕ)). sets bounds (j + k + 1) (tails at cs)) (sym q)
+            ∙ g.noted;
+      }
 
-    pub spread_end : w ≤ k
-        → (at ≡ to + n * w)
-        × (values ≡ sets values₀ to (flatten (stripes w first n rows (up_to w))))
-        × (bounds ≡ sets bounds₀ (j + 1) (tails to (stripes w first n rows (up_to w))))
-    unfolding stripes flatten tails
-    spread_end h =
-        let e : count_from k (w - k) ≡ [] = count-end k w h in
-        let q : k ≡ w = omega (arith, g.below) in (
-          g.place ∙ ap (λ (i : ℕ). to + i) (ap (λ (i : ℕ). i * n) q ∙ mul_comm w n),
-          ap (λ (ks : List ℕ). sets values at (flatten (stripes w first n rows ks))) (sym e) ∙ g.put,
-          ap (λ (ks : List ℕ). sets bounds (j + k + 1) (tails at (stripes w first n rows ks))) (sym e) ∙ g.noted,
-        )
+  pub spread_end : w ≤ k
+      → (at ≡ to + n * w)
+      × (values ≡ sets values₀ to (flatten (stripes w first n rows (up_to w))))
+      × (bounds ≡ sets bounds₀ (j + 1) (tails to (stripes w first n rows (up_to w))))
+  unfolding stripes flatten tails
+  spread_end h =
+      let e : count_from k (w - k) ≡ [] = count-end k w h in
+      let q : k ≡ w = omega (arith, g.below) in (
+        g.place ∙ ap (λ (i : ℕ). to + i) (ap (λ (i : ℕ). i * n) q ∙ mul_comm w n),
+        ap (λ (ks : List ℕ). sets values at (flatten (stripes w first n rows ks))) (sym e) ∙ g.put,
+        ap (λ (ks : List ℕ). sets bounds (j + k + 1) (tails at (stripes w first n rows ks))) (sym e) ∙ g.noted,
+      )

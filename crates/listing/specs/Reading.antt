@@ -1,6 +1,8 @@
--- What reading a text leaves: 01's 7, or the table that the text renders, and where its names lie.
+-- What reading a text leaves: 01's 7 (`Text`), or the table that the text renders, and where its names lie.
 -- Assumes nothing.
-use Rattle.std.specs.Prelude.{◌≡◌, ℕ, ◌+◌, ◌≤◌, List, [], ◌∷◌, length, drop}
+use Rattle.tables.specs.declared.Refusal.{Refusal}
+use Rattle.tables.specs.declared.Refusal.TheVariants.{Text}
+use Rattle.std.specs.Prelude.{◌≡◌, ℕ, ◌+◌, ◌≤◌, List, [], ◌∷◌, length, drop, None, Result, Ok, Err}
 use mathlib.Core.List.{flatten}
 use Rattle.tables.specs.Project.{Project}
 use Rattle.tables.specs.Answers.{after}
@@ -8,7 +10,6 @@ use Rattle.form.specs.Form.{lists}
 use Rattle.named_form.specs.NamedForm.{NameList, RendersNamed}
 use Rattle.name_list.specs.Lying.{LiesIn}
 use Rattle.listing.specs.declared.Reading.{Reading}
-use Rattle.listing.specs.declared.Reading.TheVariants.{Refused, Read}
 
 -- "text over 65,536 bytes or not the form below" is no text of a project with a list of names or without one
 abbrev pub IsText : List ℕ → Project → NameList → Type 0
@@ -37,9 +38,9 @@ bounds_of p = 0 ∷ tails 0 (columns_of p)
 
 -- the answer of reading s: 7 exactly if s is no text of a project, and then the lent slices are as they were; else the settings, the bounds and
 -- the columns of the project whose text s is, the columns from place 0, how many values they have, and where the names lie in s
-abbrev pub Reads : List ℕ → List ℕ → List ℕ → List ℕ → List ℕ → List ℕ → List ℕ → Reading → Type 0
-Reads s settings settings' bounds bounds' columns columns' (Refused n) =
-    (n ≡ 7) × ((p : Project) (l : NameList) → IsText s p l → ⊥) × (settings' ≡ settings) × (bounds' ≡ bounds) × (columns' ≡ columns)
-Reads s settings settings' bounds bounds' columns columns' (Read k from to) =
-    (p : Project) × (l : NameList) × IsText s p l × (k ≡ length (values_of p)) × (settings' ≡ settings_of p) × (bounds' ≡ bounds_of p)
-    × (columns' ≡ after 0 columns (values_of p)) × LiesIn s l from to
+abbrev pub Reads : List ℕ → List ℕ → List ℕ → List ℕ → List ℕ → List ℕ → List ℕ → Result Reading Refusal → Type 0
+Reads s settings settings' bounds bounds' columns columns' (Err n) =
+    (n ≡ Text) × ((p : Project) (l : NameList) → IsText s p l → ⊥) × (settings' ≡ settings) × (bounds' ≡ bounds) × (columns' ≡ columns)
+Reads s settings settings' bounds bounds' columns columns' (Ok r) =
+    (p : Project) × (l : NameList) × IsText s p l × (r.values ≡ length (values_of p)) × (settings' ≡ settings_of p) × (bounds' ≡ bounds_of p)
+    × (columns' ≡ after None columns (values_of p)) × LiesIn s l r.from r.to

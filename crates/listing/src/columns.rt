@@ -30,12 +30,8 @@ fn copy_column(
     requires { ((r : ℕ) → r < n → first + r * w < 32768) × (w < 9) × (to + n ≤ 32768) × (length columns.old ≡ 32768) }
     ensures { columns.new ≡ sets columns.old to (stripe w first n rows.now) }
 {
-    let mut r = 0;
-    let mut p = first;
-    while r < n {
-        columns[to + r] = rows[p];
-        r += 1;
-        p += w;
+    for r in 0..n {
+        columns[to + r] = rows[first + r * w];
     }
 }
 
@@ -56,13 +52,11 @@ fn spread_list(
     ensures columns_after { columns.new ≡ sets columns.old to (flatten (stripes w first n rows.now (up_to w))) }
     ensures bounds_after { bounds.new ≡ sets bounds.old (j + 1) (tails to (stripes w first n rows.now (up_to w))) }
 {
-    let mut k = 0;
     let mut at = to;
-    while k < w {
+    for k in 0..w {
         copy_column(rows, first + k, w, n, columns, at);
         at += n;
-        k += 1;
-        bounds[j + k] = at as u32;
+        bounds[j + k + 1] = at as u32;
     }
     at
 }
@@ -74,16 +68,14 @@ pub fn spread(rows: &[u32; 32768], ends: &[usize; 15], bounds: &mut [u32], colum
     ensures bounds_after { bounds.new ≡ sets bounds.old 0 (0 ∷ tails 0 (cut (drop 1 widths) (drop 1 ends.now) 2 rows.now)) }
 {
     bounds[0] = 0;
-    let mut l = 1;
     let mut first = 2;
     let mut to = 0;
     let mut j = 0;
-    while l < 15 {
+    for l in 1..15 {
         let w = width(l);
         let end = ends[l];
         to = spread_list(rows, bounds, columns, first, w, (end - first) / w, to, j);
         first = end;
         j += w;
-        l += 1;
     }
 }

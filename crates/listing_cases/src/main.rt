@@ -10,54 +10,49 @@
 use lines::{put_line, rising};
 use listing::{Reading, read};
 use parts::{first_of, part_of};
-use refusal::refusal_number;
+use refusal::test;
 use std::io;
 use streams::read_full;
-use table::{COLUMNS, RECORD_KIND, RECORD_MODULE, RECORD_TARGET, column};
-use tables::Answer;
-
-// A number, and the place behind the byte that ends it.
-#[derive(Clone, Copy)]
-struct Word(u32, usize);
-
-// How many bytes a text has so far, and where its next piece begins.
-#[derive(Clone, Copy)]
-struct Place(usize, usize);
-
-// The place behind the line that goes on at `at`.
-fn next_line(list: &[u8], at: usize) -> usize {
-    let mut i = at;
-    while i < list.len() {
-        if list[i] == 10 {
-            return i + 1;
-        }
-        i += 1;
-    }
-    i
-}
+use table::{COLUMNS, Table};
+use tables::Refusal;
 
 // The number with a digit more; 4294967295 where it is too large.
 fn with_digit(value: u32, digit: u8) -> u32 {
-    let n = value as u64 * 10 + digit as u64;
-    if 4294967295 < n {
-        return 4294967295;
-    }
-    n as u32
+    (value as u64 * 10 + digit as u64).min(4294967295) as u32
 }
 
-// The number whose digits begin at `at`.
-fn number(list: &[u8], at: usize) -> Word {
-    let mut value: u32 = 0;
-    let mut i = at;
-    while i < list.len() {
-        let b = list[i];
-        if b < 48 {
-            return Word(value, i + 1);
-        }
-        value = with_digit(value, b - 48);
-        i += 1;
+// What is left of the list.
+#[derive(Clone, Copy)]
+struct List<'a> {
+    left: &'a [u8],
+}
+
+impl<'a> List<'a> {
+    // Passes the next n bytes, or all where there are fewer.
+    fn take(&mut self, n: usize) -> &'a [u8] {
+        let left = self.left;
+        let (first, behind) = left.split_at_checked(n).unwrap_or((left, &[]));
+        self.left = behind;
+        first
     }
-    Word(value, i)
+
+    // Passes the line at hand.
+    fn pass_line(&mut self) {
+        let line = self.left.iter().take_while(|b| **b != b'\n').count();
+        self.take(line);
+        self.take(1);
+    }
+
+    // The number whose digits stand next, and passes the byte that ends it.
+    fn number(&mut self) -> u32 {
+        let digits = self.left.iter().take_while(|b| b'0' <= **b).count();
+        let mut value = 0;
+        for b in self.take(digits) {
+            value = with_digit(value, b.saturating_sub(b'0'));
+        }
+        self.take(1);
+        value
+    }
 }
 
 // Puts a byte, if there is room for it.
@@ -71,51 +66,19 @@ fn put_byte(text: &mut [u8], at: usize, b: u8) -> usize {
 
 fn put(text: &mut [u8], at: usize, bytes: &[u8]) -> usize {
     let mut p = at;
-    let mut j = 0;
-    while j < bytes.len() {
-        p = put_byte(text, p, bytes[j]);
-        j += 1;
+    for b in bytes {
+        p = put_byte(text, p, *b);
     }
     p
 }
 
 // Puts bytes as often as is said.
-fn put_rows(text: &mut [u8], at: usize, row: &[u8], times: usize) -> usize {
+fn put_rows(text: &mut [u8], at: usize, row: &[u8], times: u32) -> usize {
     let mut p = at;
-    let mut k = 0;
-    while k < times {
+    for _ in 0..times {
         p = put(text, p, row);
-        k += 1;
     }
     p
-}
-
-// The bytes from a place on.
-fn behind(list: &[u8], at: usize) -> &[u8] {
-    let end = list.len();
-    if end < at {
-        return list;
-    }
-    &list[at..end]
-}
-
-// The first n bytes, or all where there are fewer.
-fn first_bytes(list: &[u8], n: usize) -> &[u8] {
-    if list.len() <= n {
-        return list;
-    }
-    &list[0..n]
-}
-
-// A place n bytes further on; the place itself where there is no such number.
-fn sum(at: usize, n: usize) -> usize {
-    if 65536 < at {
-        return at;
-    }
-    if 65536 < n {
-        return at;
-    }
-    at + n
 }
 
 // Writes the first n bytes.
@@ -129,24 +92,18 @@ fn write_first(rt: &impl Print, out: &[u8], n: usize) -> io::Result<()> {
 fn print(rt: &impl Print, word: &[u8], entry: &[u32], numbers: &[u32]) -> io::Result<()> {
     let mut out = [0u8; 256];
     let answer = put_line(&mut out, word, entry, numbers);
-    let Answer::Counted(n) = answer else {
+    let Ok(n) = answer else {
         return Ok(());
     };
     write_first(rt, &out, n)
 }
 
-// The number of the project test.
-fn tested<'a>(settings: [u32; 2], bounds: &'a [u32], columns: &'a [u32], names: &'a [u8]) -> u32 {
-    refusal_number(
-        settings[0],
-        settings[1],
-        bounds,
-        columns,
-        names,
-        column(bounds, columns, RECORD_MODULE),
-        column(bounds, columns, RECORD_KIND),
-        column(bounds, columns, RECORD_TARGET),
-    )
+// The number of the project test, 0 where it is passed.
+fn tested(table: &Table) -> u32 {
+    match test(table) {
+        Ok(_) => 0,
+        Err(refusal) => refusal.number(),
+    }
 }
 
 // How many bytes a part of a text has.
@@ -178,7 +135,14 @@ fn counted<'a>(
     if 32768 < k {
         return Ok(());
     }
-    let number = tested(settings, bounds, first_of(columns, k), names);
+    let table = Table::new(
+        settings[0],
+        settings[1],
+        bounds,
+        first_of(columns, k),
+        names,
+    );
+    let number = tested(&table);
     print(
         rt,
         b"case",
@@ -195,12 +159,12 @@ fn answer(rt: &impl Print, case: u32, list: u32, text: &[u8]) -> io::Result<()> 
     let mut columns = [0u32; 32768];
     let answer = read(text, &mut settings, &mut bounds, &mut columns);
     match answer {
-        Reading::Refused(number) => print(rt, b"case", &[case, list], &[number]),
-        Reading::Read(k, from, to) => counted(
+        Err(refusal) => print(rt, b"case", &[case, list], &[refusal.number()]),
+        Ok(Reading { values, from, to }) => counted(
             rt,
             case,
             list,
-            k,
+            values,
             settings,
             &bounds,
             &columns,
@@ -210,54 +174,46 @@ fn answer(rt: &impl Print, case: u32, list: u32, text: &[u8]) -> io::Result<()> 
 }
 
 // Puts a piece of the list, as often as it says.
-fn put_piece(text: &mut [u8], list: &[u8], done: Place) -> Place {
-    let times = number(list, done.1);
-    let size = number(list, times.1);
-    let from = size.1;
-    let rest = behind(list, from);
-    let piece = first_bytes(rest, size.0 as usize);
-    let end = put_rows(text, done.0, piece, times.0 as usize);
-    Place(end, next_line(list, sum(from, piece.len())))
+fn put_piece(text: &mut [u8], at: usize, list: &mut List) -> usize {
+    let times = list.number();
+    let size = list.number();
+    let piece = list.take(size as usize);
+    list.pass_line();
+    put_rows(text, at, piece, times)
 }
 
-// Puts the pieces of a text.
-fn put_pieces(text: &mut [u8], list: &[u8], at: usize, pieces: u32) -> Place {
-    let mut done = Place(0, at);
-    let mut k = 0;
-    while k < pieces {
-        done = put_piece(text, list, done);
-        k += 1;
+// Puts the pieces of a text. How many bytes it has.
+fn put_pieces(text: &mut [u8], list: &mut List, pieces: u32) -> usize {
+    let mut at = 0;
+    for _ in 0..pieces {
+        at = put_piece(text, at, list);
     }
-    done
+    at
 }
 
-// Reads the text that stands at `at`, and prints the answer. The place behind it.
-fn run_case(rt: &impl Print, list: &[u8], at: usize) -> io::Result<usize> {
+// Reads the text that stands next, and prints the answer.
+fn run_case(rt: &impl Print, list: &mut List) -> io::Result<()> {
     let mut text = [0u8; 66000];
-    let case = number(list, next_line(list, at));
-    let changed = number(list, case.1);
-    let pieces = number(list, changed.1);
-    let done = put_pieces(&mut text, list, pieces.1, pieces.0);
-    answer(rt, case.0, changed.0, first_bytes(&text, done.0))?;
-    Ok(done.1)
+    list.pass_line();
+    let case = list.number();
+    let changed = list.number();
+    let pieces = list.number();
+    let size = put_pieces(&mut text, list, pieces);
+    answer(rt, case, changed, text.get(..size).unwrap_or(&text))
 }
 
 // Runs all texts of the list.
-fn run_cases(rt: &impl Print, list: &[u8]) -> io::Result<()> {
-    let many = number(list, 0);
-    let mut at = many.1;
-    let mut k = 0;
-    while k < many.0 {
-        at = run_case(rt, list, at)?;
-        k += 1;
+fn run_cases(rt: &impl Print, list: &mut List) -> io::Result<()> {
+    for _ in 0..list.number() {
+        run_case(rt, list)?;
     }
     Ok(())
 }
 
-fn line_answer(rt: &impl Print, answer: Answer) -> io::Result<()> {
+fn line_answer(rt: &impl Print, answer: Result<usize, Refusal>) -> io::Result<()> {
     match answer {
-        Answer::Refused(number) => print(rt, b"refused", &[], &[number]),
-        Answer::Counted(_) => print(rt, b"counted", &[], &[]),
+        Err(refusal) => print(rt, b"refused", &[], &[refusal.number()]),
+        Ok(_) => print(rt, b"counted", &[], &[]),
     }
 }
 
@@ -294,7 +250,7 @@ fn rising_cases(rt: &impl Print, marks: &[u32]) -> io::Result<()> {
 fn run_list(rt: &(impl Input + Print)) -> io::Result<()> {
     let mut list = [0u8; 65536];
     let n = read_full(&mut rt.reader(), &mut list)?;
-    run_cases(rt, &list[..n])
+    run_cases(rt, &mut List { left: &list[..n] })
 }
 
 fn main(rt: HostRuntime) -> io::Result<()> {

@@ -1,6 +1,6 @@
 -- The laws of the words on lists.
 -- Assumes nothing.
-use Rattle.std.specs.Prelude.{◌≡◌, ℕ, zero, suc, ◌+◌, ◌-◌, ◌<◌, ◌≤◌, Bool, true, false, cond, not, ◌&&◌, ◌||◌, eqb, ◌⊎◌, List, [], ◌∷◌, ◌++◌, map, length, get_or, take, drop, set, replicate}
+use Rattle.std.specs.Prelude.{◌≡◌, ℕ, zero, suc, ◌+◌, ◌-◌, ◌<◌, ◌≤◌, Bool, true, false, cond, not, ◌&&◌, ◌||◌, eqb, ◌⊎◌, List, [], ◌∷◌, ◌++◌, map, length, get_or, take, drop, set}
 use mathlib.Core.Path.{refl, sym, ap, subst, fun_ext, ◌∙◌}
 use mathlib.Core.Logic.{inl, inr, ⊎_elim}
 use mathlib.Core.Bool.{true≢false, false≢true}
@@ -10,7 +10,7 @@ use native.Mathlib.Nat.{not-suc-le-zero, eq-or-lt_of_le, zero-add, add-zero, add
 use native.Mathlib.Numerals.{add-one}
 use native.Mathlib.Omega.{arith}
 use native.Mathlib.Decide.{dec_lt}
-use lib.ListN.{replicate-append-replicate, length-map, get_or-eq_default}
+use lib.ListN.{length-map, get_or-eq_default}
 use lib.Seq.{ext_get_or, drop-cons, set_at, append_snoc, take-suc}
 use borrow.Author.Tests.{eq-eqb, eqb-true}
 use Rattle.lists.specs.Words.{is_zero, count_from, up_to, keep, any, every, elem, has, zeros, ones, bit, marks_from, marks_of, Distinct}
@@ -282,24 +282,8 @@ front-more xs ys i x e l =
     ∙ sym (append_snoc xs x (drop (suc i) ys))
     ∙ ap (λ (j : ℕ). xs ++ (x ∷ []) ++ drop j ys) (sym (add-one i))
 
-pub replicate_more : (i x : ℕ) → replicate i x ++ (x ∷ []) ≡ replicate (i + 1) x
-replicate_more i x = replicate-append-replicate i 1 x
-
 pub take_more : (xs : List ℕ) (i : ℕ) → i < length xs → take i xs ++ (get_or xs i 0 ∷ []) ≡ take (i + 1) xs
 take_more xs i l = sym (ap (λ (j : ℕ). take j xs) (add-one i) ∙ take-suc xs i 0 l)
-
--- the marks that are left
-
-pub ones_in : (s : List ℕ) (i : ℕ) → i < length s → (get_or s i 0 ≡ 0 → ⊥) → ones (drop i s) ≡ suc (ones (drop (i + 1) s))
-ones_in s i l n = ap ones (drop-cons s i 0 l) ∙ one (get_or s i 0) n ∙ ap (λ (j : ℕ). suc (ones (drop j s))) (sym (add-one i))
-  where
-    one : (x : ℕ) → (x ≡ 0 → ⊥) → ones (x ∷ drop (suc i) s) ≡ suc (ones (drop (suc i) s))
-    one zero e = absurd (e refl)
-    one (suc x) e = refl
-
-pub ones-out : (s : List ℕ) (i : ℕ) → i < length s → get_or s i 0 ≡ 0 → ones (drop i s) ≡ ones (drop (i + 1) s)
-ones-out s i l e =
-    ap ones (drop-cons s i 0 l) ∙ ap (λ (x : ℕ). ones (x ∷ drop (suc i) s)) e ∙ ap (λ (j : ℕ). ones (drop j s)) (sym (add-one i))
 
 -- those that pass, from place i on
 

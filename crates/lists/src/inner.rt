@@ -6,11 +6,7 @@ ghost use Rattle.lists.specs.Words.{ones};
 pub fn fill(slots: &mut [u32], value: u32)
     ensures { slots.new ≡ replicate (length slots.old) value }
 {
-    let mut i = 0;
-    while i < slots.len() {
-        slots[i] = value;
-        i += 1;
-    }
+    slots.fill(value);
 }
 
 // Copies a slice to the front of another.
@@ -18,24 +14,18 @@ pub fn copy_to(source: &[u32], target: &mut [u32])
     requires { length source.now ≤ length target.old }
     ensures { target.new ≡ source.now ++ drop (length source.now) target.old }
 {
-    let mut i = 0;
-    while i < source.len() {
-        target[i] = source[i];
-        i += 1;
-    }
+    target[..source.len()].copy_from_slice(source);
 }
 
-// How many marks are not 0.
+// How many marks are not 0. Tried, slower: a chain that ends in `count`.
 pub fn count_marked(marks: &[u32]) -> usize
     ensures { result ≡ ones marks.now }
 {
     let mut count = 0;
-    let mut i = 0;
-    while i < marks.len() {
-        if marks[i] != 0 {
+    for mark in marks {
+        if *mark != 0 {
             count += 1;
         }
-        i += 1;
     }
     count
 }

@@ -1,5 +1,6 @@
 -- The load theorem of specs/Load, inhabited.
 -- Assumes nothing.
+use Rattle.std.specs.Prelude.{None}
 use mathlib.Core.Path.{◌≡◌, refl, sym, ap, subst, ◌∙◌}
 use mathlib.Core.Logic.{◌⊎◌, inl, inr, ⊎_elim}
 use mathlib.Core.Bool.{Bool, true, false, cond, not, ◌&&◌, true≢false}
@@ -102,7 +103,7 @@ module _ (p : Project) (m : ℕ) (e : eligible p m ≡ true) where
 sensitive-other : (p : Project) (m : ℕ) → sensitive p m ≡ true → eqb m p.runtime ≡ false
 sensitive-other p m e = not-true (eqb m p.runtime) (and_parts (not (eqb m p.runtime)) _ (sym (sensitive-is p m) ∙ e)).0
 
-module _ (p : Project) (ok : refusal p ≡ 0) (plain : Plain p) where
+module _ (p : Project) (ok : refusal p ≡ None) (plain : Plain p) where
   abbrev planned : ℕ → Bool
   planned m = has (whole_plan p) m
 

@@ -11,16 +11,15 @@ use lib.ListN.{length, get_or}
 use lib.Dec.{eqb, ltb}
 use borrow.Author.Tests.{eq-eqb, eqb-true, eqb-false, lt-ltb, ltb-true}
 use Rattle.lists.specs.Words.{up_to, any, every, elem, has}
-use Rattle.lists.proofs.Laws.{both, not-true, and-join, iff-eq, mem-keep, keep-mem, any-mem, mem-any, every-mem, up_to-mem, mem-elem, elem_mem}
+use Rattle.lists.proofs.Laws.{both, not-true, and-join, iff-eq, mem-keep, keep-mem, mem-any, every-mem, up_to-mem, mem-elem, elem_mem}
 use Rattle.lists.proofs.Members.{mem-flat, flat-mem}
 use Rattle.walk.specs.Walk.{everywhere, post_order}
 use Rattle.walk.specs.Reach.{here, ReachAny, passing}
 use Rattle.walk.proofs.Orders.{order-followed, reach-order}
 use Rattle.tables.specs.Project.{Project, missing}
-use Rattle.tables.specs.Readings.{modules, is_normal, wrapped, is_import, is_eager, any_target, normal_target, resolved, row_targets, targets_of, rows_of, values_of, analysed_row, analysed, is_analysed}
+use Rattle.tables.specs.Readings.{modules, is_normal, wrapped, is_import, is_eager, any_target, normal_target, resolved, row_targets, targets_of, rows_of, values_of}
 use Rattle.tables.specs.declared.Target.TheVariants.{Missing, External, Normal}
 use Rattle.tables.proofs.Targets.{normal-in}
-use Rattle.tables.proofs.OwnerRows.{mem-rows}
 use Rattle.entry_run.specs.Actual.{triggered, read_as_two}
 use Rattle.eligibility.specs.Eligible.{eligible}
 use Rattle.wrap_rules.specs.Rules.{imports_of, leads, import_asks}

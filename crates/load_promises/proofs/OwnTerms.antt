@@ -1,40 +1,36 @@
 -- Demand 2 at the operations' own terms, proved.
 -- Assumes nothing.
 use mathlib.Core.Path.{◌≡◌, refl, sym, ap, subst, ◌∙◌}
-use mathlib.Core.Logic.{◌↔◌, ⊎_elim}
-use mathlib.Core.Bool.{Bool, true, false, cond, not, ◌&&◌}
+use mathlib.Core.Logic.{⊎_elim}
+use mathlib.Core.Bool.{Bool, true, false, cond}
 use mathlib.Core.List.Memᴰ
 use mathlib.Core.List.{List, [], ◌∷◌, Memᴰ}
-use Prim.Native.Nat.{ℕ, ◌≤◌, ◌<◌}
+use Prim.Native.Nat.{ℕ, ◌<◌}
 use native.Mathlib.Omega.{arith}
 use lib.ListN.{length, get_or}
 use lib.Dec.{eqb}
 use borrow.Author.Tests.{eqb-true, eqb-false, eq-eqb, ne_eqb}
-use Rattle.lists.specs.Words.{up_to, keep, elem, any, has}
-use Rattle.lists.proofs.Laws.{both, mem-keep, keep-mem, mem-up_to, up_to-mem, elem_mem, mem-elem, any-mem, mem-any}
+use Rattle.lists.specs.Words.{up_to, keep, has}
+use Rattle.lists.proofs.Laws.{both, mem-keep, mem-up_to, elem_mem, mem-elem, any-mem, mem-any}
 use Rattle.lists.proofs.Members.{mem-flat, flat-mem}
 use Rattle.walk.specs.Walk.{everywhere, post_order}
 use Rattle.walk.specs.Reach.{Reach, here, step, ReachAny}
 use Rattle.walk.proofs.Orders.{all-reach, reach-all}
 use Rattle.tables.specs.Project.{Project, missing}
 use Rattle.tables.specs.declared.Target.{Target}
-use Rattle.tables.specs.Readings.{modules, chunks, is_normal, is_import, rows_of, resolved, normal_target, any_target, row_targets, targets_of, analysed, analysed_row, is_analysed}
-use Rattle.tables.specs.Refusal.{refusal}
+use Rattle.tables.specs.Readings.{modules, is_normal, is_import, rows_of, resolved, normal_target, any_target, row_targets, targets_of, analysed, analysed_row, is_analysed}
 use Rattle.tables.specs.Accepted.{Accepted}
 use Rattle.tables.proofs.Accepted.{accepted}
-use Rattle.tables.proofs.Targets.{normal-in}
 use Rattle.tables.proofs.OwnerRows.{mem-rows, rows-mem}
-use Rattle.evaluation.specs.Premises.{Premises, evaluate_from}
 use Rattle.evaluation.proofs.Expected.{evaluation-gives-the-expected-order}
-use Rattle.chunk_cycles.specs.Cycles.{label_at}
-use Rattle.chunk_cycles.specs.Paths.{Edge, Path*, Path⁺, Connected, Cyclic, Lowest, stay as stay*, go as go*}
-use Rattle.chunk_cycles.proofs.Paths.{cyclic-circle, label-lowest, label-mark, same-labels, reach-paths}
+use Rattle.chunk_cycles.specs.Paths.{Path*, Path⁺, Connected, stay as stay*, go as go*}
+use Rattle.chunk_cycles.proofs.Paths.{cyclic-circle, label-lowest, same-labels, reach-paths}
 use Rattle.chunk_cycles.proofs.OverTable.{accepted-fit}
 use Rattle.wrap_rules.specs.Rules.{imports_of, leads}
 use Rattle.wrap_rules.specs.Plan.{roots, reached}
 use Rattle.wrap_rules.proofs.Roots.{root_in}
 use Rattle.load_promises.specs.Load.{normal_imports}
-use Rattle.load_promises.specs.OwnTerms.{EvaluationExecutesTheExpectedOrder, StronglyConnected, LabelsAreStrongConnection, ImportRow, RecordPath, stay, go, ReachedIsAPath, LeadsIsAPath}
+use Rattle.load_promises.specs.OwnTerms.{EvaluationExecutesTheExpectedOrder, LabelsAreStrongConnection, ImportRow, RecordPath, stay, go, ReachedIsAPath, LeadsIsAPath}
 use Rattle.promises.proofs.Theorems.{analysed-root}
 use Rattle.load_promises.proofs.LoadEvaluation.{expected-normal}
 

@@ -1,6 +1,6 @@
 -- The load theorem: with its plan, a load runs the sensitive modules in their expected order.
 -- Assumes nothing.
-use Rattle.std.specs.Prelude.{◌≡◌, Bool, true, not, ◌&&◌, ◌||◌, List, ℕ, length, get_or, eqb}
+use Rattle.std.specs.Prelude.{◌≡◌, Bool, true, not, ◌&&◌, ◌||◌, List, ℕ, length, get_or, eqb, None}
 use Rattle.lists.specs.Words.{up_to, keep, every, elem}
 use Rattle.tables.specs.Project.{Project}
 use Rattle.tables.specs.Readings.{modules, is_normal, is_import, normal_target, targets_of, rows_of, values_of, is_analysed}
@@ -63,5 +63,5 @@ pub record Plain (p : Project) : Type 0 where
 -- sensitive in the project as written in the entry's expected sensitive order
 unfoldable pub PlannedLoadKeepsTheOrder : Type 0
 PlannedLoadKeepsTheOrder =
-    (p : Project) (root : ℕ) → refusal p ≡ 0 → Plain p → is_analysed p root ≡ true
+    (p : Project) (root : ℕ) → refusal p ≡ None → Plain p → is_analysed p root ≡ true
     → keep (sensitive p) (run_of p (planned_wraps p) root).listed ≡ expected_sensitive_of p root

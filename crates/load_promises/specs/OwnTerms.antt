@@ -1,6 +1,6 @@
 -- Demand 2 at the terms that the operations promise: ECMA-262's order, strong connection, and rule (iii)'s "reached" and "leads to" as paths.
 -- Assumes nothing.
-use Rattle.std.specs.Prelude.{◌≡◌, ◌↔◌, Bool, true, List, ℕ, ◌+◌, ◌≤◌, ◌<◌, length, get_or}
+use Rattle.std.specs.Prelude.{◌≡◌, ◌↔◌, Bool, true, List, ℕ, ◌≤◌, ◌<◌, length, get_or, None}
 use Rattle.lists.specs.Words.{has}
 use Rattle.walk.specs.Walk.{everywhere}
 use Rattle.tables.specs.Project.{Project, missing}
@@ -28,7 +28,7 @@ pub record StronglyConnected (p : Project) : Type 0 where
   pub reach : (c : ℕ) → c < chunks p → (reaches_cycle_of p c ≡ true) ↔ ((d : ℕ) × Path* p c d × Path⁺ p d d)
 
 unfoldable pub LabelsAreStrongConnection : Type 0
-LabelsAreStrongConnection = (p : Project) → refusal p ≡ 0 → StronglyConnected p
+LabelsAreStrongConnection = (p : Project) → refusal p ≡ None → StronglyConnected p
 
 -- a kind 0 record from m to t, where t passes
 pub record ImportRow (p : Project) (passes : ℕ → Bool) (m t : ℕ) : Type 0 where
@@ -48,10 +48,10 @@ pub data RecordPath (p : Project) (passes : ℕ → Bool) : ℕ → ℕ → Type
 -- (iii) "reached by kind 0 records over normal modules from an analysed entry, the entry itself counted"
 unfoldable pub ReachedIsAPath : Type 0
 ReachedIsAPath =
-    (p : Project) → refusal p ≡ 0 → (m : ℕ) → (reached p m ≡ true) ↔ ((root : ℕ) × (is_analysed p root ≡ true) × RecordPath p (is_normal p.normal) root m)
+    (p : Project) → refusal p ≡ None → (m : ℕ) → (reached p m ≡ true) ↔ ((root : ℕ) × (is_analysed p root ≡ true) × RecordPath p (is_normal p.normal) root m)
 
 -- (iii) "is planned or leads to a planned module by kind 0 records", with any set of modules planned
 unfoldable pub LeadsIsAPath : Type 0
 LeadsIsAPath =
-    (p : Project) → refusal p ≡ 0 → (S : List ℕ) (t : ℕ) → t < modules p
+    (p : Project) → refusal p ≡ None → (S : List ℕ) (t : ℕ) → t < modules p
     → (leads p S t ≡ true) ↔ ((x : ℕ) × RecordPath p everywhere t x × (has S x ≡ true))

@@ -2,7 +2,7 @@
 #![tactic(auto)]
 
 ghost use Rattle.std.specs.Prelude.{◌≡◌};
-ghost use Rattle.arrangement.specs.OfProject.{lent_named, lent_named_with};
+ghost use Rattle.arrangement.specs.OfProject.{as_named};
 ghost use Rattle.load_trial.specs.Promise.{load_step, LoadRun};
 
 use analysed_entries::inner::find_entry;
@@ -10,78 +10,55 @@ use current_columns::inner::read_current;
 use plan_conditions::inner::plan_fits;
 use planned_load::LoadStep;
 use planned_load::inner::{run_planned, step_planned};
-use refusal::refusal_number;
-use table::{
-    DEPENDENCY, MEMBER, NORMAL, RECORD_KIND, RECORD_MODULE, RECORD_TARGET, ROW_LIMIT, column, rows,
-};
-use tables::{Answer, ModuleIdx};
+use refusal::test;
+use table::{DEPENDENCY, MEMBER, NORMAL, ROW_LIMIT, Table};
+use tables::{ModuleIdx, Refusal};
 
-// A step of an analysed entry's load with a plan, 0 or 1 for each module, by its number from 0, of a table whose import records are lent beside it.
-pub fn load_step_with_records<'a>(
-    runtime: u32,
-    dynamic: u32,
-    bounds: &'a [u32],
-    columns: &'a [u32],
-    names: &'a [u8],
-    importers: &'a [u32],
-    kinds: &'a [u32],
-    targets: &'a [u32],
+// A step of an analysed entry's load with a plan, 0 or 1 for each module, by its number from 0; none past the last.
+#[tactic(auto, unfolding(table::specs::Table::table, table::specs::Table::read, table::specs::Table::current, arrangement::specs::OfProject::named, tables::specs::Readings::is_analysed, crate::specs::Promise::load_step))]
+pub fn load_step(
+    table: &Table,
     root: u32,
-    plan: &'a [u32],
+    plan: &[u32],
     number: u32,
-) -> LoadStep
-    ensures { result ≡ load_step (lent_named_with runtime dynamic bounds.now columns.now names.now importers.now kinds.now targets.now) root plan.now number }
+) -> Result<Option<LoadStep>, Refusal>
+    ensures { result ≡ load_step (as_named table.now) root plan.now number }
 {
-    let refused = refusal_number(
-        runtime, dynamic, bounds, columns, names, importers, kinds, targets,
-    );
-    if refused != 0 {
-        return LoadStep::Refused(refused);
-    }
-    let modules = rows(bounds, columns, NORMAL);
-    let dependencies = column(bounds, columns, DEPENDENCY);
-    let members = column(bounds, columns, MEMBER);
+    test(table)?;
+    let modules = table.rows(NORMAL);
+    let dependencies = table.column(DEPENDENCY);
+    let members = table.column(MEMBER);
     let chunk = find_entry(
-        runtime,
-        dynamic,
-        bounds,
-        columns,
-        importers,
-        kinds,
-        targets,
+        table.runtime,
+        table.dynamic,
+        table.bounds,
+        table.columns,
+        table.importers,
+        table.kinds,
+        table.targets,
         dependencies,
         members,
         root,
     );
     if chunk == ModuleIdx::MISSING {
-        return LoadStep::Refused(5);
+        return Err(Refusal::Argument);
     }
     if !plan_fits(plan, modules) {
-        return LoadStep::Refused(9);
+        return Err(Refusal::PlanForm);
     }
     let mut read_targets = [0u32; ROW_LIMIT];
     let mut read_dependencies = [0u32; ROW_LIMIT];
-    read_current(
-        runtime,
-        dynamic,
-        bounds,
-        columns,
-        importers,
-        kinds,
-        targets,
-        &mut read_targets,
-        &mut read_dependencies,
-    );
-    let records = targets.len();
-    let dependency_rows = rows(bounds, columns, DEPENDENCY);
-    step_planned(
-        runtime,
-        dynamic,
-        bounds,
-        columns,
-        names,
-        importers,
-        kinds,
+    read_current(table, &mut read_targets, &mut read_dependencies);
+    let records = table.targets.len();
+    let dependency_rows = table.rows(DEPENDENCY);
+    let step = step_planned(
+        table.runtime,
+        table.dynamic,
+        table.bounds,
+        table.columns,
+        table.names,
+        table.importers,
+        table.kinds,
         &read_targets[..records],
         &read_dependencies[..dependency_rows],
         members,
@@ -89,112 +66,62 @@ pub fn load_step_with_records<'a>(
         root,
         chunk,
         number,
-    )
+    );
+    Ok(step)
 }
 
-// A step of an analysed entry's load with a plan, 0 or 1 for each module, by its number from 0.
-pub fn load_step<'a>(
-    runtime: u32,
-    dynamic: u32,
-    bounds: &'a [u32],
-    columns: &'a [u32],
-    names: &'a [u8],
-    root: u32,
-    plan: &'a [u32],
-    number: u32,
-) -> LoadStep
-    ensures { result ≡ load_step (lent_named runtime dynamic bounds.now columns.now names.now) root plan.now number }
-{
-    load_step_with_records(
-        runtime,
-        dynamic,
-        bounds,
-        columns,
-        names,
-        column(bounds, columns, RECORD_MODULE),
-        column(bounds, columns, RECORD_KIND),
-        column(bounds, columns, RECORD_TARGET),
-        root,
-        plan,
-        number,
-    )
-}
-
-// All steps of an analysed entry's load with a plan, of a table whose import records are lent beside it: place n of `steps` is step n's module, and place n
-// of `hosts` its host. The count is that of the steps.
+// All steps of an analysed entry's load with a plan: place n of `steps` is step n's module, and place n of `hosts` its host. The count is that of the steps.
 #[tactic(auto, unfolding(table::specs::Table::table, table::specs::Table::read, table::specs::Table::current, arrangement::specs::OfProject::named, tables::specs::Readings::is_analysed))]
-pub fn load_run_with_records<'a>(
-    runtime: u32,
-    dynamic: u32,
-    bounds: &'a [u32],
-    columns: &'a [u32],
-    names: &'a [u8],
-    importers: &'a [u32],
-    kinds: &'a [u32],
-    targets: &'a [u32],
+pub fn load_run(
+    table: &Table,
     root: u32,
-    plan: &'a [u32],
+    plan: &[u32],
     steps: &mut [u32],
     hosts: &mut [u32],
-) -> Answer
-    ensures { LoadRun (lent_named_with runtime dynamic bounds.now columns.now names.now importers.now kinds.now targets.now) root plan.now steps.old hosts.old result steps.new hosts.new }
+) -> Result<usize, Refusal>
+    ensures { LoadRun (as_named table.now) root plan.now steps.old hosts.old result steps.new hosts.new }
 {
-    let refused = refusal_number(
-        runtime, dynamic, bounds, columns, names, importers, kinds, targets,
-    );
-    if refused != 0 {
-        return Answer::Refused(refused);
-    }
-    let places = rows(bounds, columns, NORMAL);
-    let dependencies = column(bounds, columns, DEPENDENCY);
-    let members = column(bounds, columns, MEMBER);
+    test(table)?;
+    let places = table.rows(NORMAL);
+    let dependencies = table.column(DEPENDENCY);
+    let members = table.column(MEMBER);
     let start = find_entry(
-        runtime,
-        dynamic,
-        bounds,
-        columns,
-        importers,
-        kinds,
-        targets,
+        table.runtime,
+        table.dynamic,
+        table.bounds,
+        table.columns,
+        table.importers,
+        table.kinds,
+        table.targets,
         dependencies,
         members,
         root,
     );
     if start == ModuleIdx::MISSING {
-        return Answer::Refused(5);
+        return Err(Refusal::Argument);
     }
     if !plan_fits(plan, places) {
-        return Answer::Refused(9);
+        return Err(Refusal::PlanForm);
     }
     if steps.len() < places {
-        return Answer::Refused(6);
+        return Err(Refusal::ShortSlice);
     }
     if hosts.len() < places {
-        return Answer::Refused(6);
+        return Err(Refusal::ShortSlice);
     }
     let mut read_targets = [0u32; ROW_LIMIT];
     let mut read_dependencies = [0u32; ROW_LIMIT];
-    read_current(
-        runtime,
-        dynamic,
-        bounds,
-        columns,
-        importers,
-        kinds,
-        targets,
-        &mut read_targets,
-        &mut read_dependencies,
-    );
-    let records = targets.len();
-    let dependency_rows = rows(bounds, columns, DEPENDENCY);
+    read_current(table, &mut read_targets, &mut read_dependencies);
+    let records = table.targets.len();
+    let dependency_rows = table.rows(DEPENDENCY);
     let count = run_planned(
-        runtime,
-        dynamic,
-        bounds,
-        columns,
-        names,
-        importers,
-        kinds,
+        table.runtime,
+        table.dynamic,
+        table.bounds,
+        table.columns,
+        table.names,
+        table.importers,
+        table.kinds,
         &read_targets[..records],
         &read_dependencies[..dependency_rows],
         members,
@@ -204,35 +131,5 @@ pub fn load_run_with_records<'a>(
         root,
         start,
     );
-    Answer::Counted(count)
-}
-
-// All steps of an analysed entry's load with a plan: place n of `steps` is step n's module, and place n of `hosts` its host. The count is that of the steps.
-pub fn load_run<'a>(
-    runtime: u32,
-    dynamic: u32,
-    bounds: &'a [u32],
-    columns: &'a [u32],
-    names: &'a [u8],
-    root: u32,
-    plan: &'a [u32],
-    steps: &mut [u32],
-    hosts: &mut [u32],
-) -> Answer
-    ensures { LoadRun (lent_named runtime dynamic bounds.now columns.now names.now) root plan.now steps.old hosts.old result steps.new hosts.new }
-{
-    load_run_with_records(
-        runtime,
-        dynamic,
-        bounds,
-        columns,
-        names,
-        column(bounds, columns, RECORD_MODULE),
-        column(bounds, columns, RECORD_KIND),
-        column(bounds, columns, RECORD_TARGET),
-        root,
-        plan,
-        steps,
-        hosts,
-    )
+    Ok(count)
 }

@@ -1,10 +1,11 @@
 -- The operations as calls, and what each leaves by the definitions that its contract cites.
 -- Assumes nothing.
-use Rattle.std.specs.Prelude.{List, [], ◌∷◌, map, ℕ, length}
+use Rattle.std.specs.Prelude.{List, [], ◌∷◌, map, ℕ, length, Option}
 use Rattle.lists.specs.Words.{ones, bit}
 use Rattle.tables.specs.Project.{Project}
 use Rattle.tables.specs.Refusal.{refusal}
-use Rattle.tables.specs.Answers.{counted, after}
+use Rattle.tables.specs.declared.Refusal.{Refusal}
+use Rattle.tables.specs.Answers.{number_of, counted, after}
 use Rattle.table.specs.Table.{current, Lent}
 use Rattle.sort_modules.specs.OfProject.{numbers_of, sorted_of}
 use Rattle.sort_modules.specs.Promise.{sort_verdict}
@@ -48,9 +49,9 @@ pub record Outcome : Type 0 where
   pub count : ℕ
   pub slices : List (List ℕ)
 
--- the outcome of a call whose number is v: its count where it is accepted, and each slice as lent and as it is to be written
-abbrev pub outcome : ℕ → ℕ → List (List ℕ × List ℕ) → Outcome
-outcome v count slices = record { number = v; count = counted v count; slices = map (λ (s : List ℕ × List ℕ). after v s.0 s.1) slices }
+-- the outcome of a call that v refuses, or nothing does: its count where it is accepted, and each slice as lent and as it is to be written
+abbrev pub outcome : Option Refusal → ℕ → List (List ℕ × List ℕ) → Outcome
+outcome v count slices = record { number = number_of v; count = counted v count; slices = map (λ (s : List ℕ × List ℕ). after v s.0 s.1) slices }
 
 abbrev pub outcome_of : Lent → Call → Outcome
 outcome_of t (sort numbers sorted) =
@@ -78,6 +79,6 @@ outcome_of t (whole_analysis marks) = outcome (whole_verdict t (length marks)) (
 outcome_of t (grounds_of_modules marks) = outcome (grounds_verdict t (length marks)) (ones (grounds_of t.project)) ((marks, grounds_of t.project) ∷ [])
 outcome_of t (share_of_modules out) = outcome (share_verdict t (length out)) 4 ((out, share_numbers t.project) ∷ [])
 
--- a project as a table that fits lends it: its number is that of the tests 1 to 4 and 10, and it is read through `newer`
+-- a project as a table that fits lends it: refused by the tests 1 to 4 and 10, and read through `newer`
 abbrev pub lent_by : Project → Lent
-lent_by p = record { number = refusal p; project = current p }
+lent_by p = record { refused = refusal p; project = current p }

@@ -9,7 +9,7 @@ use native.Mathlib.Decide.{ℕ_discrete, dec_lt}
 use lib.ListN.{length-set, get_or-eq_default}
 use lib.Seq.{ext_get_or, get_or-set_same, get_or-set_other}
 use Rattle.lists.specs.Words.{is_zero, up_to, has, ones}
-use Rattle.lists.proofs.Laws.{has_in, mark-in, mark-out, get_d-map-up_to, length-map-up_to}
+use Rattle.lists.proofs.Laws.{has_in, get_d-in, mark-in, mark-out, get_d-map-up_to, length-map-up_to}
 use Rattle.walk.specs.Close.{Within, Bits}
 use Rattle.walk.proofs.Visits.{fresh-zero, set-zeros, set-bits}
 use Rattle.tables.specs.Lookups.{greater_of}
@@ -208,6 +208,8 @@ added-cong f g there back a = record {
   falls = a.falls;
 }
 
+pub ruleset raising = raised-put
+
 -- values looked up
 
 pub length-looked : (other : ℕ) (table column : List ℕ) → length (looked other table column) ≡ length column
@@ -217,6 +219,18 @@ length-looked other table column = length-map-up_to (λ (row : ℕ). get_or tabl
 pub looked-at : (other : ℕ) (table column : List ℕ) (row d : ℕ) → row < length column → get_or (looked other table column) row d ≡ get_or table (get_or column row 0) other
 unfolding looked
 looked-at other table column row d l = get_d-map-up_to (λ (i : ℕ). get_or table (get_or column i 0) other) (length column) row d l
+
+-- a column of these values
+pub looked-all : (other : ℕ) (table column out : List ℕ) → length out ≡ length column → ((k : ℕ) → k < length column → get_or out k 0 ≡ get_or table (get_or column k 0) other) → out ≡ looked other table column
+looked-all other table column out e h =
+    ext_get_or 0 out (looked other table column) (e ∙ sym (length-looked other table column))
+    (λ k l. let i : k < length column = omega (arith, e) in h k i ∙ sym (looked-at other table column k 0 i))
+
+pub ruleset looking = looked-all
+
+-- an owner that has a place is looked up by any default
+pub looked-in : (other : ℕ) (table column : List ℕ) (row : ℕ) → row < length column → get_or column row 0 < length table → get_or (looked other table column) row 0 ≡ get_or table (get_or column row 0) 0
+looked-in other table column row l k = looked-at other table column row 0 l ∙ get_d-in table (get_or column row 0) other 0 k
 
 pub looked-has : (set column : List ℕ) (row : ℕ) → row < length column → has (looked 0 set column) row ≡ has set (get_or column row 0)
 looked-has set column row l = ap (λ (x : ℕ). not (is_zero x)) (looked-at 0 set column row 0 l)

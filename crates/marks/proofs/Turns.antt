@@ -4,7 +4,7 @@ use Rattle.std.specs.Prelude.{◌≡◌, ℕ, ◌+◌, ◌<◌, Bool, true, fals
 use mathlib.Core.Path.{sym, subst, ◌∙◌}
 use mathlib.Core.Bool.{true≢false}
 use Rattle.lists.specs.Words.{is_zero}
-use Rattle.lists.proofs.Laws.{mark-in, mark-out}
+use Rattle.lists.proofs.Laws.{has-yes, has-not, mark-in, mark-out}
 use Rattle.marks.specs.Steps.{Adding, InAll}
 use Rattle.marks.proofs.Steps.{adding-start, adding-pass, adding-put}
 
@@ -38,3 +38,5 @@ module _ (a b c s : List ℕ) where
 
 -- all of these
 pub ruleset turns = (none_added, out_of_first, out_of_second, out_of_third, in_already, comes_in, all_added)
+
+pub ruleset shut = (has-yes, has-not)

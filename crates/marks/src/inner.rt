@@ -5,35 +5,31 @@ ghost use Rattle.tables.specs.Project.{missing};
 ghost use Rattle.tables.specs.Accepted.{Below};
 ghost use Rattle.marks.specs.Steps.{looked, Raised, Owners, Added, InAll};
 
-use tables::inner::greater;
-
 // The value at a place of a table, `other` where the table has no such place.
 pub fn value_at(table: &[u32], at: u32, other: u32) -> u32
     ensures { result ≡ slice_index_or table.now at other }
 {
-    let i = at as usize;
-    if table.len() <= i {
-        return other;
-    }
-    table[i]
+    table.get(at as usize).copied().unwrap_or(other)
 }
 
 // Raises the mark at a place to no less than `mark`. With no branch on the mark, which can't be predicted.
+#[tactic(auto, using(crate::proofs::Steps::raising))]
 pub fn raise(marks: &mut [u32], at: u32, mark: u32)
     requires { at < length marks.old }
     ensures { Raised at mark marks.old marks.new }
 {
     let m = at as usize;
-    marks[m] = greater(mark, marks[m]);
+    marks[m] = mark.max(marks[m]);
 }
 
 // Writes each row's value in a table, `other` where the table has no such place.
+#[tactic(auto, using(crate::proofs::Steps::looking))]
 pub fn look_up(column: &[u32], table: &[u32], out: &mut [u32], other: u32)
     requires { length out.old ≡ length column.now }
     ensures { out.new ≡ looked other table.now column.now }
 {
-    for row in 0..column.len() {
-        out[row] = value_at(table, column[row], other);
+    for (row, value) in column.iter().enumerate() {
+        out[row] = value_at(table, *value, other);
     }
 }
 
@@ -92,19 +88,14 @@ pub fn add(first: &[u32], second: &[u32], third: &[u32], set: &mut [u32]) -> boo
 }
 
 // Whether a member of two sets is out of a third.
+#[tactic(auto, using(crate::proofs::Turns::shut))]
 pub fn any_open(first: &[u32], second: &[u32], set: &[u32]) -> bool
     requires one { length first.now ≡ length set.now }
     requires two { length second.now ≡ length set.now }
     ensures { result ≡ false → (m : ℕ) → m < length set.now → has first.now m ≡ true → has second.now m ≡ true → has set.now m ≡ true }
 {
     for m in 0..set.len() {
-        if second[m] == 0 {
-            continue;
-        }
-        if set[m] != 0 {
-            continue;
-        }
-        if first[m] != 0 {
+        if second[m] != 0 && set[m] == 0 && first[m] != 0 {
             return true;
         }
     }

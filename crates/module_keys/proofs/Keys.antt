@@ -7,14 +7,13 @@ use mathlib.Core.List.Memᴰ
 use mathlib.Core.List.{Memᴰ}
 use native.Mathlib.Omega.{arith}
 use native.Mathlib.Decide.{dec_lt}
-use borrow.Author.Tests.{eqb-false, eq-eqb, ne_eqb}
+use borrow.Author.Tests.{eqb-false}
 use Rattle.lists.specs.Words.{is_zero, up_to}
 use Rattle.lists.proofs.Laws.{both, keep-mem, up_to-mem}
 use Rattle.tables.specs.Lookups.{Rising, FirstRow}
 use Rattle.tables.specs.Readings.{rows_of}
 use Rattle.tables.proofs.OwnerRows.{rows_none}
 use Rattle.names.specs.Names.{turned, name_of}
-use Rattle.name_order.specs.Runtime.{is_runtime}
 use Rattle.name_order.specs.inner.Lines.{line_at, Starts}
 use Rattle.merge_sort.specs.inner.Held.{held_key}
 use Rattle.module_keys.specs.Keys.{recordless, group_by, key_by, key_of}
@@ -23,12 +22,12 @@ use Rattle.module_keys.specs.inner.Filling.{Filled, place_by}
 -- the first row that is at least m tells whether m has a record
 
 module _ (record_module : List ℕ) (m row : ℕ) (first : FirstRow record_module m row) where
-  pub record-none : length record_module ≤ row → true ≡ recordless record_module m
-  record-none l = sym (ap (λ (rows : List ℕ). is_zero (length rows)) (rows_none record_module m (λ i h e. let b = first.below i (omega arith) in omega arith)))
+  pub record_none : length record_module ≤ row → true ≡ recordless record_module m
+  record_none l = sym (ap (λ (rows : List ℕ). is_zero (length rows)) (rows_none record_module m (λ i h e. let b = first.below i (omega arith) in omega arith)))
 
-  pub record-at : Rising record_module → row < length record_module → not (eqb (get_or record_module row 0) m) ≡ recordless record_module m
+  pub record_at : Rising record_module → row < length record_module → not (eqb (get_or record_module row 0) m) ≡ recordless record_module m
   unfolding rows_of Rising
-  record-at rising l = ⊎_elim (λ e. there e) (λ e. none e) (both (eqb (get_or record_module row 0) m))
+  record_at rising l = ⊎_elim (λ e. there e) (λ e. none e) (both (eqb (get_or record_module row 0) m))
     where
       there : eqb (get_or record_module row 0) m ≡ true → not (eqb (get_or record_module row 0) m) ≡ recordless record_module m
       there e = ap not e ∙ sym (some (keep-mem (λ (i : ℕ). eqb (get_or record_module i 0) m) (up_to (length record_module)) (up_to-mem l) e))
@@ -45,38 +44,6 @@ module _ (record_module : List ℕ) (m row : ℕ) (first : FirstRow record_modul
           apart : (i : ℕ) → i < length record_module → get_or record_module i 0 ≡ m → Dec (i < row) → ⊥
           apart i h q (yes k) = let b = first.below i k in omega arith
           apart i h q (no k) = eqb-false (get_or record_module row 0) m e (let b = rising row i (omega arith) h in let c = first.above row (omega arith) l in omega arith)
-
-module _ (name normal record_module sensitive : List ℕ) (m : ℕ) where
-  pub group-runtime : is_runtime name ≡ true → 0 ≡ group_by name normal record_module sensitive m
-  unfolding group_by
-  group-runtime e = rw e
-
-  module _ (r : is_runtime name ≡ false) where
-    pub group-external : (get_or normal m 0 ≡ 1 → ⊥) → 2 ≡ group_by name normal record_module sensitive m
-    unfolding group_by
-    group-external n = rw (r, ne_eqb (get_or normal m 0) 1 n)
-
-    module _ (n : get_or normal m 0 ≡ 1) where
-      pub group-sensitive : (get_or sensitive m 0 ≡ 0 → ⊥) → 2 ≡ group_by name normal record_module sensitive m
-      unfolding group_by
-      group-sensitive s = rw (r, eq-eqb (get_or normal m 0) 1 n, ne_eqb (get_or sensitive m 0) 0 s)
-
-      pub group-record : get_or sensitive m 0 ≡ 0 → recordless record_module m ≡ false → 2 ≡ group_by name normal record_module sensitive m
-      unfolding group_by
-      group-record s h = rw (r, eq-eqb (get_or normal m 0) 1 n, eq-eqb (get_or sensitive m 0) 0 s, h)
-
-      pub group-leaf : get_or sensitive m 0 ≡ 0 → recordless record_module m ≡ true → 1 ≡ group_by name normal record_module sensitive m
-      unfolding group_by
-      group-leaf s h = rw (r, eq-eqb (get_or normal m 0) 1 n, eq-eqb (get_or sensitive m 0) 0 s, h)
-
--- what stands at a place
-
-module _ (groups numbers starts : List ℕ) (m : ℕ) where
-  pub place-number : (get_or groups m 0 ≡ 1 → ⊥) → get_or numbers m 0 ≡ place_by groups numbers starts m
-  place-number n = rw (ne_eqb (get_or groups m 0) 1 n)
-
-  pub place-leaf : get_or groups m 0 ≡ 1 → get_or starts m 0 ≡ place_by groups numbers starts m
-  place-leaf e = rw (eq-eqb (get_or groups m 0) 1 e)
 
 -- the keys that the slices hold
 

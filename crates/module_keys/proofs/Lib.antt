@@ -1,3 +1,2 @@
--- Filling slices place by place; the keys.
-pub mod Filling
+-- The keys.
 pub mod Keys

@@ -11,6 +11,7 @@ use name_order::inner::{find_starts, is_runtime};
 use tables::inner::first_row;
 
 // Whether a module is without any record.
+#[tactic(auto, using(crate::proofs::Keys::record_none, crate::proofs::Keys::record_at))]
 fn is_recordless(importers: &[u32], m: usize) -> bool
     requires { Rising importers.now }
     ensures { result ≡ recordless importers.now m }
@@ -23,6 +24,7 @@ fn is_recordless(importers: &[u32], m: usize) -> bool
 }
 
 // The group of a module whose name starts at a place.
+#[tactic(auto, unfolding(crate::specs::Keys::group_by))]
 fn group_of(
     names: &[u8],
     normal: &[u32],

@@ -1,27 +1,23 @@
--- A module's execution with the counters lent: what it asks and says, and what is known between the executions of the modules that it triggers.
+-- A module's execution with the counters lent: what is known between the executions of the modules that it triggers.
 -- Assumes nothing.
-use Rattle.std.specs.Prelude.{◌≡◌, ℕ, ◌+◌, ◌<◌, ◌≤◌, Bool, true, false, cond, List, [], ◌∷◌, length}
-use mathlib.Core.Path.{refl, sym, subst, ◌∙◌}
+use Rattle.std.specs.Prelude.{◌≡◌, ℕ, suc, ◌+◌, ◌-◌, ◌<◌, ◌≤◌, List, [], ◌∷◌, length, get_or}
+use mathlib.Core.Path.{refl, sym, subst, ap, ◌∙◌}
 use native.Mathlib.Omega.{arith}
-use Rattle.lists.specs.Words.{zeros}
+use native.Mathlib.Nat.{le_antisymm}
+use lib.ListN.{length-set}
+use Rattle.lists.specs.Words.{zeros, count_from}
+use mathlib.Core.List.{flat_map}
 use Rattle.walk.specs.Walk.{Visits, everywhere}
+use Rattle.walk.proofs.Visits.{Grown, set-zeros}
+use Rattle.walk.proofs.Going.{Going, going_start, going-none, going-found, going_end, met-visited, left-visited, visited-grown, visited-keeps, visited-room}
+use Rattle.tables.specs.Project.{missing}
 use Rattle.tables.specs.Accepted.{BelowOrMissing}
 use Rattle.tables.specs.Refusal.{module_limit}
 use Rattle.visit_steps.specs.declared.inner.ActualOrderTraversal.{ActualOrderTraversal}
-use Rattle.visit_steps.specs.declared.inner.Pending.{Pending}
-use Rattle.visit_steps.specs.inner.Steps.{Spans, named, leads, Filling, filling, fills, pending, Next, Entered}
-use Rattle.visit_steps.proofs.Leading.{leads-inside}
+use Rattle.visit_steps.specs.inner.Steps.{Spans, named, leads, part, Filling, filling, fills, Passed, Entered}
+use Rattle.visit_steps.proofs.Leading.{named_some, named_none, leads-part, part-named}
 use Rattle.visit_steps.proofs.Filling.{fills-count, fills-order, fills-hosts}
 use Rattle.module_visits.specs.inner.Visits.{Ready, executing}
-use Rattle.module_visits.proofs.Lending.{Lent, Lending, lent-turn, lending, lent-start, lent-marks, lent-keeps, lent-within, lent-room, lent_one, lent-falls, lent-leads, lent-next, lent-nearer, lent-end}
-
--- the order and the hosts, with a count
-abbrev made : List ℕ × List ℕ → ℕ → Filling
-made x n = filling x.0 x.1 n
-
--- what a loop over what is pending keeps
-abbrev pub Going : List ℕ → List ℕ → List ℕ → List ℕ → ℕ → ℕ → ActualOrderTraversal → List ℕ → Pending → Pending → ActualOrderTraversal → List ℕ → List ℕ → List ℕ → Type 0
-Going starts triggers order hosts m host h marked first p t ms os hs = Lending starts triggers (fills host) made (order, hosts) h m marked first p t ms (os, hs)
 
 -- slices as long, and counters with room, are ready
 pub ready-still : {starts triggers marks order hosts : List ℕ} {h : ActualOrderTraversal} → Ready starts triggers marks order hosts h
@@ -34,8 +30,13 @@ ready-still {starts} {triggers} w marks' order' hosts' t em eo eh q room = recor
   room = let r = w.room in record { equal = q; room = omega (arith, room, r.room, eo); limit = omega (arith, room, r.limit) };
 }
 
+-- between two rows of a module that was entered: the executions so far lead from the marked module's state to the slices and the counters
+pub record Between (starts triggers : List ℕ) (m host : ℕ) (marked order hosts : List ℕ) (h : ActualOrderTraversal) (rows : List ℕ) (i : ℕ) (t : ActualOrderTraversal) (ms os hs : List ℕ) : Type 0 where
+  pub equal : t.next ≡ t.placed
+  pub going : Going (leads starts triggers) everywhere (fills host) (named rows) 0 (executing marked order hosts h.placed) i (executing ms os hs t.placed)
+
 module _ (starts triggers : List ℕ) where
-  -- what the functions ask and say
+  -- what the function asks and says
   abbrev pub Needs : List ℕ → List ℕ → List ℕ → ℕ → ActualOrderTraversal → Type 0
   Needs marks order hosts m h = Ready starts triggers marks order hosts h × (m < length marks)
 
@@ -43,65 +44,83 @@ module _ (starts triggers : List ℕ) where
   Says marks order hosts m host h marks' order' hosts' r =
       Visits (leads starts triggers) everywhere (fills host) (executing marks order hosts h.placed) (m ∷ []) (executing marks' order' hosts' r.placed) × (r.next ≡ r.placed)
 
-  abbrev pub Proceeds : List ℕ → Pending → Type 0
-  Proceeds marks p = (p.end ≤ length triggers) × BelowOrMissing (length marks) triggers
+  -- a module that was met is passed
+  pub passed : {m : ℕ} (host : ℕ) {marks order hosts marked : List ℕ} {h : ActualOrderTraversal} → Needs marks order hosts m h → Passed marks m marked → Says marks order hosts m host h marked order hosts h
+  passed {m} host {marks} {order} {hosts} {marked} {h} within p = (
+    subst (λ (l : List ℕ). Visits (leads starts triggers) everywhere (fills host) (executing marks order hosts h.placed) (m ∷ []) (executing l order hosts h.placed)) (sym p.same)
+        (met-visited (leads starts triggers) everywhere (fills host) (executing marks order hosts h.placed) m p.met),
+    within.0.room.equal,
+  )
 
-  abbrev pub MayLeave : List ℕ → List ℕ → ℕ → Bool → ActualOrderTraversal → Type 0
-  MayLeave order hosts m b h = (h.next ≡ h.placed) × (b ≡ true → (h.placed < length order) × (h.placed < module_limit) × (m < length hosts))
+module _ {starts triggers : List ℕ} {m : ℕ} (host : ℕ) {marks order hosts : List ℕ} {h : ActualOrderTraversal} (within : Needs starts triggers marks order hosts m h)
+    {marked rows : List ℕ} (e : Entered starts triggers marks m marked rows) where
+  pub between_start : Between starts triggers m host marked order hosts h rows 0 h marked order hosts
+  between_start = record { equal = within.0.room.equal; going = going_start (leads starts triggers) everywhere (fills host) (named rows) 0 _ }
 
-  abbrev pub Leaves : List ℕ → List ℕ → ℕ → ℕ → Bool → ActualOrderTraversal → List ℕ → List ℕ → ActualOrderTraversal → Type 0
-  Leaves order hosts m host b h order' hosts' r = (filling order' hosts' r.placed ≡ cond b (fills host (filling order hosts h.placed) m) (filling order hosts h.placed)) × (r.next ≡ r.placed)
+  module _ {i : ℕ} {t : ActualOrderTraversal} {ms os hs : List ℕ} (b : Between starts triggers m host marked order hosts h rows i t ms os hs) where
+    one_less : suc (zeros marked) ≡ zeros marks
+    one_less = ap (λ (l : List ℕ). suc (zeros l)) e.marked ∙ set-zeros marks m e.fresh
 
-  module _ (marks order hosts : List ℕ) (m host : ℕ) (h : ActualOrderTraversal) (within : Needs marks order hosts m h) where
-    module _ (marked : List ℕ) (first : Pending) (e : Entered starts triggers marks m marked first) where
-      abbrev pub Turn : Type 0
-      Turn = Lent starts triggers (fills host) made marks (order, hosts) h m marked first e
+    grown : Grown marked ms
+    grown = visited-grown (leads starts triggers) everywhere (fills host) b.going.so_far
 
-      abbrev pub turn : (p : Pending) (t : ActualOrderTraversal) (ms os hs : List ℕ) → Going starts triggers order hosts m host h marked first p t ms os hs → Turn
-      turn p t ms os hs g = lent-turn starts triggers (fills host) made marks (order, hosts) h m marked first e p t ms (os, hs) g
+    pub same-marks : length ms ≡ length marks
+    same-marks = grown.len ∙ ap length e.marked ∙ length-set marks m 1
 
-      abbrev pub going : (u : Turn) → Going starts triggers order hosts m host h marked first u.p u.t u.ms u.xs.0 u.xs.1
-      going u = lending starts triggers (fills host) made marks (order, hosts) h m marked first e u
+    same-order : length os ≡ length order
+    same-order = visited-keeps (leads starts triggers) everywhere (fills host) (λ (f : Filling). length f.order ≡ length order) (fills-order host (length order)) b.going.so_far refl
 
-      abbrev pub start : Turn
-      start = lent-start starts triggers (fills host) made marks (order, hosts) h m marked first e within.0.room.equal
+    same-hosts : length hs ≡ length hosts
+    same-hosts = visited-keeps (leads starts triggers) everywhere (fills host) (λ (f : Filling). length f.hosts ≡ length hosts) (fills-hosts host (length hosts)) b.going.so_far refl
 
-      module _ (t : Turn) where
-        pub same-marks : length t.ms ≡ length marks
-        same-marks = lent-marks starts triggers (fills host) made marks (order, hosts) h m marked first e t
+    room : t.placed + zeros ms ≤ h.placed + zeros marked
+    room = visited-room (leads starts triggers) everywhere (fills host) (λ (f : Filling). f.count) (fills-count host) b.going.so_far
 
-        pub same-order : length t.xs.0 ≡ length order
-        same-order = lent-keeps starts triggers (fills host) made marks (order, hosts) h m marked first e t (λ (f : Filling). length f.order ≡ length order) (fills-order host (length order)) refl
+    pub falls : zeros ms < zeros marks
+    falls = let g = grown in omega (arith, g.fewer, one_less)
 
-        pub same-hosts : length t.xs.1 ≡ length hosts
-        same-hosts = lent-keeps starts triggers (fills host) made marks (order, hosts) h m marked first e t (λ (f : Filling). length f.hosts ≡ length hosts) (fills-hosts host (length hosts)) refl
+    ordered : get_or starts m 0 ≤ get_or starts (m + 1) 0
+    ordered = within.0.spans.rising m within.1
 
-        pub next_fits : (ms : List ℕ) → length ms ≡ length marks → Proceeds ms t.p
-        next_fits ms l = (lent-within starts triggers (fills host) made marks (order, hosts) h m marked first e t, subst (λ (n : ℕ). BelowOrMissing n triggers) (sym l) within.0.inside)
+    ended-by : get_or starts (m + 1) 0 ≤ length triggers
+    ended-by = within.0.spans.within m within.1
 
-        module _ (more : t.p.more ≡ true) where
-          pub falls : zeros t.ms < zeros marks
-          falls = lent-falls starts triggers (fills host) made marks (order, hosts) h m marked first e t more
+    -- a module that is triggered can be executed
+    pub call_fits : i < length rows → (get_or rows i 0 ≡ missing → ⊥) → Needs starts triggers ms os hs (get_or rows i 0) t
+    call_fits l o = (
+      ready-still within.0 ms os hs t same-marks same-order same-hosts b.equal (omega (arith, room, one_less)),
+      (let p : get_or (part starts triggers m) i 0 < length marks =
+          part-named starts triggers m ordered ended-by (length marks) i within.0.inside (rw e.followed at l) (λ q. o (ap (λ (r : List ℕ). get_or r i 0) e.followed ∙ q)) in
+          omega (arith, p, ap (λ (r : List ℕ). get_or r i 0) e.followed, same-marks)),
+    )
 
-          pub call_fits : Needs t.ms t.xs.0 t.xs.1 t.p.place t.t
-          call_fits = (
-            ready-still within.0 t.ms t.xs.0 t.xs.1 t.t same-marks same-order same-hosts t.equal (lent-room starts triggers (fills host) made marks (order, hosts) h m marked first e t (λ (f : Filling). f.count) (λ x n. refl) (fills-count host)),
-            subst (λ (n : ℕ). t.p.place < n) (sym same-marks) (leads-inside starts triggers m (length marks) t.p.place (within.0.spans.within m within.1) within.0.inside (lent-leads starts triggers (fills host) made marks (order, hosts) h m marked first e t more)),
-          )
+    pub between_none : get_or rows i 0 ≡ missing → Between starts triggers m host marked order hosts h rows (i + 1) t ms os hs
+    between_none o = record { equal = b.equal; going = going-none (leads starts triggers) everywhere (fills host) (named rows) 0 _ b.going (named_none rows i o) }
 
-          abbrev pub next-turn : (r : Pending) (u : ActualOrderTraversal) (ms os hs : List ℕ) → Next triggers ms t.p r → Says t.ms t.xs.0 t.xs.1 t.p.place host t.t ms os hs u → Turn
-          next-turn r u ms os hs n d = lent-next starts triggers (fills host) made marks (order, hosts) h m marked first e t more r u ms (os, hs) n d.1 d.0
+    pub between_more : (get_or rows i 0 ≡ missing → ⊥) → {u : ActualOrderTraversal} {ms' os' hs' : List ℕ} → Says starts triggers ms os hs (get_or rows i 0) host t ms' os' hs' u
+        → Between starts triggers m host marked order hosts h rows (i + 1) u ms' os' hs'
+    between_more o {u} {ms'} {os'} {hs'} d = record {
+      equal = d.1;
+      going = going-found (leads starts triggers) everywhere (fills host) (named rows) 0 _ b.going {u = executing ms' os' hs' u.placed} (named_some rows i o) d.0;
+    }
 
-          pub nearer : (r : Pending) (ms : List ℕ) → Next triggers ms t.p r → length (pending (named triggers) r) < length (pending (named triggers) t.p)
-          nearer r ms n = lent-nearer starts triggers (fills host) made marks (order, hosts) h m marked first e t more r ms n
+    -- past the last row, the module can be left
+    pub leave_fits : (t.next ≡ t.placed) × (t.placed < length os) × (t.placed < module_limit) × (m < length hs)
+    leave_fits =
+        let r = within.0.room in
+        let k : t.placed < h.placed + zeros marks = let g = grown in omega (arith, room, one_less) in
+        (b.equal, omega (arith, k, r.room, same-order), omega (arith, k, r.limit), omega (arith, same-hosts, within.0.hosted, within.1))
 
-        pub leave_fits : MayLeave t.xs.0 t.xs.1 m t.p.entered t.t
-        leave_fits = (
-          t.equal,
-          λ q. let one = lent_one starts triggers (fills host) made marks (order, hosts) h m marked first e t (λ (f : Filling). f.count) (λ x n. refl) (fills-count host) q in let r = within.0.room in
-              (omega (arith, one, r.room, same-order), omega (arith, one, r.limit), omega (arith, same-hosts, within.0.hosted, within.1)),
+    -- and is executed once it is
+    pub ended : length rows ≤ i → i ≤ length rows → {r : ActualOrderTraversal} {order' hosts' : List ℕ}
+        → (filling order' hosts' r.placed ≡ fills host (filling os hs t.placed) m) × (r.next ≡ r.placed) → Says starts triggers marks order hosts m host h ms order' hosts' r
+    ended past upto {r} {order'} {hosts'} d =
+        let all : leads starts triggers m ≡ flat_map (named rows) (count_from 0 (length rows - 0)) =
+        leads-part starts triggers m ordered ended-by ∙ ap (λ (l : List ℕ). flat_map (named l) (count_from 0 (length l - 0))) (sym e.followed) in
+        let v : Visits (leads starts triggers) everywhere (fills host) (executing marked order hosts h.placed) (leads starts triggers m) (executing ms os hs t.placed) =
+        going_end (leads starts triggers) everywhere (fills host) (named rows) 0 _ b.going {end = length rows} (le_antisymm upto past) all in (
+          subst (λ (f : Filling). Visits (leads starts triggers) everywhere (fills host) (executing marks order hosts h.placed) (m ∷ []) (record { marks = ms; made = f })) (sym d.0)
+              (left-visited (leads starts triggers) everywhere (fills host) (executing marks order hosts h.placed) (executing ms os hs t.placed) m refl e.fresh
+              (subst (λ (k : List ℕ). Visits (leads starts triggers) everywhere (fills host) (executing k order hosts h.placed) (leads starts triggers m) (executing ms os hs t.placed)) e.marked v)),
+          d.1,
         )
-
-        pub ended : (r : ActualOrderTraversal) (order' hosts' : List ℕ) → t.p.more ≡ false → Leaves t.xs.0 t.xs.1 m host t.p.entered t.t order' hosts' r → Says marks order hosts m host h t.ms order' hosts' r
-        ended r order' hosts' none d =
-            (subst (λ (f : Filling). Visits (leads starts triggers) everywhere (fills host) (executing marks order hosts h.placed) (m ∷ []) (record { marks = t.ms; made = f })) (sym d.0) (lent-end starts triggers (fills host) made marks (order, hosts) h m marked first e t none), d.1)

@@ -8,7 +8,8 @@ ghost use Rattle.tables.specs.Accepted.{Below};
 ghost use Rattle.visit_steps.specs.inner.Steps.{leads, fills, in_way};
 ghost use Rattle.module_visits.specs.inner.Visits.{Ready, executing, hosted};
 
-use visit_steps::inner::{ActualOrderTraversal, enter, leave_module, next, next_member};
+use tables::ModuleIdx;
+use visit_steps::inner::{ActualOrderTraversal, enter, leave_module};
 
 // Executes a module under a host: marks it, executes what it triggers under the same host, then lists it and notes the host, if that is another.
 fn execute_actual_module<'a>(
@@ -24,23 +25,17 @@ fn execute_actual_module<'a>(
     requires { Ready starts.now triggers.now marks.old order.old hosts.old traversal.old × (m < length marks.old) }
     ensures { Visits (leads starts.now triggers.now) everywhere (fills host) (executing marks.old order.old hosts.old traversal.old.placed) (m ∷ []) (executing marks.new order.new hosts.new traversal.new.placed) × (traversal.new.next ≡ traversal.new.placed) }
 {
-    let mut visit = enter(starts, triggers, marks, m);
-    while visit.more {
-        execute_actual_module(
-            starts,
-            triggers,
-            marks,
-            order,
-            hosts,
-            visit.place,
-            host,
-            traversal,
-        );
-        visit = next(triggers, marks, visit);
+    let Some(rows) = enter(starts, triggers, marks, m) else {
+        return;
+    };
+    for &t in rows {
+        if t == ModuleIdx::MISSING {
+            continue;
+        }
+        execute_actual_module(starts, triggers, marks, order, hosts, t, host, traversal);
     }
     let before = *traversal;
-    let after = leave_module(order, hosts, m, host, visit.entered, before);
-    *traversal = after;
+    *traversal = leave_module(order, hosts, m, host, before);
 }
 
 // Executes those of some modules that execute in a way, in order, each its own host.
@@ -58,18 +53,10 @@ pub fn execute_members<'a>(
     requires { Ready starts.now triggers.now marks.old order.old hosts.old traversal.old × (length ways.now ≡ length marks.old) × Below (length marks.old) member.now }
     ensures { (foldl (hosted (leads starts.now triggers.now)) (executing marks.old order.old hosts.old traversal.old.placed) (keep (in_way way ways.now) member.now) ≡ executing marks.new order.new hosts.new traversal.new.placed) × (traversal.new.next ≡ traversal.new.placed) }
 {
-    let mut visit = next_member(ways, member, marks, 0, way);
-    while visit.more {
-        execute_actual_module(
-            starts,
-            triggers,
-            marks,
-            order,
-            hosts,
-            visit.place,
-            visit.place,
-            traversal,
-        );
-        visit = next_member(ways, member, marks, visit.row, way);
+    for &m in member {
+        if ways[m as usize] != way {
+            continue;
+        }
+        execute_actual_module(starts, triggers, marks, order, hosts, m, m, traversal);
     }
 }

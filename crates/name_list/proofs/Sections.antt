@@ -1,6 +1,6 @@
 -- What stands behind the other lists is the list `name`, nothing, or neither.
 -- Assumes nothing.
-use Rattle.std.specs.Prelude.{◌≡◌, ℕ, zero, suc, ◌+◌, ◌-◌, ◌<◌, ◌≤◌, true, false, eqb, List, [], ◌∷◌, ◌++◌, length, get_or, take, drop}
+use Rattle.std.specs.Prelude.{◌≡◌, ℕ, zero, suc, ◌+◌, ◌-◌, ◌<◌, ◌≤◌, true, false, eqb, List, [], ◌∷◌, ◌++◌, length, get_or, take, drop, Some, None}
 use mathlib.Core.Path.{refl, sym, ap, ◌∙◌}
 use mathlib.Core.Bool.{true≢false}
 use mathlib.Core.List.{foldl}
@@ -14,9 +14,7 @@ use Rattle.names.specs.inner.Lines.{width_after}
 use Rattle.names.proofs.Lines.{in-broken, in-counted, in-fit}
 use Rattle.named_form.specs.NamedForm.{NameList, without, list, name_section, list_fits}
 use Rattle.text_rows.specs.inner.Steps.{LineIs}
-use Rattle.text_rows.specs.declared.inner.Place.TheVariants.{At, Differs}
 use Rattle.name_list.specs.Lying.{NamesLie}
-use Rattle.name_list.specs.declared.Found.TheVariants.{Names, Broken}
 
 -- the form of no names
 pub none-fit : (n : ℕ) (s : List ℕ) → length s ≡ 0 → eqb n 0 ≡ names_fit n s
@@ -39,7 +37,7 @@ fit-lines n (b ∷ s) f = go (foldl width_after 0 (b ∷ s)) refl
     go (suc w) e = absurd (true≢false (sym all ∙ sym (in-broken n (b ∷ s) (λ q. omega arith) (λ z. omega arith))))
 
 module _ (s : List ℕ) (at n : ℕ) where
-  pub no-list : length s ≤ at → NamesLie s at n (Names (length s) (length s))
+  pub no-list : length s ≤ at → NamesLie s at n (Some (length s, length s))
   no-list h = (without, refl, drop_of_length-le s h, (omega arith, omega arith, ap (λ (k : ℕ). take k (drop (length s) s)) {x = length s - length s} {y = 0} (omega arith)))
 
   module _ (some : at < length s) where
@@ -48,10 +46,10 @@ module _ (s : List ℕ) (at n : ℕ) where
     section-line without e = absurd (omega (arith, ap length e, length-drop at s))
     section-line (list t) e = (t, refl, e)
 
-    pub no_line : LineIs s at (bytes "name") Differs → NamesLie s at n Broken
+    pub no_line : LineIs s at (bytes "name") None → NamesLie s at n None
     no_line d l f e = let t = section-line l e in d (t.0 ++ 10 ∷ []) t.2
 
-    module _ (from : ℕ) (m : LineIs s at (bytes "name") (At from)) where
+    module _ (from : ℕ) (m : LineIs s at (bytes "name") (Some from)) where
       -- the lines stand behind it, and an empty line
       section-rest : (l : NameList) → list_fits n l ≡ true → drop at s ≡ name_section l → (t : List ℕ) × (names_fit n t ≡ true) × (drop from s ≡ t ++ 10 ∷ [])
       section-rest without f e = absurd (omega (arith, ap length e, length-drop at s))
@@ -60,10 +58,10 @@ module _ (s : List ℕ) (at n : ℕ) where
       rest-size : (t : List ℕ) → drop from s ≡ t ++ 10 ∷ [] → length s ≡ from + length t + 1
       rest-size t e = omega (arith, ap length e, length-drop from s, length-append t (10 ∷ []), m.1)
 
-      pub no_end : length s ≤ from → NamesLie s at n Broken
+      pub no_end : length s ≤ from → NamesLie s at n None
       no_end h l f e = let t = section-rest l f e in omega (arith, rest-size t.0 t.2)
 
-      pub no-empty-line : (get_or s (length s - 1) 0 ≡ 10 → ⊥) → NamesLie s at n Broken
+      pub no-empty-line : (get_or s (length s - 1) 0 ≡ 10 → ⊥) → NamesLie s at n None
       no-empty-line d l f e =
           let t = section-rest l f e in
           let z = rest-size t.0 t.2 in
@@ -76,13 +74,13 @@ module _ (s : List ℕ) (at n : ℕ) where
       abbrev lines : List ℕ
       lines = take (length s - 1 - from) (drop from s)
 
-      pub no-fit : names_fit n lines ≡ false → NamesLie s at n Broken
+      pub no-fit : names_fit n lines ≡ false → NamesLie s at n None
       no-fit g l f e =
           let t = section-rest l f e in
           let q : lines ≡ t.0 = ap (take (length s - 1 - from)) t.2 ∙ take_at t.0 (10 ∷ []) (length s - 1 - from) (omega (arith, rest-size t.0 t.2)) in
           true≢false (sym t.1 ∙ ap (names_fit n) (sym q) ∙ g)
 
-      pub a-list : from < length s → get_or s (length s - 1) 0 ≡ 10 → names_fit n lines ≡ true → NamesLie s at n (Names from (length s - 1))
+      pub a-list : from < length s → get_or s (length s - 1) 0 ≡ 10 → names_fit n lines ≡ true → NamesLie s at n (Some (from, length s - 1))
       a-list h d g =
           let k : ℕ = length s - 1 - from in
           let z : length (drop from s) ≡ suc k = omega (arith, length-drop from s) in
@@ -90,6 +88,9 @@ module _ (s : List ℕ) (at n : ℕ) where
           let w : drop from s ≡ lines ++ 10 ∷ [] =
           sym (take_all (suc k) (drop from s) (omega arith)) ∙ take-suc (drop from s) k 0 (omega arith) ∙ ap (λ (x : ℕ). lines ++ x ∷ []) b in
           (list lines, g, m.0 ∙ ap (λ (x : List ℕ). bytes "name" ++ 10 ∷ x) w, (omega arith, omega arith, refl))
+
+-- whether lines are names
+pub ruleset fits = (none-fit, in-fit)
 
 -- the answers
 pub ruleset sections = (no-list, no_line, no_end, no-empty-line, no-fit, a-list)

@@ -1,6 +1,6 @@
 -- Lines by where they start.
 -- Assumes nothing.
-use Rattle.std.specs.Prelude.{◌≡◌, ℕ, zero, suc, ◌+◌, ◌<◌, ◌≤◌, true, false, not, ◌&&◌, eqb, ltb, List, [], ◌∷◌, length, get_or, drop, set}
+use Rattle.std.specs.Prelude.{◌≡◌, ℕ, zero, suc, ◌+◌, ◌-◌, ◌<◌, ◌≤◌, true, false, not, ◌&&◌, eqb, ltb, List, [], ◌∷◌, length, get_or, take, drop, set}
 use mathlib.Core.Path.{refl, sym, ap, ◌∙◌}
 use mathlib.Core.Logic.{⊎_elim}
 use native.Mathlib.Nat.{add-zero, add_assoc}
@@ -8,8 +8,10 @@ use native.Mathlib.Numerals.{add-one}
 use native.Mathlib.Omega.{arith}
 use native.Mathlib.Decide.{ℕ_discrete, dec_lt}
 use lib.ListN.{length-drop, drop_of_length-le, get_or-eq_default}
-use lib.Seq.{drop-cons, drop-drop, get_or-drop, get_or-set_same, get_or-set_other}
+use lib.Seq.{take_all, drop-cons, drop-drop, get_or-drop, get_or-set_same, get_or-set_other}
 use borrow.Author.Tests.{eqb-true, eqb-false, eq-eqb, ne_eqb}
+use Rattle.std.specs.List.{take_while}
+use Rattle.std.proofs.lemmas.List.Sums.{take_while-cons}
 use Rattle.lists.specs.Words.{every}
 use Rattle.lists.proofs.Laws.{both, and_parts}
 use Rattle.lists.proofs.Tests.{or-false}
@@ -18,7 +20,7 @@ use Rattle.names.proofs.Lines.{some-lines}
 use Rattle.form.specs.Form.{bytes}
 use Rattle.name_order.specs.Sooner.{sooner, begins}
 use Rattle.name_order.specs.Runtime.{is_runtime}
-use Rattle.name_order.specs.inner.Lines.{first_line, line_at, Starts}
+use Rattle.name_order.specs.inner.Lines.{first_line, line_at}
 
 -- the line at a place, byte by byte
 
@@ -44,6 +46,18 @@ line-more s i n = rw (add-one, drop-cons s i 10 (line-inside s i n), ne_eqb (get
 pub line-past : (s : List ℕ) (i : ℕ) → length s ≤ i → line_at s i ≡ []
 unfolding first_line
 line-past s i l = rw (drop_of_length-le s l)
+
+-- the line is what stands before the first LF
+before_feed : (s : List ℕ) → first_line s ≡ take_while (λ (b : ℕ). not (eqb b 10)) s
+unfolding first_line
+before_feed [] = refl
+before_feed (b ∷ s) =
+    sym
+    (take_while-cons (λ (c : ℕ). not (eqb c 10)) b s
+    ∙ ⊎_elim (λ q. rw q refl) (λ q. rw q (ap (λ (l : List ℕ). b ∷ l) (sym (before_feed s)))) (both (eqb b 10)))
+
+pub line-length : (s : List ℕ) (at n : ℕ) → length s - at ≤ n → length (take_while (λ (b : ℕ). not (eqb b 10)) (take n (drop at s))) ≡ length (line_at s at)
+line-length s at n h = ap length (sym (before_feed (take n (drop at s)))) ∙ ap (λ (l : List ℕ). length (first_line l)) (take_all n (drop at s) (omega (arith, length-drop at s)))
 
 -- the lines one by one
 
@@ -82,9 +96,6 @@ module _ (s : List ℕ) (n : ℕ) (fit : names_fit n s ≡ true) where
   unfolding names_fit
   fit_count = eqb-true (length (lines_of s)) n (and_parts (eqb (length (lines_of s)) n) (every is_name (lines_of s)) (and_parts (ended s) (eqb (length (lines_of s)) n && every is_name (lines_of s)) fit).1).0
 
-  pub finding-start : (starts : List ℕ) → Finding s starts 0 0
-  finding-start starts = record { rest = refl; done = λ j h. absurd (omega arith) }
-
   module _ (starts : List ℕ) (m at : ℕ) (k : Finding s starts m at) (l : m < n) where
     some : 0 < length (lines_of (drop at s))
     some = omega (arith, ap length k.rest, length-drop m (lines_of s), fit_count)
@@ -117,38 +128,35 @@ module _ (s : List ℕ) (n : ℕ) (fit : names_fit n s ≡ true) where
         found j h (yes q) = rw q (ap (line_at s) (get_or-set_same starts m at 0 (omega arith)) ∙ this)
         found j h (no q) = ap (line_at s) (get_or-set_other starts m j at 0 q) ∙ k.done j (omega arith)
 
-  pub finding-end : (starts : List ℕ) (m at : ℕ) → Finding s starts m at → length starts ≤ m → Starts s starts
-  finding-end starts m at k l j h = k.done j (omega arith)
-
 -- lines compared byte by byte
 
-module _ (s : List ℕ) (i j : ℕ) where
+module _ (s t : List ℕ) (i : ℕ) where
   abbrev x : ℕ
   x = get_or s i 10
 
   abbrev y : ℕ
-  y = get_or s j 10
+  y = get_or t i 10
 
-  pub sooner-stop : y ≡ 10 → false ≡ sooner (line_at s i) (line_at s j)
+  pub sooner-stop : y ≡ 10 → false ≡ sooner (line_at s i) (line_at t i)
   unfolding sooner
-  sooner-stop e = rw (line-stop s j e)
+  sooner-stop e = rw (line-stop t i e)
 
-  pub sooner-short : (y ≡ 10 → ⊥) → x ≡ 10 → true ≡ sooner (line_at s i) (line_at s j)
+  pub sooner-short : (y ≡ 10 → ⊥) → x ≡ 10 → true ≡ sooner (line_at s i) (line_at t i)
   unfolding sooner
-  sooner-short n e = rw (line-stop s i e, line-more s j n)
+  sooner-short n e = rw (line-stop s i e, line-more t i n)
 
   module _ (n : x ≡ 10 → ⊥) (m : y ≡ 10 → ⊥) where
-    pub sooner-less : (x ≡ y → ⊥) → ltb x y ≡ sooner (line_at s i) (line_at s j)
+    pub sooner-less : (x ≡ y → ⊥) → ltb x y ≡ sooner (line_at s i) (line_at t i)
     unfolding sooner
-    sooner-less e = rw (line-more s i n, line-more s j m, ne_eqb x y e)
+    sooner-less e = rw (line-more s i n, line-more t i m, ne_eqb x y e)
 
-    pub sooner-more : x ≡ y → sooner (line_at s (i + 1)) (line_at s (j + 1)) ≡ sooner (line_at s i) (line_at s j)
+    pub sooner-more : x ≡ y → sooner (line_at s (i + 1)) (line_at t (i + 1)) ≡ sooner (line_at s i) (line_at t i)
     unfolding sooner
-    sooner-more e = rw (line-more s i n, line-more s j m, eq-eqb x y e)
+    sooner-more e = rw (line-more s i n, line-more t i m, eq-eqb x y e)
 
-  pub sooner-past : length s ≤ i → not (eqb y 10) ≡ sooner (line_at s i) (line_at s j)
+  pub sooner-past : length s ≤ i → not (eqb y 10) ≡ sooner (line_at s i) (line_at t i)
   unfolding sooner
-  sooner-past l = rw (line-past s i l) (⊎_elim (λ e. ap not e ∙ sym (ap (sooner []) (line-stop s j (eqb-true y 10 e)))) (λ e. ap not e ∙ sym (ap (sooner []) (line-more s j (eqb-false y 10 e)))) (both (eqb y 10)))
+  sooner-past l = rw (line-past s i l) (⊎_elim (λ e. ap not e ∙ sym (ap (sooner []) (line-stop t i (eqb-true y 10 e)))) (λ e. ap not e ∙ sym (ap (sooner []) (line-more t i (eqb-false y 10 e)))) (both (eqb y 10)))
 
 -- a line and a word, byte by byte
 

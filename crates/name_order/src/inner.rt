@@ -1,32 +1,23 @@
 // For crates above, on tested names. A name is told by where its line starts.
-ghost use Rattle.std.specs.Prelude.{◌≡◌, ◌+◌, true, length, slice_index_or};
+ghost use Rattle.std.specs.Prelude.{◌≡◌, ◌+◌, ◌==◌, true, not, length, slice_index_or};
+ghost use Rattle.std.specs.List.{take_while};
 ghost use Rattle.names.specs.Names.{names_fit, start_byte, turned};
 ghost use Rattle.name_order.specs.Sooner.{sooner, begins};
 ghost use Rattle.name_order.specs.Runtime.{is_runtime};
-ghost use Rattle.name_order.specs.inner.Lines.{line_at, Starts};
+ghost use Rattle.name_order.specs.inner.Lines.{first_line, line_at, Starts};
 
 // The byte at a place, an LF past the end.
 fn byte_at(names: &[u8], at: usize) -> u8
     ensures { result ≡ slice_index_or names.now at 10 }
 {
-    if at < names.len() {
-        return names[at];
-    }
-    10
+    names.get(at).copied().unwrap_or(10)
 }
 
-// Where the line that starts at a place ends.
-fn line_end(names: &[u8], at: usize) -> usize
-    ensures { result ≡ at + length (line_at names.now at) }
+// How long the line is with which a text begins.
+fn line_length(text: &[u8]) -> usize
+    ensures { result ≡ length (take_while (λ b. not (b == 10)) text.now) }
 {
-    let mut i = at;
-    while i < names.len() {
-        if byte_at(names, i) == 10 {
-            return i;
-        }
-        i += 1;
-    }
-    i
+    text.iter().take_while(|b| **b != 10).count()
 }
 
 // Finds where each name starts.
@@ -35,34 +26,29 @@ pub fn find_starts(names: &[u8], starts: &mut [usize])
     ensures { Starts names.now starts.new }
 {
     let mut at = 0;
-    for m in 0..starts.len() {
-        starts[m] = at;
-        at = line_end(names, at) + 1;
+    for start in starts {
+        *start = at;
+        at += line_length(&names[at..]) + 1;
     }
 }
 
-// Whether the line at one place goes before that at another, byte by byte.
-fn line_before(names: &[u8], a: usize, b: usize) -> bool
-    ensures { result ≡ sooner (line_at names.now a) (line_at names.now b) }
+// Whether the line with which one text begins goes before that of another, byte by byte.
+fn line_before(text: &[u8], other: &[u8]) -> bool
+    ensures { result ≡ sooner (first_line text.now) (first_line other.now) }
 {
-    let mut i = a;
-    let mut j = b;
-    while i < names.len() {
-        let x = byte_at(names, i);
-        let y = byte_at(names, j);
+    for (i, x) in text.iter().enumerate() {
+        let y = byte_at(other, i);
         if y == 10 {
             return false;
         }
-        if x == 10 {
+        if *x == 10 {
             return true;
         }
-        if x != y {
-            return x < y;
+        if *x != y {
+            return *x < y;
         }
-        i += 1;
-        j += 1;
     }
-    byte_at(names, j) != 10
+    byte_at(other, text.len()) != 10
 }
 
 // The first byte of a name, from that of its line.
@@ -89,25 +75,18 @@ pub fn name_before(names: &[u8], a: usize, b: usize) -> bool
     if first != other {
         return first < other;
     }
-    line_before(names, a + 1, b + 1)
+    line_before(&names[a + 1..], &names[b + 1..])
 }
 
 // Whether the line at a place begins with a word.
 fn line_begins(names: &[u8], at: usize, word: &[u8]) -> bool
     ensures { result ≡ begins word.now (line_at names.now at) }
 {
-    let mut i = at;
-    let mut k = 0;
-    while k < word.len() {
-        let b = byte_at(names, i);
-        if b == 10 {
+    for (k, w) in word.iter().enumerate() {
+        let b = byte_at(names, at + k);
+        if b == 10 || b != *w {
             return false;
         }
-        if b != word[k] {
-            return false;
-        }
-        i += 1;
-        k += 1;
     }
     true
 }

@@ -155,6 +155,8 @@ pub ends-none : (s : List ℕ) (i : ℕ) → length s ≤ i → line_ends (drop 
 unfolding line_ends
 ends-none s i l = rw (drop_of_length-le s l)
 
+pub ruleset ends_counted = (ends-in, ends-out, ends-none)
+
 pub some-lines : (b : ℕ) (s : List ℕ) → 0 < length (lines_of (b ∷ s))
 unfolding lines_of
 some-lines b s = ⊎_elim (λ e. rw e (omega arith)) (λ e. rw e (either (lines_of s))) (both (eqb b 10))
@@ -210,9 +212,4 @@ in-counted n s e w =
     (in-fit n s e
     ∙ rw (p.0, p.1) (and-true (eqb (length (lines_of s)) n) ∙ ap (λ (k : ℕ). eqb k n) (sym (lines-count s p.0))))
 
--- a fold over the bytes, one byte on
-pub fold_more : (f : ℕ → ℕ → ℕ) (w : ℕ) (s : List ℕ) (i : ℕ) → i < length s → foldl f w (drop i s) ≡ foldl f (f w (get_or s i 0)) (drop (i + 1) s)
-fold_more f w s i l = rw (add-one, drop-cons s i 0 l)
-
-pub fold-all : (f : ℕ → ℕ → ℕ) (w : ℕ) (s : List ℕ) (i : ℕ) → length s ≤ i → foldl f w (drop i s) ≡ w
-fold-all f w s i l = rw (drop_of_length-le s l)
+pub ruleset forms = (in-none, in-broken, in-counted)

@@ -7,7 +7,7 @@ ghost use Rattle.names.specs.inner.Lines.{width_after};
 fn is_printable(b: u8) -> bool
     ensures { result ≡ printable b }
 {
-    33 <= b && b <= 126
+    (33..=126).contains(&b)
 }
 
 // The length of the line at hand after a byte, from that before it; 65 once something is wrong.
@@ -27,26 +27,19 @@ fn width_after(width: usize, b: u8) -> usize
 pub fn last_width(names: &[u8]) -> usize
     ensures { result ≡ foldl width_after 0 names.now }
 {
-    let mut width = 0;
-    let mut i = 0;
-    while i < names.len() {
-        width = width_after(width, names[i]);
-        i += 1;
-    }
-    width
+    names.iter().fold(0, |width, b| width_after(width, *b))
 }
 
 // How many lines end.
+#[tactic(auto, using(crate::proofs::Lines::ends_counted))]
 pub fn count_lines(names: &[u8]) -> usize
     ensures { result ≡ line_ends names.now }
 {
     let mut lines = 0;
-    let mut i = 0;
-    while i < names.len() {
-        if names[i] == 10 {
+    for b in names {
+        if *b == 10 {
             lines += 1;
         }
-        i += 1;
     }
     lines
 }

@@ -9,6 +9,7 @@ use inner::{count_lines, last_width};
 pub mod inner;
 
 // Whether the names are as many lines as a list may have rows.
+#[tactic(auto, unfolding(crate::specs::Names::names_sized))]
 pub fn names_sized(names: &[u8]) -> bool
     ensures { result ≡ names_sized names.now }
 {
@@ -16,10 +17,11 @@ pub fn names_sized(names: &[u8]) -> bool
 }
 
 // Whether the names are those of so many modules, or none at all.
+#[tactic(auto, using(crate::proofs::Lines::forms))]
 pub fn names_in(names: &[u8], modules: usize) -> bool
     ensures { result ≡ names_in modules names.now }
 {
-    if names.len() == 0 {
+    if names.is_empty() {
         return true;
     }
     if last_width(names) != 0 {

@@ -1,17 +1,17 @@
--- What the operation promises of a call that its project refuses, and of one that is accepted.
+-- What the operation promises of a project that is refused, and of a call that is accepted.
 -- Assumes nothing.
-use Rattle.std.specs.Prelude.{◌≡◌, ℕ, ◌≤◌, Bool, true, leb, List, ◌++◌, length, drop}
+use Rattle.std.specs.Prelude.{◌≡◌, ℕ, ◌≤◌, List, ◌++◌, length, drop, None, Ok, Err}
 use mathlib.Core.Path.{refl, sym, ap, ◌∙◌}
 use borrow.Author.Tests.{le-leb}
 use Rattle.lists.specs.Words.{ones}
 use Rattle.tables.specs.Project.{Project}
 use Rattle.tables.specs.Readings.{modules}
-use Rattle.tables.specs.declared.Answer.TheVariants.{Refused, Counted}
-use Rattle.tables.proofs.Answering.{verdict-project, verdict-none, after-refused, after-accepted}
+use Rattle.tables.specs.Answers.{tested}
+use Rattle.tables.specs.declared.Refusal.{Refusal}
+use Rattle.tables.proofs.Answering.{verdict-project, verdict-none, answer-refused, answer-accepted, after-refused, after-accepted, tested-refused}
 use Rattle.table.specs.Table.{Lent}
-use Rattle.table.proofs.Laws.{answer-refused, answer-accepted}
 use Rattle.wrap_plan.proofs.Promise.{length-plan}
-use Rattle.order_analysis.specs.Promise.{seeds_of, whole_plan, whole_verdict, WholeAnalysis}
+use Rattle.order_analysis.specs.Promise.{seeds_of, whole_plan, WholeAnalysis}
 
 -- a plan has a mark for each module
 pub length_whole : (p : Project) → length (whole_plan p) ≡ modules p
@@ -19,29 +19,19 @@ unfolding whole_plan
 length_whole p = length-plan p (seeds_of p)
 
 module _ (t : Lent) (marks : List ℕ) where
-  abbrev p : Project
-  p = t.project
-
-  abbrev number : ℕ
-  number = whole_verdict t (length marks)
-
-  abbrev room : Bool
-  room = leb (modules p) (length marks)
-
   -- a refusal changes nothing
-  refused : (n : ℕ) → number ≡ n → (n ≡ 0 → ⊥) → WholeAnalysis t marks (Refused n) marks
-  refused n e h =
-      let k : number ≡ 0 → ⊥ = λ z. h (sym e ∙ z) in
-      record { answered = answer-refused number (ones (whole_plan p)) n e h; written = sym (after-refused number marks (whole_plan p) k) }
+  pub project-refused : {e : Refusal} → Err e ≡ tested t.refused → WholeAnalysis t marks (Err e) marks
+  project-refused h =
+      let r = verdict-project _ _ (tested-refused t.refused h) in
+      record { answered = answer-refused (ones (whole_plan t.project)) r; written = after-refused marks (whole_plan t.project) r }
 
-  pub project-refused : (n : ℕ) → n ≡ t.number → (n ≡ 0 → ⊥) → WholeAnalysis t marks (Refused n) marks
-  project-refused n e h = refused n (verdict-project t.number true room (λ z. h (e ∙ z)) ∙ sym e) h
-
-  module _ (accepts : t.number ≡ 0) where
-    pub whole-counted : modules p ≤ length marks → (made : List ℕ) (count : ℕ) → made ≡ whole_plan p → count ≡ ones (whole_plan p) → WholeAnalysis t marks (Counted count) (made ++ drop (modules p) marks)
-    whole-counted l made count e c =
-        let z : number ≡ 0 = verdict-none t.number true room accepts refl (le-leb (modules p) (length marks) l) in
-        record {
-          answered = answer-accepted number (ones (whole_plan p)) count z c;
-          written = ap (λ (xs : List ℕ). xs ++ drop (modules p) marks) e ∙ ap (λ (i : ℕ). whole_plan p ++ drop i marks) (sym (length_whole p)) ∙ sym (after-accepted number marks (whole_plan p) z);
-        }
+  pub whole-counted : t.refused ≡ None → {n : ℕ} → n ≡ modules t.project → n ≤ length marks → {made : List ℕ} {count : ℕ} → made ≡ whole_plan t.project → count ≡ ones (whole_plan t.project)
+      → WholeAnalysis t marks (Ok count) (made ++ drop n marks)
+  whole-counted accepts {n = n} size l e c =
+      let z = verdict-none _ _ accepts refl (le-leb (modules t.project) (length marks) (rw size at l)) in
+      record {
+        answered = answer-accepted z c;
+        written =
+            after-accepted marks (whole_plan t.project) z
+            (ap (λ (xs : List ℕ). xs ++ drop n marks) e ∙ ap (λ (i : ℕ). whole_plan t.project ++ drop i marks) (size ∙ sym (length_whole t.project)));
+      }

@@ -14,17 +14,6 @@ fn shift(actual: u32, expected: u32) -> i32
     (actual as i32) - (expected as i32)
 }
 
-// A shift without its sign.
-fn size(d: i32) -> u32
-    requires { unsigned_abs d < 4096 }
-    ensures { result ≡ unsigned_abs d }
-{
-    if d < 0 {
-        return (0 - d) as u32;
-    }
-    d as u32
-}
-
 // Writes k spaces.
 fn put_spaces(out: &mut [u8], at: usize, k: usize) -> usize
     requires { (k ≤ 8) × (at + k ≤ length out.old) }
@@ -69,7 +58,7 @@ fn put_signed(out: &mut [u8], at: usize, d: i32) -> usize
     requires { (unsigned_abs d < 4096) × (at + 8 ≤ length out.old) }
     ensures { PutAt out.old at (right (signed d)) out.new result }
 {
-    let n = size(d);
+    let n = d.unsigned_abs();
     if d < 0 {
         let k = number_len(n);
         let p = put_spaces(out, at, 7 - k);

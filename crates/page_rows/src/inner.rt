@@ -1,6 +1,6 @@
 // For crates above: the modules of a page and their places, over the two sensitive orders of an entry. A place is written from 1, 0 where there is none.
 ghost use Rattle.std.specs.Prelude.{◌≡◌, ◌≤◌, length, replicate};
-ghost use Rattle.lists.specs.Words.{is_zero, bit, keep, has, marks_of};
+ghost use Rattle.lists.specs.Words.{keep, has, marks_of};
 ghost use Rattle.tables.specs.Refusal.{module_limit};
 ghost use Rattle.risk_of_orders.specs.inner.Steps.{Ranked, Order};
 ghost use Rattle.page_rows.specs.inner.Steps.{unplaced, Listed, Members, Laid};
@@ -14,14 +14,11 @@ pub fn keep_marked(order: &[u32], marks: &[u32], kept: &mut [u32]) -> usize
     ensures { Listed (keep (has marks.now) order.now) kept.old kept.new result }
 {
     let mut count = 0;
-    for k in 0..order.len() {
-        let m = order[k];
-        let at = m as usize;
-        if marks[at] == 0 {
-            continue;
+    for m in order {
+        if marks[*m as usize] != 0 {
+            kept[count] = *m;
+            count += 1;
         }
-        kept[count] = m;
-        count += 1;
     }
     count
 }
@@ -32,20 +29,9 @@ fn place_members(order: &[u32], places: &mut [u32])
     requires zeroed { places.old ≡ replicate (length places.old) 0 }
     ensures { Ranked order.now places.new }
 {
-    for k in 0..order.len() {
-        let at = order[k] as usize;
-        places[at] = k as u32 + 1;
+    for (k, m) in order.iter().enumerate() {
+        places[*m as usize] = k as u32 + 1;
     }
-}
-
-// 1 for a module without a place, else 0.
-fn absent(place: u32) -> u32
-    ensures { result ≡ bit (is_zero place) }
-{
-    if place == 0 {
-        return 1;
-    }
-    0
 }
 
 // Marks the modules without a place.
@@ -53,8 +39,8 @@ fn mark_unplaced(places: &[u32], marks: &mut [u32])
     requires rows { length places.now ≡ length marks.old }
     ensures { marks.new ≡ marks_of (unplaced places.now) (length marks.old) }
 {
-    for m in 0..marks.len() {
-        marks[m] = absent(places[m]);
+    for (m, mark) in marks.iter_mut().enumerate() {
+        *mark = (places[m] == 0) as u32;
     }
 }
 

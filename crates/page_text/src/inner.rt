@@ -46,10 +46,8 @@ fn put_rows(
     ensures { PutAt out.old at (flat_map (line_with expected_places.now actual_places.now plan.now) rows.now) out.new result }
 {
     let mut p = at;
-    let mut k = 0;
-    while k < rows.len() {
-        p = put_row(expected_places, actual_places, plan, out, p, rows[k]);
-        k += 1;
+    for m in rows {
+        p = put_row(expected_places, actual_places, plan, out, p, *m);
     }
     p
 }

@@ -8,21 +8,13 @@ ghost use Rattle.parts.specs.Part.{part_of};
 pub fn first_of(values: &[u32], n: usize) -> &[u32]
     ensures { result.now ≡ take n values.now }
 {
-    if values.len() < n {
-        return values;
-    }
-    &values[0..n]
+    values.get(..n).unwrap_or(values)
 }
 
 // The part of a text from one position to another, or all of it where there is none.
+#[tactic(auto, unfolding(crate::specs::Part::part_of))]
 pub fn part_of(text: &[u8], from: usize, to: usize) -> &[u8]
     ensures { result.now ≡ part_of text.now from to }
 {
-    if text.len() < to {
-        return text;
-    }
-    if to < from {
-        return text;
-    }
-    &text[from..to]
+    text.get(from..to).unwrap_or(text)
 }

@@ -1,12 +1,12 @@
--- What the operation promises, in each of its cases.
+-- What the operation answers where the project is refused, and where the call is accepted.
 -- Assumes nothing.
-use Rattle.std.specs.Prelude.{◌≡◌, ℕ, zero, suc, ◌<◌, ◌≤◌, true, false, cond, eqb, ltb, leb, List, length, get_or}
-use mathlib.Core.Path.{refl, sym, ap, ◌∙◌}
+use Rattle.std.specs.Prelude.{◌≡◌, ℕ, ◌<◌, ◌≤◌, true, eqb, ltb, leb, List, length, get_or, None, Ok, Err}
+use mathlib.Core.Path.{refl}
 use native.Mathlib.Omega.{arith}
 use lib.ListN.{get_or-eq_default}
 use native.Mathlib.Decide.{dec_lt}
 use borrow.Author.Tests.{eqb-true, leb-true, ltb-true}
-use Rattle.lists.specs.Words.{is_zero, every}
+use Rattle.lists.specs.Words.{every}
 use Rattle.lists.proofs.Laws.{and_parts, every-mem}
 use Rattle.lists.proofs.Members.{get_d-mem}
 use Rattle.walk.specs.Close.{Bits}
@@ -14,12 +14,14 @@ use Rattle.tables.specs.Project.{Project}
 use Rattle.tables.specs.Readings.{modules}
 use Rattle.tables.specs.Refusal.{row_limit, below}
 use Rattle.tables.specs.Accepted.{Below}
+use Rattle.tables.specs.declared.Refusal.{Refusal}
+use Rattle.tables.specs.Answers.{tested}
+use Rattle.tables.proofs.Answering.{answer-refused, answer-accepted, tested-refused}
 use Rattle.table.specs.Table.{Lent}
 use Rattle.wrap_rules.specs.inner.Passes.{Marked}
 use Rattle.seeds.specs.Seeds.{seeds_fit}
 use Rattle.plan_conditions.specs.Form.{plan_fits}
 use Rattle.plan_conditions.specs.Conditions.{judged}
-use Rattle.plan_conditions.specs.declared.Judgement.TheVariants.{Refused}
 use Rattle.plan_check.specs.Promise.{check_verdict, judgement}
 
 -- a plan that fits has a mark for each module
@@ -34,46 +36,18 @@ plan-marked p plan e = record { size = eqb-true (length plan) (modules p) r.0; b
     go i (yes l) = leb-true (get_or plan i 0) 1 (every-mem (λ (mark : ℕ). leb mark 1) plan r.1 (get_d-mem plan i l))
     go i (no l) = let z : get_or plan i 0 ≡ 0 = get_or-eq_default plan 0 (omega arith) in omega arith
 
+-- seeds that fit are modules
+pub seeds-below : (n : ℕ) (seeds : List ℕ) → seeds_fit n seeds ≡ true → Below n seeds
+unfolding below
+seeds-below n seeds fits i l =
+    let all = (and_parts (leb (length seeds) row_limit) (below n seeds) fits).1 in
+    ltb-true (get_or seeds i 0) n (every-mem (λ (x : ℕ). ltb x n) seeds all (get_d-mem seeds i l))
+
 module _ (t : Lent) (seeds plan : List ℕ) where
-  abbrev p : Project
-  p = t.project
-
-  -- a call whose number isn't 0 is refused with it
-  refused : (n : ℕ) → check_verdict t seeds plan ≡ n → (n ≡ 0 → ⊥) → Refused n ≡ judgement t seeds plan
+  pub project-refused : {e : Refusal} → Err e ≡ tested t.refused → Err e ≡ judgement t seeds plan
   unfolding judgement
-  refused n e h = sym (ap (λ (v : ℕ). cond (is_zero v) (judged p seeds plan) (Refused v)) e ∙ go n h)
-    where
-      go : (v : ℕ) → (v ≡ 0 → ⊥) → cond (is_zero v) (judged p seeds plan) (Refused v) ≡ Refused v
-      go zero k = absurd (k refl)
-      go (suc v) k = refl
+  project-refused h = answer-refused {v = check_verdict t seeds plan} (judged t.project seeds plan) (rw (tested-refused t.refused h) refl)
 
-  pub project-refused : (n : ℕ) → n ≡ t.number → (n ≡ 0 → ⊥) → Refused n ≡ judgement t seeds plan
-  project-refused n e h = refused n (ap (λ (v : ℕ). cond (is_zero v) (cond (seeds_fit (modules p) seeds) (cond (plan_fits (modules p) plan) 0 9) 5) v) (sym e) ∙ number n h) h
-    where
-      number : (v : ℕ) → (v ≡ 0 → ⊥) → cond (is_zero v) (cond (seeds_fit (modules p) seeds) (cond (plan_fits (modules p) plan) 0 9) 5) v ≡ v
-      number zero k = absurd (k refl)
-      number (suc v) k = refl
-
-  module _ (accepts : t.number ≡ 0) where
-    pub seeds-refused : seeds_fit (modules p) seeds ≡ false → Refused 5 ≡ judgement t seeds plan
-    seeds-refused f = refused 5 (rw (accepts, f)) (λ z. omega arith)
-
-    module _ (fits : seeds_fit (modules p) seeds ≡ true) where
-      pub seeds-below : Below (modules p) seeds
-      unfolding below
-      seeds-below i l =
-          let all = (and_parts (leb (length seeds) row_limit) (below (modules p) seeds) fits).1 in
-          ltb-true (get_or seeds i 0) (modules p) (every-mem (λ (x : ℕ). ltb x (modules p)) seeds all (get_d-mem seeds i l))
-
-      pub plan-refused : plan_fits (modules p) plan ≡ false → Refused 9 ≡ judgement t seeds plan
-      plan-refused f = refused 9 (rw (accepts, fits, f)) (λ z. omega arith)
-
-      pub plan-judged : plan_fits (modules p) plan ≡ true → judged p seeds plan ≡ judgement t seeds plan
-      unfolding judgement
-      plan-judged f = sym (ap (λ (v : ℕ). cond (is_zero v) (judged p seeds plan) (Refused v)) z)
-        where
-          z : check_verdict t seeds plan ≡ 0
-          z = rw (accepts, fits, f)
-
--- the refusals
-pub ruleset refusals = (project-refused, seeds-refused, plan-refused)
+  pub plan-judged : t.refused ≡ None → seeds_fit (modules t.project) seeds ≡ true → plan_fits (modules t.project) plan ≡ true → Ok (judged t.project seeds plan) ≡ judgement t seeds plan
+  unfolding judgement
+  plan-judged accepts fits form = answer-accepted {v = check_verdict t seeds plan} (rw (accepts, fits, form) refl) refl

@@ -9,19 +9,10 @@ use crate::Judgement;
 use tables::ModuleIdx;
 
 // Whether a plan is one mark, 0 or 1, for each of n modules.
-#[tactic(auto, using(crate::proofs::Fitting::fit_steps))]
 pub fn plan_fits(plan: &[u32], n: usize) -> bool
     ensures { result ≡ plan_fits n plan.now }
 {
-    if plan.len() != n {
-        return false;
-    }
-    for m in 0..plan.len() {
-        if 1 < plan[m] {
-            return false;
-        }
-    }
-    true
+    plan.len() == n && plan.iter().all(|&mark| mark <= 1)
 }
 
 // The lowest member of one set that is out of another, the mark where there is none.
@@ -30,11 +21,8 @@ pub fn lowest_lacking(asked: &[u32], held: &[u32]) -> u32
     requires few { length asked.now ≤ module_limit }
     ensures { result ≡ lowest (λ (m : ℕ). has asked.now m && not (has held.now m)) (length asked.now) }
 {
-    for m in 0..asked.len() {
-        if asked[m] == 0 {
-            continue;
-        }
-        if held[m] == 0 {
+    for (m, &mark) in asked.iter().enumerate() {
+        if mark != 0 && held[m] == 0 {
             return m as u32;
         }
     }

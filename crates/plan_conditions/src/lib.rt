@@ -4,10 +4,9 @@
 pub mod inner;
 
 // What is said of a plan: it is accepted; or the number of the first broken condition, from 1 on (eligible, seeds, rules (i) to (iv)), and the lowest
-// module that is wrong or lacking; or the number of a refusal.
+// module that is wrong or lacking.
 #[derive(Clone, Copy)]
 pub enum Judgement {
     Accepted,
     Broken(u32, u32),
-    Refused(u32),
 }

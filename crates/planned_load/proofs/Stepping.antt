@@ -1,6 +1,6 @@
 -- A step by its number, and the hosts of the steps.
 -- Assumes nothing.
-use Rattle.std.specs.Prelude.{◌≡◌, ℕ, zero, suc, ◌<◌, ◌≤◌, List, [], ◌∷◌, ◌++◌, map, length, get_or, take, drop}
+use Rattle.std.specs.Prelude.{◌≡◌, ℕ, zero, suc, ◌<◌, ◌≤◌, List, [], ◌∷◌, ◌++◌, map, length, get_or, take, drop, None, Some}
 use mathlib.Core.Path.{refl, sym, ap, subst, ◌∙◌}
 use native.Mathlib.Omega.{arith}
 use lib.ListN.{length-append, length-map, get_or-append}
@@ -13,17 +13,21 @@ use Rattle.entry_run.specs.Actual.{read_as_two}
 use Rattle.entry_run.specs.inner.Cores.{Listed}
 use Rattle.entry_run.proofs.OfProject.{run-of-length, run-of-member}
 use Rattle.wraps_and_hosts.specs.Hosts.{host_by}
-use Rattle.planned_load.specs.declared.LoadStep.TheVariants.{Step, Done}
+use Rattle.planned_load.specs.declared.LoadStep.{LoadStep}
 use Rattle.planned_load.specs.Steps.{planned_run, step_at, step_of, step_modules, step_hosts}
 use Rattle.planned_load.specs.inner.Stepping.{Stepped}
 
+-- a step that lists a module with its host
+abbrev pub step : ℕ → ℕ → LoadStep
+step m host = record { «module» = m; host = host }
+
 -- a step by its number
-pub step-done : (noted listed : List ℕ) (n : ℕ) → length listed ≤ n → step_at noted listed n ≡ Done
+pub step-done : (noted listed : List ℕ) (n : ℕ) → length listed ≤ n → step_at noted listed n ≡ None
 step-done noted [] n h = refl
 step-done noted (m ∷ listed) zero h = absurd (omega arith)
 step-done noted (m ∷ listed) (suc n) h = step-done noted listed n (omega arith)
 
-pub step-there : (noted listed : List ℕ) (n : ℕ) → n < length listed → step_at noted listed n ≡ Step (get_or listed n 0) (host_by noted (get_or listed n 0))
+pub step-there : (noted listed : List ℕ) (n : ℕ) → n < length listed → step_at noted listed n ≡ Some (step (get_or listed n 0) (host_by noted (get_or listed n 0)))
 step-there noted [] n h = absurd (omega arith)
 step-there noted (m ∷ listed) zero h = refl
 step-there noted (m ∷ listed) (suc n) h = step-there noted listed n (omega arith)
@@ -71,7 +75,7 @@ module _ (p : Project) (plan : List ℕ) (root : ℕ) where
               };
         }
 
-    pub held-done : (n : ℕ) → r ≤ n → Done ≡ step_of p plan root n
+    pub held-done : (n : ℕ) → r ≤ n → None ≡ step_of p plan root n
     unfolding step_of
     held-done n h = sym (step-done (planned_run p plan root).hosts listed n (omega (arith, w.listed.count)))
 
@@ -81,10 +85,10 @@ module _ (p : Project) (plan : List ℕ) (root : ℕ) where
     pub held-module : (n : ℕ) → n < r → get_or order n 0 < modules p
     held-module n h = subst (λ (m : ℕ). m < modules p) (sym (held_at n h)) (planned_below n (omega (arith, w.listed.count)))
 
-    pub held-step : (n : ℕ) → n < r → {noted' : List ℕ} {host : ℕ} → noted' ≡ noted → host ≡ host_by noted' (get_or order n 0) → Step (get_or order n 0) host ≡ step_of p plan root n
+    pub held-step : (n : ℕ) → n < r → {noted' : List ℕ} {host : ℕ} → noted' ≡ noted → host ≡ host_by noted' (get_or order n 0) → Some (step (get_or order n 0) host) ≡ step_of p plan root n
     unfolding step_of
     held-step n h {host = host} e f =
         let at = held_at n h in
-        ap (Step (get_or order n 0)) (f ∙ ap (λ (l : List ℕ). host_by l (get_or order n 0)) (e ∙ w.hosts))
-        ∙ ap (λ (m : ℕ). Step m (host_by (planned_run p plan root).hosts m)) at
+        ap (λ (h : ℕ). Some (step (get_or order n 0) h)) (f ∙ ap (λ (l : List ℕ). host_by l (get_or order n 0)) (e ∙ w.hosts))
+        ∙ ap (λ (m : ℕ). Some (step m (host_by (planned_run p plan root).hosts m))) at
         ∙ sym (step-there (planned_run p plan root).hosts listed n (omega (arith, w.listed.count)))

@@ -167,7 +167,7 @@ fn list_arranged<'a>(
     )
 }
 
-// A step of an entry's load with a plan, by its number, the members as they are read.
+// A step of an entry's load with a plan, by its number, the members as they are read; none where none is left.
 pub fn step_planned<'a>(
     runtime: u32,
     dynamic: u32,
@@ -183,7 +183,7 @@ pub fn step_planned<'a>(
     root: u32,
     chunk: u32,
     number: u32,
-) -> LoadStep
+) -> Option<LoadStep>
     requires names { let p : Project = read (table runtime dynamic bounds.now columns.now) importers.now kinds.now targets.now dependencies.now members.now in names_in (modules p) names.now ≡ true }
     requires entered { let p : Project = read (table runtime dynamic bounds.now columns.now) importers.now kinds.now targets.now dependencies.now members.now in Entered p plan.now root chunk }
     ensures { let p : Project = read (table runtime dynamic bounds.now columns.now) importers.now kinds.now targets.now dependencies.now members.now in result ≡ step_of (named p names.now) plan.now root number }
@@ -209,12 +209,14 @@ pub fn step_planned<'a>(
         chunk,
     );
     let at = number as usize;
-    let through = at + 1;
-    if count < through {
-        return LoadStep::Done;
+    if count <= at {
+        return None;
     }
-    let m = order[at];
-    LoadStep::Step(m, own_host(&noted[..n], m))
+    let module = order[at];
+    Some(LoadStep {
+        module,
+        host: own_host(&noted[..n], module),
+    })
 }
 
 // The steps of an entry's load with a plan: their modules written to `steps` from place 0, and their hosts to `hosts`. How many there

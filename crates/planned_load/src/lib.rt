@@ -3,10 +3,9 @@
 
 pub mod inner;
 
-// What a step of a tried load answers: the module that is listed next and its host; or that none is left; or the number of a refusal.
-#[derive(Clone, Copy)]
-pub enum LoadStep {
-    Step(u32, u32),
-    Done,
-    Refused(u32),
+// A step of a tried load: the module that is listed next, and its host.
+#[derive(Clone, Copy, PartialEq, Eq)]
+pub struct LoadStep {
+    pub module: u32,
+    pub host: u32,
 }

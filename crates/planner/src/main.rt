@@ -15,12 +15,12 @@ use parts::{first_of, part_of};
 use sort_modules::sort_modules;
 use std::io;
 use streams::read_full;
-use table::{COLUMNS, ENTRY, MODULE_LIMIT, ROW_LIMIT, column};
-use tables::Answer;
+use table::{COLUMNS, ENTRY, MODULE_LIMIT, ROW_LIMIT, Table};
+use tables::Refusal;
 
 // Writes as many bytes as were counted.
-fn write_counted(rt: &impl Print, out: &[u8], answer: Answer) -> io::Result<()> {
-    let Answer::Counted(n) = answer else {
+fn write_counted(rt: &impl Print, out: &[u8], answer: Result<usize, Refusal>) -> io::Result<()> {
+    let Ok(n) = answer else {
         return Ok(());
     };
     if n <= out.len() {
@@ -42,9 +42,9 @@ fn print_counted(
     word: &[u8],
     entry: &[u32],
     values: &[u32],
-    answer: Answer,
+    answer: Result<usize, Refusal>,
 ) -> io::Result<()> {
-    let Answer::Counted(n) = answer else {
+    let Ok(n) = answer else {
         return Ok(());
     };
     print(rt, word, entry, first_of(values, n))
@@ -63,9 +63,9 @@ fn print_written(
     word: &[u8],
     entry: &[u32],
     marks: &[u32],
-    answer: Answer,
+    answer: Result<usize, Refusal>,
 ) -> io::Result<()> {
-    let Answer::Counted(_) = answer else {
+    let Ok(_) = answer else {
         return Ok(());
     };
     print_members(rt, word, entry, marks)
@@ -73,16 +73,13 @@ fn print_written(
 
 // Prints each path as a line: they stand one after the other, with these lengths.
 fn print_circles<'a>(rt: &impl Print, paths: &'a [u32], lengths: &'a [u32]) -> io::Result<()> {
-    let mut at = 0;
-    let mut row = 0;
-    while row < lengths.len() {
-        let length = lengths[row] as usize;
-        if paths.len() - at < length {
+    let mut left = paths;
+    for &length in lengths {
+        let Some((path, behind)) = left.split_at_checked(length as usize) else {
             return Ok(());
-        }
-        print(rt, b"circle", &[], &paths[at..at + length])?;
-        at += length;
-        row += 1;
+        };
+        print(rt, b"circle", &[], path)?;
+        left = behind;
     }
     Ok(())
 }
@@ -92,152 +89,73 @@ fn counted_circles<'a>(
     rt: &impl Print,
     paths: &'a [u32],
     lengths: &'a [u32],
-    answer: Answer,
+    answer: Result<usize, Refusal>,
 ) -> io::Result<()> {
     match answer {
-        Answer::Refused(_) => { rt.write_all(b"circles refused\n") }
-        Answer::Counted(n) => print_circles(rt, paths, first_of(lengths, n)),
+        Err(_) => { rt.write_all(b"circles refused\n") }
+        Ok(n) => print_circles(rt, paths, first_of(lengths, n)),
     }
 }
 
 // Prints the import circles.
-fn circle_lines<'a>(
-    rt: &impl Print,
-    runtime: u32,
-    dynamic: u32,
-    bounds: &'a [u32],
-    columns: &'a [u32],
-    names: &'a [u8],
-) -> io::Result<()> {
+fn circle_lines(rt: &impl Print, table: &Table) -> io::Result<()> {
     let mut paths = [0u32; ROW_LIMIT];
     let mut lengths = [0u32; ROW_LIMIT];
-    let answer = import_circles(
-        runtime,
-        dynamic,
-        bounds,
-        columns,
-        names,
-        &mut paths,
-        &mut lengths,
-    );
+    let answer = import_circles(table, &mut paths, &mut lengths);
     counted_circles(rt, &paths, &lengths, answer)
 }
 
 // Prints the expected order of a root.
-fn expected_line<'a>(
-    rt: &impl Print,
-    runtime: u32,
-    dynamic: u32,
-    bounds: &'a [u32],
-    columns: &'a [u32],
-    names: &'a [u8],
-    root: u32,
-) -> io::Result<()> {
+fn expected_line(rt: &impl Print, table: &Table, root: u32) -> io::Result<()> {
     let mut expected = [0u32; MODULE_LIMIT];
-    let answer = expected_order(
-        runtime,
-        dynamic,
-        bounds,
-        columns,
-        names,
-        root,
-        &mut expected,
-    );
+    let answer = expected_order(table, root, &mut expected);
     print_counted(rt, b"expected", &[root], &expected, answer)
 }
 
 // Prints the order risk of an analysed entry.
-fn early_line<'a>(
-    rt: &impl Print,
-    runtime: u32,
-    dynamic: u32,
-    bounds: &'a [u32],
-    columns: &'a [u32],
-    names: &'a [u8],
-    root: u32,
-) -> io::Result<()> {
+fn early_line(rt: &impl Print, table: &Table, root: u32) -> io::Result<()> {
     let mut marks = [0u32; MODULE_LIMIT];
-    let answer = order_risk(runtime, dynamic, bounds, columns, names, root, &mut marks);
+    let answer = order_risk(table, root, &mut marks);
     print_written(rt, b"early", &[root], &marks, answer)
 }
 
 // Prints the cycle risk of an analysed entry.
-fn cycle_line<'a>(
-    rt: &impl Print,
-    runtime: u32,
-    dynamic: u32,
-    bounds: &'a [u32],
-    columns: &'a [u32],
-    names: &'a [u8],
-    root: u32,
-) -> io::Result<()> {
+fn cycle_line(rt: &impl Print, table: &Table, root: u32) -> io::Result<()> {
     let mut marks = [0u32; MODULE_LIMIT];
-    let answer = cycle_risk(runtime, dynamic, bounds, columns, names, root, &mut marks);
+    let answer = cycle_risk(table, root, &mut marks);
     print_written(rt, b"cycle", &[root], &marks, answer)
 }
 
 // Prints the lines of an entry whose actual order was written.
-fn analysed_lines<'a>(
+fn analysed_lines(
     rt: &impl Print,
-    runtime: u32,
-    dynamic: u32,
-    bounds: &'a [u32],
-    columns: &'a [u32],
-    names: &'a [u8],
+    table: &Table,
     root: u32,
     actual: &[u32],
-    answer: Answer,
+    answer: Result<usize, Refusal>,
 ) -> io::Result<()> {
-    let Answer::Counted(n) = answer else {
+    let Ok(n) = answer else {
         return Ok(());
     };
-    expected_line(rt, runtime, dynamic, bounds, columns, names, root)?;
+    expected_line(rt, table, root)?;
     print(rt, b"actual", &[root], first_of(actual, n))?;
-    early_line(rt, runtime, dynamic, bounds, columns, names, root)?;
-    cycle_line(rt, runtime, dynamic, bounds, columns, names, root)
+    early_line(rt, table, root)?;
+    cycle_line(rt, table, root)
 }
 
 // Prints the lines of an entry. Actual order refuses an entry that isn't analysed.
-fn entry_lines<'a>(
-    rt: &impl Print,
-    runtime: u32,
-    dynamic: u32,
-    bounds: &'a [u32],
-    columns: &'a [u32],
-    names: &'a [u8],
-    root: u32,
-) -> io::Result<()> {
+fn entry_lines(rt: &impl Print, table: &Table, root: u32) -> io::Result<()> {
     let mut actual = [0u32; MODULE_LIMIT];
     let mut hosts = [0u32; MODULE_LIMIT];
-    let answer = actual_order(
-        runtime,
-        dynamic,
-        bounds,
-        columns,
-        names,
-        root,
-        &mut actual,
-        &mut hosts,
-    );
-    analysed_lines(
-        rt, runtime, dynamic, bounds, columns, names, root, &actual, answer,
-    )
+    let answer = actual_order(table, root, &mut actual, &mut hosts);
+    analysed_lines(rt, table, root, &actual, answer)
 }
 
 // Prints the lines of each analysed entry, in row order.
-fn entries<'a>(
-    rt: &impl Print,
-    runtime: u32,
-    dynamic: u32,
-    bounds: &'a [u32],
-    columns: &'a [u32],
-    names: &'a [u8],
-) -> io::Result<()> {
-    let rows = column(bounds, columns, ENTRY);
-    let mut row = 0;
-    while row < rows.len() {
-        entry_lines(rt, runtime, dynamic, bounds, columns, names, rows[row])?;
-        row += 1;
+fn entries(rt: &impl Print, table: &Table) -> io::Result<()> {
+    let rows = table.column(ENTRY);
+    for &root in rows {
+        entry_lines(rt, table, root)?;
     }
     Ok(())
 }
@@ -252,91 +170,54 @@ fn ground_line(rt: &impl Print, module: u32, ground: u32) -> io::Result<()> {
 
 // Prints the line of each module that has a ground, rising.
 fn lines_of_grounds(rt: &impl Print, marks: &[u32; MODULE_LIMIT]) -> io::Result<()> {
-    let mut m = 0;
-    while m < MODULE_LIMIT {
-        ground_line(rt, m as u32, marks[m])?;
-        m += 1;
+    for (m, &ground) in marks.iter().enumerate() {
+        ground_line(rt, m as u32, ground)?;
     }
     Ok(())
 }
 
 // Prints the lines of the sensitive modules.
-fn ground_lines<'a>(
-    rt: &impl Print,
-    runtime: u32,
-    dynamic: u32,
-    bounds: &'a [u32],
-    columns: &'a [u32],
-    names: &'a [u8],
-) -> io::Result<()> {
+fn ground_lines(rt: &impl Print, table: &Table) -> io::Result<()> {
     let mut marks = [0u32; MODULE_LIMIT];
-    let answer = grounds(runtime, dynamic, bounds, columns, names, &mut marks);
-    let Answer::Counted(_) = answer else {
+    let answer = grounds(table, &mut marks);
+    let Ok(_) = answer else {
         return Ok(());
     };
     lines_of_grounds(rt, &marks)
 }
 
 // Prints the line of the plan.
-fn plan_line<'a>(
-    rt: &impl Print,
-    runtime: u32,
-    dynamic: u32,
-    bounds: &'a [u32],
-    columns: &'a [u32],
-    names: &'a [u8],
-) -> io::Result<()> {
+fn plan_line(rt: &impl Print, table: &Table) -> io::Result<()> {
     let mut marks = [0u32; MODULE_LIMIT];
-    let answer = analyze_execution_order(runtime, dynamic, bounds, columns, names, &mut marks);
+    let answer = analyze_execution_order(table, &mut marks);
     print_written(rt, b"plan", &[], &marks, answer)
 }
 
 // Prints the lines of a project whose module order was written, or its refusal.
-fn sorted_lines<'a>(
+fn sorted_lines(
     rt: &impl Print,
-    runtime: u32,
-    dynamic: u32,
-    bounds: &'a [u32],
-    columns: &'a [u32],
-    names: &'a [u8],
+    table: &Table,
     sorted: &[u32],
-    answer: Answer,
+    answer: Result<usize, Refusal>,
 ) -> io::Result<()> {
     match answer {
-        Answer::Refused(number) => print(rt, b"refused", &[], &[number]),
-        Answer::Counted(n) => {
+        Err(refusal) => print(rt, b"refused", &[], &[refusal.number()]),
+        Ok(n) => {
             print(rt, b"sorted", &[], first_of(sorted, n))?;
-            circle_lines(rt, runtime, dynamic, bounds, columns, names)?;
-            entries(rt, runtime, dynamic, bounds, columns, names)?;
-            ground_lines(rt, runtime, dynamic, bounds, columns, names)?;
-            plan_line(rt, runtime, dynamic, bounds, columns, names)
+            circle_lines(rt, table)?;
+            entries(rt, table)?;
+            ground_lines(rt, table)?;
+            plan_line(rt, table)
         }
     }
 }
 
 // Prints the lines of a project, or its refusal.
-fn lines<'a>(
-    rt: &impl Print,
-    runtime: u32,
-    dynamic: u32,
-    bounds: &'a [u32],
-    columns: &'a [u32],
-    names: &'a [u8],
-) -> io::Result<()> {
+fn lines(rt: &impl Print, table: &Table) -> io::Result<()> {
     let mut numbers = [0u32; MODULE_LIMIT];
     let mut sorted = [0u32; MODULE_LIMIT];
-    let answer = sort_modules(
-        runtime,
-        dynamic,
-        bounds,
-        columns,
-        names,
-        &mut numbers,
-        &mut sorted,
-    );
-    sorted_lines(
-        rt, runtime, dynamic, bounds, columns, names, &sorted, answer,
-    )
+    let answer = sort_modules(table, &mut numbers, &mut sorted);
+    sorted_lines(rt, table, &sorted, answer)
 }
 
 // Prints the lines of a project that was read, with n values in its columns.
@@ -350,11 +231,13 @@ fn lines_of<'a>(
 ) -> io::Result<()> {
     lines(
         rt,
-        settings[0],
-        settings[1],
-        bounds,
-        first_of(columns, n),
-        names,
+        &Table::new(
+            settings[0],
+            settings[1],
+            bounds,
+            first_of(columns, n),
+            names,
+        ),
     )
 }
 
@@ -365,9 +248,16 @@ fn lines_of_text(rt: &impl Print, text: &[u8]) -> io::Result<()> {
     let mut columns = [0u32; 32768];
     let answer = read(text, &mut settings, &mut bounds, &mut columns);
     match answer {
-        Reading::Refused(number) => print(rt, b"refused", &[], &[number]),
-        Reading::Read(k, from, to) => {
-            lines_of(rt, settings, &bounds, &columns, k, part_of(text, from, to))
+        Err(refusal) => print(rt, b"refused", &[], &[refusal.number()]),
+        Ok(Reading { values, from, to }) => {
+            lines_of(
+                rt,
+                settings,
+                &bounds,
+                &columns,
+                values,
+                part_of(text, from, to),
+            )
         }
     }
 }

@@ -1,7 +1,8 @@
 -- The load theorem's premises: a listing that meets them with a plan that isn't empty, and for each premise one that fails without it alone.
 -- Assumes nothing.
-use Rattle.std.specs.Prelude.{◌≡◌, Bool, true, false, ◌&&◌, List, [], ◌∷◌, map, ℕ}
-use Rattle.lists.specs.Words.{is_zero, keep, every, has}
+use Rattle.std.specs.Option.{is_none}
+use Rattle.std.specs.Prelude.{◌≡◌, Bool, true, false, ◌&&◌, List, [], ◌∷◌, map, ℕ, None}
+use Rattle.lists.specs.Words.{keep, every, has}
 use Rattle.tables.specs.Project.{Project}
 use Rattle.tables.specs.Readings.{is_analysed}
 use Rattle.tables.specs.Refusal.{refusal}
@@ -17,7 +18,7 @@ use Rattle.load_promises.specs.Load.{implies, planned_wraps, only_eligible, no_r
 
 -- the listing of document 01: as written its load runs 3 before 2, and with its plan {1,3} after it
 pub record PlainWitness : Type 0 where
-  pub accepted : refusal listing ≡ 0
+  pub accepted : refusal listing ≡ None
   pub plain : Plain listing
   pub analysed : is_analysed listing 1 ≡ true
   pub plan : whole_plan listing ≡ 0 ∷ 1 ∷ 0 ∷ 1 ∷ []
@@ -125,7 +126,7 @@ load_cases =
 unfoldable pub EachPlainPremiseIsNeeded : Type 0
 EachPlainPremiseIsNeeded =
     (map (λ (c : LoadCase). load_case c.on c.root) load_cases ≡ load_cases)
-    × (every (λ (c : LoadCase). is_zero (refusal c.on) && is_analysed c.on c.root) load_cases ≡ true)
+    × (every (λ (c : LoadCase). is_none (refusal c.on) && is_analysed c.on c.root) load_cases ≡ true)
 
 -- rule (iii): the entry is insensitive and stands before module 2 in its chunk
 abbrev entry_first : Project
@@ -137,7 +138,7 @@ without_importer = 0 ∷ 0 ∷ 0 ∷ 1 ∷ []
 
 -- with just this set wrapped, the load of a plain project runs module 3 before module 2
 pub record ImportRuleIsNeededForTheLoad : Type 0 where
-  pub accepted : refusal entry_first ≡ 0
+  pub accepted : refusal entry_first ≡ None
   pub plain : Plain entry_first
   pub analysed : is_analysed entry_first 1 ≡ true
   pub seeds : every (λ (m : ℕ). implies (eligible entry_first m) (has without_importer m)) (seeds_of entry_first) ≡ true

@@ -1,7 +1,8 @@
 -- Each rule and each premise is needed: counterexamples.
 -- Assumes nothing.
-use Rattle.std.specs.Prelude.{◌≡◌, Bool, true, false, not, ◌&&◌, ◌||◌, List, [], ◌∷◌, map, ℕ}
-use Rattle.lists.specs.Words.{is_zero, up_to, every, has}
+use Rattle.std.specs.Option.{is_none}
+use Rattle.std.specs.Prelude.{◌≡◌, Bool, true, false, not, ◌&&◌, List, [], ◌∷◌, map, ℕ}
+use Rattle.lists.specs.Words.{up_to, every, has}
 use Rattle.tables.specs.Project.{Project, project, missing}
 use Rattle.tables.specs.Readings.{modules, is_analysed}
 use Rattle.tables.specs.Refusal.{refusal}
@@ -38,7 +39,7 @@ others read_rule = suffix_rule ∷ component_rule ∷ import_rule ∷ []
 
 unfoldable pub is_needed : NeededRule → Bool
 is_needed c =
-    is_zero (refusal c.on)
+    is_none (refusal c.on)
     && (every (λ (m : ℕ). implies (eligible c.on m) (has c.marks m)) c.seeds
     && (every (closed_under c.on c.marks) (others c.rule)
     && not (every (λ (m : ℕ). implies (has (plan_of c.on c.seeds) m) (has c.marks m)) (up_to (modules c.on)))))
@@ -133,7 +134,7 @@ needed_premises =
 unfoldable pub EachPremiseIsNeeded : Type 0
 EachPremiseIsNeeded =
     (map (λ (c : NeededPremise). found c.on c.root) needed_premises ≡ needed_premises)
-    × (every (λ (c : NeededPremise). is_zero (refusal c.on)) needed_premises ≡ true)
+    × (every (λ (c : NeededPremise). is_none (refusal c.on)) needed_premises ≡ true)
 
 -- The whole analysis isn't kept by more imports: chunk 1 loads chunk 2 first, the order is right, and nothing is at risk.
 

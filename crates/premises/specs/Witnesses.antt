@@ -1,10 +1,9 @@
 -- For each promise with premises, a listing that meets them, with a conclusion that isn't empty.
 -- Assumes nothing.
-use Rattle.std.specs.Prelude.{◌≡◌, true, false, [], ◌∷◌, ℕ}
+use Rattle.std.specs.Prelude.{◌≡◌, true, false, [], ◌∷◌, ℕ, Ok, None}
 use Rattle.lists.specs.Words.{elem}
 use Rattle.tables.specs.Readings.{is_analysed}
 use Rattle.tables.specs.Refusal.{refusal}
-use Rattle.tables.specs.declared.Answer.TheVariants.{Counted}
 use Rattle.chunk_cycles.specs.Paths.{MoreImports}
 use Rattle.eligibility.specs.Eligible.{eligible}
 use Rattle.wrap_rules.specs.Plan.{expected_sensitive_of}
@@ -40,8 +39,8 @@ pub record MoreSeedRowsWitness : Type 0 where
 
 -- one import more
 pub record MoreImportsWitness : Type 0 where
-  pub accepted : refusal listing ≡ 0
-  pub accepted' : refusal edge10 ≡ 0
+  pub accepted : refusal listing ≡ None
+  pub accepted' : refusal edge10 ≡ None
   pub more : MoreImports listing edge10
   pub plan : plan_of listing (1 ∷ []) ≡ 0 ∷ 1 ∷ 0 ∷ 0 ∷ []
 
@@ -56,5 +55,5 @@ pub record SameOrderWitness : Type 0 where
 
 -- an accepted call of each operation, with a plan and one place past it
 pub record CallWitness : Type 0 where
-  pub planned : PlanFromSeeds (lent_by listing) (2 ∷ []) lent (Counted 3) (0 ∷ 1 ∷ 1 ∷ 1 ∷ 5 ∷ [])
-  pub analysed : WholeAnalysis (lent_by listing) lent (Counted 2) (0 ∷ 1 ∷ 0 ∷ 1 ∷ 5 ∷ [])
+  pub planned : PlanFromSeeds (lent_by listing) (2 ∷ []) lent (Ok 3) (0 ∷ 1 ∷ 1 ∷ 1 ∷ 5 ∷ [])
+  pub analysed : WholeAnalysis (lent_by listing) lent (Ok 2) (0 ∷ 1 ∷ 0 ∷ 1 ∷ 5 ∷ [])

@@ -1,5 +1,6 @@
 -- What is read of a project is a project like any other.
 -- Assumes nothing.
+use Rattle.std.specs.Prelude.{None}
 use mathlib.Core.Path.{◌≡◌, refl, sym, ◌∙◌}
 use mathlib.Core.Bool.{Bool, true, ◌&&◌}
 use mathlib.Core.List.{List, [], ◌∷◌}
@@ -12,7 +13,7 @@ use Rattle.tables.specs.Readings.{modules, chunks}
 use Rattle.tables.specs.Refusal.{sized, sizes_fit, below, pair_in, entries_in, code_in, symbols_in, values_fit, rows_rise, rows_agree, refusal}
 use Rattle.tables.specs.Accepted.{Below}
 use Rattle.tables.proofs.Accepted.{all-passed, accepted}
-use Rattle.tables.proofs.Number.{number-0}
+use Rattle.tables.proofs.Number.{none-refused}
 use Rattle.table.specs.Table.{read, current}
 use Rattle.table.proofs.Current.{current-tested}
 use Rattle.table.proofs.Laws.{lent-tested}
@@ -46,7 +47,7 @@ one-part a b c d t t' e x z =
     let z5 = and_parts d t z4.0 in
     rw (z1.0, z2.0, z3.0, z5.0, x z5.1, z4.1)
 
-module _ (p : Project) (names : List ℕ) (z : refusal p ≡ 0) where
+module _ (p : Project) (names : List ℕ) (z : refusal p ≡ None) where
   sizes-named : sizes_fit (named p names) ≡ sizes_fit p
   unfolding sizes_fit sized named read
   sizes-named = rw (read-size p (accepted p z) names)
@@ -60,9 +61,9 @@ module _ (p : Project) (names : List ℕ) (z : refusal p ≡ 0) where
       one-part (code_in p) (symbols_in p) (below missing p.order) (below (chunks p) p.member_chunk) (below (modules p) p.member) (below (modules p) (members_read p names)) (pair_in (chunks p) (chunks p) p.import_chunk p.imports && (entries_in (modules p) (chunks p) p.entry p.entry_chunk && below (modules p) p.seed))
       (λ e. members-in)
 
-  named-tested : refusal (named p names) ≡ 0
+  named-tested : refusal (named p names) ≡ None
   unfolding rows_rise rows_agree named read
-  named-tested = let t = all-passed p z in sym (number-0 (named p names) (sizes-named ∙ t.0) (values-named t.1) t.2 t.3 t.4)
+  named-tested = let t = all-passed p z in sym (none-refused (named p names) (sizes-named ∙ t.0) (values-named t.1) t.2 t.3 t.4)
 
 pub what-is-read-is-accepted : WhatIsReadIsAccepted
 unfolding WhatIsReadIsAccepted

@@ -10,8 +10,9 @@ use Rattle.lists.specs.Words.{is_zero, has, marks_of}
 use Rattle.lists.proofs.Laws.{marks_of-cong}
 use Rattle.tables.specs.Project.{Project}
 use Rattle.tables.specs.Readings.{modules}
-use Rattle.tables.specs.Answers.{number_of}
-use Rattle.tables.specs.declared.Answer.{Answer}
+use Rattle.std.specs.Prelude.{None, Result}
+use Rattle.tables.specs.Answers.{refused_of}
+use Rattle.tables.specs.declared.Refusal.{Refusal}
 use Rattle.table.specs.Table.{Lent}
 use Rattle.arrangement.specs.OfProject.{named, named_lent}
 use Rattle.arrangement.proofs.OfProject.{named-modules}
@@ -28,7 +29,7 @@ risk_is_the_join p root = risk-is-the-join p root
 
 -- an accepted call leaves its marks
 module _ (set : Project → ℕ → List ℕ) (t : Lent) (root : ℕ) (size : length (set t.project root) ≡ modules t.project)
-    (marks marks' : List ℕ) (r : Answer) (e : EntryMarks set t root marks r marks') (z : number_of r ≡ 0) where
+    (marks marks' : List ℕ) (r : Result ℕ Refusal) (e : EntryMarks set t root marks r marks') (z : refused_of r ≡ None) where
   left : marks' ≡ set t.project root ++ drop (modules t.project) marks
   left = (leaves t.project (set t.project root) marks marks' r (risk_verdict t root (length marks)) size e.answered e.written z).written
 

@@ -5,7 +5,8 @@ use mathlib.Core.Logic.{⊎_elim}
 use mathlib.Core.Bool.{true}
 use mathlib.Core.List.Memᴰ
 use mathlib.Core.List.{List, ◌++◌, Memᴰ}
-use Prim.Native.Nat.{ℕ, zero, suc}
+use Prim.Native.Nat.{ℕ}
+use Rattle.std.specs.Prelude.{Option, None, Some, Result}
 use native.Mathlib.Omega.{arith}
 use lib.ListN.{length, get_or, drop}
 use Rattle.lists.specs.Words.{up_to, elem, has, ones, Distinct}
@@ -13,12 +14,11 @@ use Rattle.lists.proofs.Laws.{any-mem, keep-mem, up_to-mem}
 use Rattle.walk.specs.Close.{Within, Closed, Bits}
 use Rattle.tables.specs.Project.{Project}
 use Rattle.tables.specs.Readings.{modules, analysed_row, is_analysed, analysed, entry_chunk_of, rows_of}
-use Rattle.tables.specs.Answers.{number_of, count_of, after}
-use Rattle.tables.specs.declared.Answer.{Answer}
+use Rattle.tables.specs.Answers.{answer, refused_of, count_of, after}
+use Rattle.tables.specs.declared.Refusal.{Refusal}
 use Rattle.tables.specs.Accepted.{Accepted}
 use Rattle.tables.proofs.Accepted.{accepted}
 use Rattle.tables.proofs.OwnerRows.{mem-rows}
-use Rattle.table.specs.Table.{answer}
 use Rattle.chunk_cycles.specs.Cycles.{labels_of, reaches_cycle_of}
 use Rattle.chunk_cycles.specs.Paths.{MoreImports}
 use Rattle.chunk_cycles.proofs.OverTable.{accepted-fit}
@@ -139,19 +139,19 @@ whole_plan_keeps_the_order p root a e_e e_a = record {
   same = struck p root a e_e e_a;
 }
 
--- the number of an answer
-answer-number : (v count : ℕ) → number_of (answer v count) ≡ v
-answer-number zero count = refl
-answer-number (suc v) count = refl
+-- an answered call that nothing refuses
+not-refused : (v : Option Refusal) (count : ℕ) → refused_of (answer v count) ≡ None → v ≡ None
+not-refused None count z = refl
+not-refused (Some x) count z = z
 
--- a call whose number is 0 leaves the new list and counts it
-pub leaves : (p : Project) (plan marks marks' : List ℕ) (r : Answer) (v : ℕ) → length plan ≡ modules p → r ≡ answer v (ones plan) → marks' ≡ after v marks plan
-    → number_of r ≡ 0 → LeavesPlan p plan marks r marks'
+-- a call that nothing refuses leaves the new list and counts it
+pub leaves : (p : Project) (plan marks marks' : List ℕ) (r : Result ℕ Refusal) (v : Option Refusal) → length plan ≡ modules p → r ≡ answer v (ones plan) → marks' ≡ after v marks plan
+    → refused_of r ≡ None → LeavesPlan p plan marks r marks'
 leaves p plan marks marks' r v n e w z =
-    let o : v ≡ 0 = sym (answer-number v (ones plan)) ∙ ap number_of (sym e) ∙ z in
+    let o : v ≡ None = not-refused v (ones plan) (ap refused_of (sym e) ∙ z) in
     record {
-      written = w ∙ ap (λ (k : ℕ). after k marks plan) o ∙ ap (λ (k : ℕ). plan ++ drop k marks) n;
-      count = ap count_of e ∙ ap (λ (k : ℕ). count_of (answer k (ones plan))) o;
+      written = w ∙ ap (λ (k : Option Refusal). after k marks plan) o ∙ ap (λ (k : ℕ). plan ++ drop k marks) n;
+      count = ap count_of e ∙ ap (λ (k : Option Refusal). count_of (answer k (ones plan))) o;
     }
 
 pub plan_call_leaves_the_plan : PlanCallLeavesThePlan

@@ -1,7 +1,7 @@
 -- 02's chunk contents: what the arrangement holds, and what doesn't read it. `AsRead` says that a call's project with it is a project like any other.
 -- Each statement is a type; `proofs/` inhabits it under the same name in small letters.
 -- Assumes nothing.
-use Rattle.std.specs.Prelude.{◌≡◌, false, List, [], ℕ, ◌<◌, length, get_or, eqb}
+use Rattle.std.specs.Prelude.{◌≡◌, false, List, [], ℕ, ◌<◌, length, get_or, eqb, None}
 use Rattle.lists.specs.Words.{keep}
 use Rattle.tables.specs.Project.{Project}
 use Rattle.tables.specs.Readings.{chunks, members_of}
@@ -20,7 +20,7 @@ pub record ChunkArranged (p : Project) (names : List ℕ) (c : ℕ) : Type 0 whe
 
 unfoldable pub ChunksAreArranged : Type 0
 ChunksAreArranged =
-    (p : Project) (names : List ℕ) → refusal p ≡ 0
+    (p : Project) (names : List ℕ) → refusal p ≡ None
     → (length (arranged_of p names) ≡ length p.member) × ((c : ℕ) → c < chunks p → ChunkArranged p names c)
 
 -- "a project without the list .. is still read": as it is

@@ -1,6 +1,6 @@
 -- 02's replaced modules: what is read of a project is a project like any other, so that every statement here holds of it.
 -- Assumes nothing.
-use Rattle.std.specs.Prelude.{◌≡◌, true, List, ℕ, ◌<◌, length, get_or}
+use Rattle.std.specs.Prelude.{◌≡◌, true, List, ℕ, ◌<◌, length, get_or, None}
 use Rattle.tables.specs.Project.{Project, missing}
 use Rattle.tables.specs.Refusal.{newer_fits, refusal}
 use Rattle.table.specs.Table.{current, lent_as}
@@ -22,7 +22,7 @@ ChainsEnd = (newer : List ℕ) → newer_fits newer ≡ true → (m : ℕ) → E
 unfoldable pub WhatIsReadIsAccepted : Type 0
 WhatIsReadIsAccepted =
     (bounds columns names : List ℕ) (p : Project) → let t = lent_as bounds columns names p in
-    t.number ≡ 0 → (refusal t.project ≡ 0) × (refusal (named_lent names t).project ≡ 0)
+    t.refused ≡ None → (refusal t.project ≡ None) × (refusal (named_lent names t).project ≡ None)
 
 -- more seed rows and more chunk imports are more of what is read
 pub record ChangesAreRead : Type 0 where

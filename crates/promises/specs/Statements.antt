@@ -1,14 +1,14 @@
 -- What is promised of the two plans: the plan from seeds and the plan of the whole analysis.
 -- Each statement is a type; `proofs/` inhabits it under the same name in small letters.
 -- Assumes nothing.
-use Rattle.std.specs.Prelude.{◌≡◌, true, not, ℕ, ◌≤◌, ◌<◌, length, get_or, drop}
+use Rattle.std.specs.Prelude.{◌≡◌, true, not, ℕ, ◌≤◌, ◌<◌, length, get_or, drop, None, Result}
 use mathlib.Core.List.{List, ◌++◌, Memᴰ}
 use Rattle.lists.specs.Words.{keep, elem, has, ones}
 use Rattle.tables.specs.Project.{Project}
 use Rattle.tables.specs.Readings.{modules, is_analysed}
 use Rattle.tables.specs.Refusal.{refusal}
-use Rattle.tables.specs.Answers.{number_of, count_of}
-use Rattle.tables.specs.declared.Answer.{Answer}
+use Rattle.tables.specs.Answers.{refused_of, count_of}
+use Rattle.tables.specs.declared.Refusal.{Refusal}
 use Rattle.table.specs.Table.{Lent}
 use Rattle.chunk_cycles.specs.Cycles.{labels_of}
 use Rattle.chunk_cycles.specs.Paths.{MoreImports}
@@ -54,7 +54,7 @@ MoreSeedRowsKeepTheWholePlan =
 -- equal, and both projects accepted
 unfoldable pub MoreImportsKeepThePlan : Type 0
 MoreImportsKeepThePlan =
-    (p : Project) (froms tos seeds : List ℕ) → refusal p ≡ 0 → refusal (with_imports p froms tos) ≡ 0 → MoreImports p (with_imports p froms tos)
+    (p : Project) (froms tos seeds : List ℕ) → refusal p ≡ None → refusal (with_imports p froms tos) ≡ None → MoreImports p (with_imports p froms tos)
     → (m : ℕ) → has (plan_of p seeds) m ≡ true → has (plan_of (with_imports p froms tos) seeds) m ≡ true
 
 -- the modules of a list that are outside a plan, in order
@@ -79,16 +79,16 @@ WholePlanKeepsTheOrder =
     → SameOrder (whole_plan p) (expected_sensitive_of p root) (actual_sensitive_of p root)
 
 -- the plan's equation: an accepted call leaves the plan from place 0 on and what stood past it, and counts the plan's members
-pub record LeavesPlan (p : Project) (plan marks : List ℕ) (r : Answer) (marks' : List ℕ) : Type 0 where
+pub record LeavesPlan (p : Project) (plan marks : List ℕ) (r : Result ℕ Refusal) (marks' : List ℕ) : Type 0 where
   pub written : marks' ≡ plan ++ drop (modules p) marks
   pub count : count_of r ≡ ones plan
 
 unfoldable pub PlanCallLeavesThePlan : Type 0
 PlanCallLeavesThePlan =
-    (t : Lent) (seeds marks marks' : List ℕ) (r : Answer) → PlanFromSeeds t seeds marks r marks' → number_of r ≡ 0
+    (t : Lent) (seeds marks marks' : List ℕ) (r : Result ℕ Refusal) → PlanFromSeeds t seeds marks r marks' → refused_of r ≡ None
     → LeavesPlan t.project (plan_of t.project seeds) marks r marks'
 
 unfoldable pub WholeCallLeavesThePlan : Type 0
 WholeCallLeavesThePlan =
-    (t : Lent) (marks marks' : List ℕ) (r : Answer) → WholeAnalysis t marks r marks' → number_of r ≡ 0
+    (t : Lent) (marks marks' : List ℕ) (r : Result ℕ Refusal) → WholeAnalysis t marks r marks' → refused_of r ≡ None
     → LeavesPlan t.project (whole_plan t.project) marks r marks'

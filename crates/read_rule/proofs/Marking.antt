@@ -1,13 +1,12 @@
 -- Rule (iv) by marks: symbols, references, and the modules of their statements.
 -- Assumes nothing.
-use Rattle.std.specs.Prelude.{◌≡◌, ℕ, ◌+◌, ◌<◌, ◌≤◌, true, not, ◌⊎◌, List, ◌++◌, length, get_or, drop, set}
+use Rattle.std.specs.Prelude.{◌≡◌, ℕ, ◌+◌, ◌<◌, ◌≤◌, true, not, ◌⊎◌, List, length, get_or, set}
 use mathlib.Core.Path.{sym, ap, subst, ◌∙◌}
 use mathlib.Core.Logic.{inl, inr, ⊎_elim}
 use mathlib.Core.Bool.{true≢false}
-use mathlib.Core.List.{append-nil}
 use native.Mathlib.Omega.{arith}
 use native.Mathlib.Decide.{ℕ_discrete}
-use lib.Seq.{get_or-set_same, get_or-set_other, drop-length}
+use lib.Seq.{get_or-set_same, get_or-set_other}
 use Rattle.lists.specs.Words.{is_zero, has}
 use Rattle.lists.proofs.Laws.{has_in, mark-in, mark-out, get_d-in}
 use Rattle.walk.specs.Close.{Within}
@@ -19,7 +18,7 @@ use Rattle.marks.specs.Steps.{looked, Owners, InAll, Marks}
 use Rattle.marks.proofs.Steps.{length-looked, looked-at, looked-has, has-looked}
 use Rattle.read_rule.specs.inner.Reads.{ChainTouch, SymbolTouch, ReferenceTouch, Touching, by_symbol, by_depended, Reader, TopLevelRead, Linking}
 
-chains-marked : (owner chain_symbol chain_link S owners chains : List ℕ) → Linking chain_symbol chain_link (length owner)
+pub chains-marked : (owner chain_symbol chain_link S owners chains : List ℕ) → Linking chain_symbol chain_link (length owner)
     → owners ≡ looked 0 S owner → Owners chain_symbol (looked 0 owners chain_link) (length chain_symbol) owners chains
     → Marks (ChainTouch owner chain_symbol chain_link S) chains
 unfolding Within
@@ -46,15 +45,6 @@ chains-marked owner chain_symbol chain_link S owners chains k start o = record {
         ⊎_elim (λ h. o.old y (owned y (omega (arith, o.len, count)) ∙ h))
         (λ r. subst (λ (x : ℕ). has chains x ≡ true) r.2 (o.new r.0 r.1 (linked r.0 r.1 ∙ r.3) (subst (λ (x : ℕ). x < length owners) (sym r.2) (omega (arith, o.len)))))
         t
-
--- the same, where the owners are copied over the set first
-pub links_marked : (owner chain_symbol chain_link S owners old copied chains : List ℕ) → Linking chain_symbol chain_link (length owner) → length old ≡ length owner
-    → owners ≡ looked 0 S owner → copied ≡ owners ++ drop (length owners) old → Owners chain_symbol (looked 0 owners chain_link) (length chain_symbol) copied chains
-    → Marks (ChainTouch owner chain_symbol chain_link S) chains
-links_marked owner chain_symbol chain_link S owners old copied chains k n start copy o =
-    let count : length owners ≡ length old = ap length start ∙ length-looked 0 S owner ∙ sym n in
-    let same : copied ≡ owners = copy ∙ ap (λ (i : ℕ). owners ++ drop i old) count ∙ ap (λ (xs : List ℕ). owners ++ xs) (drop-length old) ∙ append-nil owners in
-    chains-marked owner chain_symbol chain_link S owners chains k start (subst (λ (s : List ℕ). Owners chain_symbol (looked 0 owners chain_link) (length chain_symbol) s chains) same o)
 
 -- the marks of the symbols below y: each the greater of its own and its canonical's
 abbrev pub Joined : List ℕ → List ℕ → ℕ → List ℕ → Type 0

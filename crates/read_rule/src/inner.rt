@@ -8,13 +8,11 @@ ghost use Rattle.tables.specs.Project.{Project};
 ghost use Rattle.table.specs.Table.{table, read};
 ghost use Rattle.wrap_rules.specs.inner.Passes.{Marked, CandidateSet};
 
-use lists::inner::copy_to;
 use marks::inner::{add, any_open, look_up, mark_owners, mark_rows};
 use table::{
     CANONICAL, CHAIN_LINK, CHAIN_SYMBOL, DEPENDED, DEPENDED_REFERENCE, MODULE_LIMIT, OWNER, READS,
     REFERENCE_STATEMENT, REFERENCE_SYMBOL, ROW_LIMIT, STATEMENT_MODULE, column,
 };
-use tables::inner::greater;
 
 // Marks the symbols whose owner is planned, or a link owner in whose chain. `owners` is working space: the symbols whose owner is planned.
 fn mark_chains(
@@ -31,7 +29,7 @@ fn mark_chains(
     ensures { Marks (ChainTouch owner.now chain_symbol.now chain_link.now plan.now) chains.new }
 {
     look_up(owner, plan, owners, 0);
-    copy_to(owners, chains);
+    chains.copy_from_slice(owners);
     mark_owners(chain_symbol, chain_link, owners, chains);
 }
 
@@ -42,8 +40,8 @@ fn mark_canonicals(canonical: &[u32], chains: &[u32], symbols: &mut [u32])
     requires inside { Below (length chains.now) canonical.now }
     ensures { Marks (λ y. (has chains.now y ≡ true) ⊎ (has chains.now (slice_index canonical.now y) ≡ true)) symbols.new }
 {
-    for y in 0..symbols.len() {
-        symbols[y] = greater(chains[y], chains[canonical[y] as usize]);
+    for (y, mark) in symbols.iter_mut().enumerate() {
+        *mark = chains[y].max(chains[canonical[y] as usize]);
     }
 }
 

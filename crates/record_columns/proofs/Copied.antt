@@ -1,7 +1,7 @@
--- What holds of the columns of a list of records: within the limit they are the records' columns, from place 0, and over it the project's number is 1.
+-- What holds of the columns of a list of records: within the limit they are the records' columns, from place 0, and over it 1 refuses the project.
 -- Assumes nothing.
-use Rattle.std.specs.Prelude.{◌≡◌, ℕ, zero, suc, ◌+◌, ◌<◌, ◌≤◌, Bool, leb, List, [], ◌∷◌, ◌++◌, map, length, get_or, take, drop, set, replicate}
-use mathlib.Core.Path.{refl, ap, subst, ◌∙◌}
+use Rattle.std.specs.Prelude.{◌≡◌, ℕ, zero, suc, ◌+◌, ◌<◌, ◌≤◌, Bool, leb, List, [], ◌∷◌, ◌++◌, map, length, get_or, take, drop, set, replicate, Option, Some}
+use mathlib.Core.Path.{refl, sym, ap, subst, ◌∙◌}
 use mathlib.Core.Logic.{⊎_elim}
 use native.Mathlib.Omega.{arith}
 use lib.ListN.{length-map, length-append, length-drop, length-replicate}
@@ -12,13 +12,17 @@ use Rattle.tables.specs.Project.{Project}
 use Rattle.tables.specs.Readings.{modules}
 use Rattle.tables.specs.Refusal.{row_limit, sizes_fit, refusal}
 use Rattle.tables.proofs.Accepted.{sizes-fit}
-use Rattle.tables.proofs.Number.{number-1}
+use Rattle.tables.specs.declared.Refusal.{Refusal}
+use Rattle.tables.specs.declared.Refusal.TheVariants.{ListSize}
+use Rattle.tables.proofs.Number.{sizes-refused}
 use Rattle.names.specs.Names.{names_sized, names_in}
-use Rattle.table.specs.Table.{table, read, with_records, bounds_fit, table_number, tested_too, lent_with}
-use Rattle.table.proofs.Laws.{number-unfit, number-fit}
+use Rattle.table.specs.declared.Table.{Table}
+use Rattle.table.specs.Table.{table, read, with_records, bounds_fit, table_refusal, tested_too}
+use Rattle.table.proofs.Laws.{table-unfit, table-fit}
 use Rattle.record_columns.specs.declared.Record.{Record}
 use Rattle.record_columns.specs.declared.inner.Columns.{Columns}
 use Rattle.record_columns.specs.Rows.{importer_column, kind_column, target_column, copied, padded, columns_of}
+use Rattle.record_columns.specs.Beside.{lent_beside}
 
 pub copied_all : (n : ℕ) → n ≤ row_limit → copied n ≡ n
 unfolding copied
@@ -66,19 +70,26 @@ stored f ys i d l k =
 pub stored_too : {X : Type 0} (f : X → ℕ) (ys : List X) (i : ℕ) (d : X) (xs : List ℕ) (x : ℕ) → i < length ys → i < row_limit → xs ≡ padded i (map f ys) → x ≡ f (get_or ys i d) → set xs i x ≡ padded (i + 1) (map f ys)
 stored_too f ys i d xs x l k e g = ap (λ (v : ℕ). set xs i v) g ∙ ap (λ (us : List ℕ). set us i (f (get_or ys i d))) e ∙ stored f ys i d l k
 
+-- what holds of the first rows of the columns holds of the records' columns
+pub as-columns : (P : List ℕ → List ℕ → List ℕ → Type 0) (c : Columns) (records : List Record) → c ≡ columns_of records → c.rows ≤ row_limit
+    → P (take c.rows c.importers) (take c.rows c.kinds) (take c.rows c.targets) → P (importer_column records) (kind_column records) (target_column records)
+as-columns P c records is = subst (λ (d : Columns). d.rows ≤ row_limit → P (take d.rows d.importers) (take d.rows d.kinds) (take d.rows d.targets) → P (importer_column records) (kind_column records) (target_column records)) (sym is)
+    (λ h p. subst (λ (t : List ℕ). P (importer_column records) (kind_column records) t) (whole (λ (r : Record). r.target) records h)
+    (subst (λ (k : List ℕ). P (importer_column records) k (take (length records) (padded (copied (length records)) (target_column records)))) (whole (λ (r : Record). r.kind) records h)
+    (subst (λ (i : List ℕ). P i (take (length records) (padded (copied (length records)) (kind_column records))) (take (length records) (padded (copied (length records)) (target_column records)))) (whole (λ (r : Record). r.importer) records h) p)))
+
 -- "a list is over its limit"
-over : (p : Project) → row_limit < length p.record_module → 1 ≡ refusal p
-over p h = ⊎_elim (λ t. let s = sizes-fit p t in absurd (omega (arith, s.record_module))) (λ f. number-1 p f) (both (sizes_fit p))
+over : (p : Project) → row_limit < length p.record_module → Some ListSize ≡ refusal p
+over p h = ⊎_elim (λ t. let s = sizes-fit p t in absurd (omega (arith, s.record_module))) (λ f. sizes-refused p f) (both (sizes_fit p))
 
--- a number 1 stays 1, whatever is tested besides
-stays : (n : ℕ) (one two : Bool) → 1 ≡ n → 1 ≡ tested_too n one two
-stays n one two e = subst (λ (k : ℕ). 1 ≡ tested_too k one two) e refl
+-- what 1 refuses is refused so, whatever is tested besides
+stays : (r : Option Refusal) (one two : Bool) → Some ListSize ≡ r → tested_too r one two ≡ Some ListSize
+stays r one two e = subst (λ (k : Option Refusal). tested_too k one two ≡ Some ListSize) e refl
 
-pub too_many : (c : Columns) (records : List Record) → c ≡ columns_of records → row_limit < c.rows → (runtime dynamic : ℕ) (bounds columns names : List ℕ)
-    → 1 ≡ (lent_with runtime dynamic bounds columns names (importer_column records) (kind_column records) (target_column records)).number
+pub too_many : (t : Table) (c : Columns) (records : List Record) → c ≡ columns_of records → row_limit < c.rows → (lent_beside t records).refused ≡ Some ListSize
 unfolding read
-too_many c records is h runtime dynamic bounds columns names =
-    let p : Project = with_records (table runtime dynamic bounds columns) (importer_column records) (kind_column records) (target_column records) in
-    let e : 1 ≡ refusal p = over p (omega (arith, h, ap (λ (d : Columns). d.rows) is, length-map records (λ (r : Record). r.importer))) in
-    stays (table_number bounds columns p) (names_sized names) (names_in (modules p) names)
-    (⊎_elim (λ f. e ∙ number-fit bounds columns p f) (λ f. number-unfit bounds columns p f) (both (bounds_fit bounds columns)))
+too_many t c records is h =
+    let p : Project = with_records (table t.runtime t.dynamic t.bounds.now t.columns.now) (importer_column records) (kind_column records) (target_column records) in
+    let e : Some ListSize ≡ refusal p = over p (omega (arith, h, ap (λ (d : Columns). d.rows) is, length-map records (λ (r : Record). r.importer))) in
+    stays (table_refusal t.bounds.now t.columns.now p) (names_sized t.names.now) (names_in (modules p) t.names.now)
+    (⊎_elim (λ f. e ∙ table-fit t.bounds.now t.columns.now p f) (λ f. table-unfit t.bounds.now t.columns.now p f) (both (bounds_fit t.bounds.now t.columns.now)))

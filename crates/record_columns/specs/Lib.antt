@@ -1,2 +1,3 @@
--- The rows as columns.
+-- `Rows`: the rows as columns. `Beside`: a table read with them.
 pub mod Rows
+pub mod Beside

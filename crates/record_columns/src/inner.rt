@@ -33,12 +33,10 @@ pub fn columns_of(records: &[Record]) -> Columns
     let mut targets = [0u32; ROW_LIMIT];
     let rows = count(records);
     let end = rows_copied(rows);
-    let mut row = 0;
-    while row < end {
+    for row in 0..end {
         importers[row] = importer_at(records, row);
         kinds[row] = kind_at(records, row);
         targets[row] = target_at(records, row);
-        row += 1;
     }
     Columns {
         rows: rows,

@@ -1,108 +1,90 @@
-// The tests 1 to 4 and 10 of a table, with its names and import records beside it.
+// The tests 1 to 4 and 10 of a table, its names among what 1 and 2 test.
 #![tactic(auto)]
 
 ghost use Rattle.std.specs.Prelude.{◌≡◌};
-ghost use Rattle.table.specs.Table.{table, bounds_fit, with_records, table_number, tested_too, lent_with};
+ghost use Rattle.table.specs.Table.{bounds_fit, table_refusal, tested_too};
+ghost use Rattle.table.specs.Lending.{as_lent, written};
 ghost use Rattle.tables.specs.Refusal.{refusal};
+ghost use Rattle.tables.specs.Answers.{tested};
 
 use column_tests::inner::{is_rising, newer_fits};
 use names::{names_in, names_sized};
 use size_tests::inner::{chunks_sized, code_sized, symbols_sized};
-use table::{COLUMNS, NEWER, NORMAL, column, rows};
+use table::{COLUMNS, NEWER, NORMAL, Table};
+use tables::Refusal;
 use value_tests::agree::{rows_agree, rows_rise};
 use value_tests::inner::{chunks_in, code_in, symbols_in};
 
 // Whether the columns' bounds fit: 35 that rise from 0 to the end.
-fn bounds_fit(bounds: &[u32], columns: &[u32]) -> bool
-    ensures { result ≡ bounds_fit bounds.now columns.now }
+#[tactic(auto, unfolding(table::specs::Table::bounds_fit))]
+fn bounds_fit(table: &Table) -> bool
+    ensures { result ≡ bounds_fit table.now.bounds.now table.now.columns.now }
 {
+    let bounds = table.bounds;
     if bounds.len() != COLUMNS + 1 {
         return false;
     }
-    (bounds[0] == 0) & (bounds[COLUMNS] as usize == columns.len()) & is_rising(bounds)
+    (bounds[0] == 0) & (bounds[COLUMNS] as usize == table.columns.len()) & is_rising(bounds)
 }
 
-// The first number of the tests 1 to 4 and 10 that applies to the project of a table, or 0.
-fn project_number<'a>(
-    runtime: u32,
-    dynamic: u32,
-    bounds: &'a [u32],
-    columns: &'a [u32],
-    importers: &'a [u32],
-    kinds: &'a [u32],
-    targets: &'a [u32],
-) -> u32
-    ensures { result ≡ refusal (with_records (table runtime dynamic bounds.now columns.now) importers.now kinds.now targets.now) }
+// What refuses the project of a table: the first of the tests 1 to 4 and 10 that fails.
+#[tactic(auto, unfolding(tables::specs::Refusal::refusal, tables::specs::Refusal::sizes_fit, tables::specs::Refusal::values_fit, table::specs::Table::table, table::specs::Table::read))]
+fn project_refusal(table: &Table) -> Option<Refusal>
+    ensures { result ≡ refusal (written table.now) }
 {
-    let sizes_fit = code_sized(runtime, dynamic, bounds, columns, importers, kinds, targets)
-        & symbols_sized(runtime, dynamic, bounds, columns)
-        & chunks_sized(runtime, dynamic, bounds, columns);
+    let sizes_fit = code_sized(table) & symbols_sized(table) & chunks_sized(table);
     if !sizes_fit {
-        return 1;
+        return Some(Refusal::ListSize);
     }
-    let values_fit = code_in(runtime, dynamic, bounds, columns, importers, kinds, targets)
-        & symbols_in(runtime, dynamic, bounds, columns, importers, kinds, targets)
-        & chunks_in(runtime, dynamic, bounds, columns);
+    let values_fit = code_in(table) & symbols_in(table) & chunks_in(table);
     if !values_fit {
-        return 2;
+        return Some(Refusal::ColumnValue);
     }
-    if !rows_rise(runtime, dynamic, bounds, columns, importers, kinds, targets) {
-        return 3;
+    if !rows_rise(table) {
+        return Some(Refusal::RowOrder);
     }
-    if !rows_agree(runtime, dynamic, bounds, columns, importers, kinds, targets) {
-        return 4;
+    if !rows_agree(table) {
+        return Some(Refusal::RowConflict);
     }
-    if !newer_fits(column(bounds, columns, NEWER)) {
-        return 10;
+    if !newer_fits(table.column(NEWER)) {
+        return Some(Refusal::NewerRow);
     }
-    0
+    None
 }
 
-// The number of a table: 1 where its bounds don't fit, else its project's.
-fn table_number<'a>(
-    runtime: u32,
-    dynamic: u32,
-    bounds: &'a [u32],
-    columns: &'a [u32],
-    importers: &'a [u32],
-    kinds: &'a [u32],
-    targets: &'a [u32],
-) -> u32
-    ensures { result ≡ table_number bounds.now columns.now (with_records (table runtime dynamic bounds.now columns.now) importers.now kinds.now targets.now) }
+// What refuses a table: 1 where its bounds don't fit, else what refuses its project.
+fn table_refusal(table: &Table) -> Option<Refusal>
+    ensures { result ≡ table_refusal table.now.bounds.now table.now.columns.now (written table.now) }
 {
-    if !bounds_fit(bounds, columns) {
-        return 1;
+    if !bounds_fit(table) {
+        return Some(Refusal::ListSize);
     }
-    project_number(runtime, dynamic, bounds, columns, importers, kinds, targets)
+    project_refusal(table)
 }
 
-// A number where 1 tests one thing more, and 2 another.
-pub fn tested_too(number: u32, one: bool, two: bool) -> u32
-    ensures { result ≡ tested_too number one two }
+// What refuses where 1 tests one thing more, and 2 another.
+pub fn tested_too(refused: Option<Refusal>, one: bool, two: bool) -> Option<Refusal>
+    ensures { result ≡ tested_too refused one two }
 {
-    if (number == 1) | !one {
-        return 1;
+    match refused {
+        Some(Refusal::ListSize) => refused,
+        _ if !one => Some(Refusal::ListSize),
+        Some(Refusal::ColumnValue) => refused,
+        _ if !two => Some(Refusal::ColumnValue),
+        _ => refused,
     }
-    if (number == 2) | !two {
-        return 2;
-    }
-    number
 }
 
-// The number of a table with its names, which 1 and 2 test too.
-pub fn refusal_number<'a>(
-    runtime: u32,
-    dynamic: u32,
-    bounds: &'a [u32],
-    columns: &'a [u32],
-    names: &'a [u8],
-    importers: &'a [u32],
-    kinds: &'a [u32],
-    targets: &'a [u32],
-) -> u32
-    ensures { result ≡ (lent_with runtime dynamic bounds.now columns.now names.now importers.now kinds.now targets.now).number }
+// Tests a table with its names.
+#[tactic(auto, unfolding(table::specs::Table::table, table::specs::Table::read))]
+pub fn test(table: &Table) -> Result<(), Refusal>
+    ensures { result ≡ tested (as_lent table.now).refused }
 {
-    let number = table_number(runtime, dynamic, bounds, columns, importers, kinds, targets);
-    let modules = rows(bounds, columns, NORMAL);
-    tested_too(number, names_sized(names), names_in(names, modules))
+    let names = table.names;
+    let refused = table_refusal(table);
+    let modules = table.rows(NORMAL);
+    match tested_too(refused, names_sized(names), names_in(names, modules)) {
+        None => Ok(()),
+        Some(refusal) => Err(refusal),
+    }
 }

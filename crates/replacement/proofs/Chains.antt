@@ -3,16 +3,16 @@
 use mathlib.Core.Path.{◌≡◌, refl, sym, ap, ap₂, subst, ◌∙◌}
 use mathlib.Core.Logic.{◌⊎◌, inl, inr, ⊎_elim}
 use mathlib.Core.Bool.{true, false, ◌&&◌}
-use mathlib.Core.List.{List, [], ◌∷◌, ◌++◌, map, map-append}
+use mathlib.Core.List.{List, [], ◌∷◌, map}
 use Prim.Native.Nat.{ℕ, zero, suc, ◌+◌, ◌≤◌, ◌<◌}
 use native.Mathlib.Omega.{arith}
 use native.Mathlib.Decide.{dec_lt}
-use lib.ListN.{length, get_or, take, set, length-set, get_or-eq_default}
+use lib.ListN.{length, get_or, set, length-set, get_or-eq_default}
 use lib.Seq.{ext_get_or, get_or-set_same, get_or-set_other}
 use lib.Dec.{eqb, ltb}
 use borrow.Author.Tests.{eqb-true, eqb-false, eq-eqb, ne_eqb, ltb-true, lt-ltb, le-ltb}
 use Rattle.lists.specs.Words.{up_to}
-use Rattle.lists.proofs.Laws.{both, and_parts, or_parts, every-mem, up_to-mem, get_d-in, get_d-map-up_to, length-map-up_to, take_more}
+use Rattle.lists.proofs.Laws.{both, and_parts, or_parts, every-mem, up_to-mem, get_d-in, get_d-map-up_to, length-map-up_to}
 use Rattle.tables.specs.Project.{missing}
 use Rattle.tables.specs.Refusal.{fits_at, newer_fits}
 use Rattle.replacement.specs.Replacement.{through, latest, as_read}
@@ -119,8 +119,9 @@ module _ (newer found : List ℕ) (m : ℕ) (l : m < length newer) where
   pub found-end : get_or newer m 0 ≡ missing → m ≡ latest newer m
   found-end e = sym (latest-end newer m (get_d-in newer m missing 0 l ∙ e))
 
-  pub found-next : Found newer found (m + 1) → (get_or newer m 0 ≡ missing → ⊥) → (get_or newer m 0 < length found) × (get_or found (get_or newer m 0) 0 ≡ latest newer m)
-  found-next f n =
+  -- the next one of the chain has a row, where the same is found
+  next-read : Found newer found (m + 1) → (get_or newer m 0 ≡ missing → ⊥) → (get_or newer m 0 < length found) × (get_or found (get_or newer m 0) 0 ≡ latest newer m)
+  next-read f n =
       let e : get_or newer m missing ≡ get_or newer m 0 = get_d-in newer m missing 0 l in
       let k : get_or newer m missing ≡ missing → ⊥ = λ q. n (sym e ∙ q) in
       let r = rises newer f.fits m k in
@@ -129,6 +130,12 @@ module _ (newer found : List ℕ) (m : ℕ) (l : m < length newer) where
         omega (arith, b, f.size),
         f.later (get_or newer m 0) (omega arith) b ∙ ap (latest newer) (sym e) ∙ sym (latest-next newer f.fits m k),
       )
+
+  pub next-in : Found newer found (m + 1) → (get_or newer m 0 ≡ missing → ⊥) → get_or newer m 0 < length found
+  next-in f n = (next-read f n).0
+
+  pub found-next : Found newer found (m + 1) → (get_or newer m 0 ≡ missing → ⊥) → get_or found (get_or newer m 0) 0 ≡ latest newer m
+  found-next f n = (next-read f n).1
 
   pub found-more : (x : ℕ) → Found newer found (m + 1) → x ≡ latest newer m → Found newer (set found m x) m
   found-more x f e = record {
@@ -147,9 +154,7 @@ found_all newer found f =
     ext_get_or 0 found (map (latest newer) (up_to (length newer))) (f.size ∙ sym (length-map-up_to (latest newer) (length newer)))
     (λ i l. let k : i < length newer = omega (arith, f.size) in f.later i (omega arith) k ∙ sym (get_d-map-up_to (latest newer) (length newer) i 0 k))
 
--- one more of a column, mapped
-pub map_more : (f : ℕ → ℕ) (xs : List ℕ) (i : ℕ) → i < length xs → map f (take i xs) ++ (f (get_or xs i 0) ∷ []) ≡ map f (take (i + 1) xs)
-map_more f xs i l = sym (map-append f (take i xs) (get_or xs i 0 ∷ [])) ∙ ap (map f) (take_more xs i l)
+pub ruleset latest_steps = (found-end, next-in, found-next, found-more, found_all)
 
 -- a column by what was found is the column as it is read
 pub found-all-read : (newer column : List ℕ) → map (found_at (map (latest newer) (up_to (length newer)))) column ≡ as_read newer column

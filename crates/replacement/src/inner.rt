@@ -8,6 +8,7 @@ ghost use Rattle.replacement.specs.inner.Passes.{Found, found_at};
 use tables::ModuleIdx;
 
 // The module that is read for m, by those that are read for the later ones.
+#[tactic(auto, using(crate::proofs::Chains::latest_steps))]
 fn latest_of(newer: &[u32], found: &[u32], m: usize) -> u32
     requires found { Found newer.now found.now (m + 1) }
     requires m_in_bounds { m < length newer.now }
@@ -21,15 +22,14 @@ fn latest_of(newer: &[u32], found: &[u32], m: usize) -> u32
 }
 
 // The module that is read for each module: the last of its chain.
+#[tactic(auto, using(crate::proofs::Chains::latest_steps))]
 pub fn find_latest(newer: &[u32], found: &mut [u32])
     requires newer_value { newer_fits newer.now ≡ true }
     requires found_len { length found.old ≡ length newer.now }
     requires newer_len_bound { length newer.now ≤ module_limit }
     ensures { found.new ≡ map (latest newer.now) (up_to (length newer.now)) }
 {
-    let mut m = newer.len();
-    while 0 < m {
-        m -= 1;
+    for m in (0..newer.len()).rev() {
         found[m] = latest_of(newer, found, m);
     }
 }
@@ -38,11 +38,7 @@ pub fn find_latest(newer: &[u32], found: &mut [u32])
 fn found_at(found: &[u32], m: u32) -> u32
     ensures { result ≡ found_at found.now m }
 {
-    let at = m as usize;
-    if at < found.len() {
-        return found[at];
-    }
-    m
+    found.get(m as usize).copied().unwrap_or(m)
 }
 
 // A column of modules, or of modules and the mark, as it is read.
@@ -50,9 +46,7 @@ pub fn read_through(found: &[u32], column: &[u32], out: &mut [u32])
     requires { length out.old ≡ length column.now }
     ensures { out.new ≡ map (found_at found.now) column.now }
 {
-    let mut i = 0;
-    while i < column.len() {
-        out[i] = found_at(found, column[i]);
-        i += 1;
+    for (i, m) in column.iter().enumerate() {
+        out[i] = found_at(found, *m);
     }
 }

@@ -5,10 +5,10 @@ ghost use Rattle.report_lines.specs.Report.{total_line, Put};
 use lines::put_line;
 use share_totals::Totals;
 use share_totals::inner::total_numbers;
-use tables::Answer;
+use tables::Refusal;
 
 // Writes the closing line from place 0.
-pub fn put_totals(out: &mut [u8], totals: Totals) -> Answer
+pub fn put_totals(out: &mut [u8], totals: Totals) -> Result<usize, Refusal>
     requires { totals.planned ≤ totals.eligible }
     ensures { Put (total_line totals) out.old result out.new }
 {

@@ -6,7 +6,6 @@ ghost use Rattle.tables.specs.Threads.{Threads};
 ghost use Rattle.marks.specs.Steps.{looked};
 ghost use Rattle.request_edges.specs.inner.Edges.{edge_limit, numbered, choice, chosen, Rows, Adds, Threadable};
 
-use lists::inner::fill;
 use marks::inner::look_up;
 use table::ROW_LIMIT;
 use tables::ModuleIdx;
@@ -16,8 +15,8 @@ pub fn number(out: &mut [u32])
     requires { length out.old ≤ row_limit }
     ensures { out.new ≡ numbered (length out.old) }
 {
-    for i in 0..out.len() {
-        out[i] = i as u32;
+    for (i, slot) in out.iter_mut().enumerate() {
+        *slot = i as u32;
     }
 }
 
@@ -25,13 +24,11 @@ pub fn number(out: &mut [u32])
 fn choose(first: u32, second: u32, m: u32) -> u32
     ensures { result ≡ choice first second m }
 {
-    if first == 0 {
-        return ModuleIdx::MISSING;
+    if first == 0 || second == 0 {
+        ModuleIdx::MISSING
+    } else {
+        m
     }
-    if second == 0 {
-        return ModuleIdx::MISSING;
-    }
-    m
 }
 
 // Writes its own number to each place that is in two sets, and the mark to the others.
@@ -41,8 +38,8 @@ pub fn number_chosen(first: &[u32], second: &[u32], out: &mut [u32])
     requires few { length out.old ≤ row_limit }
     ensures { out.new ≡ chosen first.now second.now }
 {
-    for m in 0..first.len() {
-        out[m] = choose(first[m], second[m], m as u32);
+    for (m, slot) in out.iter_mut().enumerate() {
+        *slot = choose(first[m], second[m], m as u32);
     }
 }
 
@@ -87,10 +84,8 @@ pub fn thread_edges(from: &[u32], heads: &mut [u32], nexts: &mut [u32])
     requires { Threadable from.now heads.old nexts.old }
     ensures { Threads from.now heads.new nexts.new }
 {
-    let mut row = from.len();
-    fill(heads, row as u32);
-    while 0 < row {
-        row -= 1;
+    heads.fill(from.len() as u32);
+    for row in (0..from.len()).rev() {
         let m = from[row] as usize;
         nexts[row] = heads[m];
         heads[m] = row as u32;

@@ -64,6 +64,7 @@ pub fn reach(
     ensures { Reached from.now to.now x marks.old queue.old count marks.new queue.new result }
 {
     let mut end = follow(from, to, heads, nexts, marks, queue, count, x);
+    // no `for`: the list grows meanwhile
     let mut at = count;
     while at < end {
         let next = queue[at];

@@ -1,7 +1,7 @@
 -- The sensitive members of an order before one of its places, and the greatest place among them.
 -- Assumes nothing.
 use Rattle.std.specs.Prelude.{◌≡◌, ℕ, zero, suc, ◌+◌, ◌<◌, Bool, true, false, cond, ◌&&◌, eqb, ltb, List, [], ◌∷◌, ◌++◌, length, get_or, take}
-use mathlib.Core.Path.{refl, ap, subst, ◌∙◌}
+use mathlib.Core.Path.{refl, sym, ap, subst, ◌∙◌}
 use mathlib.Core.Logic.{⊎_elim}
 use mathlib.Core.List.{append-nil, foldl, foldl-append, Memᴰ}
 use native.Mathlib.Nat.{not-suc-le-zero}
@@ -9,6 +9,8 @@ use native.Mathlib.Numerals.{add-one}
 use native.Mathlib.Omega.{arith}
 use lib.Seq.{take-suc}
 use borrow.Author.Tests.{eq-eqb, ne_eqb}
+use Rattle.std.specs.Ordering.{ord_max, nat_cmp}
+use Rattle.std.proofs.lemmas.Bool.Decides.{nat_tests}
 use Rattle.lists.specs.Words.{keep, has, Distinct}
 use Rattle.lists.proofs.Laws.{both, keep_append}
 use Rattle.lists.proofs.Members.{get_d-mem}
@@ -30,6 +32,9 @@ before-keep s (x ∷ xs) (suc k) d l e =
     (λ q. rw q (ap (λ (b : Bool). cond b [] (x ∷ before y (keep s xs))) n ∙ ap (λ (r : List ℕ). x ∷ r) rest))
     (λ q. rw q rest)
     (both (s x))
+
+greater-max : (a b : ℕ) → ord_max nat_cmp a b ≡ greater_of a b
+greater-max a b = grind (arith, nat_tests)
 
 module _ (s : ℕ → Bool) (xs : List ℕ) (k : ℕ) (l : k < length xs) where
   keep-more : keep s (take (k + 1) xs) ≡ keep s (take k xs) ++ keep s (get_or xs k 0 ∷ [])
@@ -59,3 +64,25 @@ module _ (sensitive places expected : List ℕ) (k : ℕ) (l : k < length expect
   overtaken-at e =
       ap (λ (b : Bool). b && (has places at-k && ltb (get_or places at-k 0) (highest (λ (y : ℕ). get_or places y 0) (before at-k (keep (has sensitive) expected))))) e
       ∙ ap (λ (ys : List ℕ). has places at-k && ltb (get_or places at-k 0) (highest (λ (y : ℕ). get_or places y 0) ys)) (before-keep (has sensitive) expected k d l e)
+
+  -- one that isn't sensitive is not
+  pub overtaken-out : has sensitive at-k ≡ false → overtaken sensitive places expected at-k ≡ false
+  overtaken-out e = ap (λ (b : Bool). b && (has places at-k && ltb (get_or places at-k 0) (highest (λ (y : ℕ). get_or places y 0) (before at-k (keep (has sensitive) expected))))) e
+
+  -- the greatest place so far, past the member
+  pub greatest_out : has sensitive at-k ≡ false → greatest ≡ highest (λ (y : ℕ). get_or places y 0) (keep (has sensitive) (take (k + 1) expected))
+  greatest_out e = ap (highest (λ (y : ℕ). get_or places y 0)) (sym (keep_out (has sensitive) expected k l e))
+
+  pub greatest_in : (latest next : ℕ) → latest ≡ greatest → next ≡ ord_max nat_cmp latest (get_or places at-k 0) → has sensitive at-k ≡ true
+      → next ≡ highest (λ (y : ℕ). get_or places y 0) (keep (has sensitive) (take (k + 1) expected))
+  greatest_in latest next g n e =
+      n ∙ greater-max latest (get_or places at-k 0) ∙ ap (λ (x : ℕ). greater_of x (get_or places at-k 0)) g ∙ sym (highest-in (has sensitive) expected k l (λ (y : ℕ). get_or places y 0) e)
+
+  -- a sensitive one is overtaken where it has a place below the greatest so far
+  pub overtaken-below : (latest : ℕ) → latest ≡ greatest → has sensitive at-k ≡ true → overtaken sensitive places expected at-k ≡ (has places at-k && ltb (get_or places at-k 0) latest)
+  overtaken-below latest g e = overtaken-at e ∙ ap (λ (x : ℕ). has places at-k && ltb (get_or places at-k 0) x) (sym g)
+
+-- before the first member, no place
+pub highest-none : (ranks : ℕ → ℕ) → 0 ≡ highest ranks []
+unfolding highest
+highest-none ranks = refl

@@ -6,7 +6,6 @@ ghost use Rattle.risk_of_orders.specs.Risk.{order_risk, cycle_risk};
 ghost use Rattle.risk_of_orders.specs.inner.Steps.{join, listed, puts, puts_of, unmet, overtaken, Ranked, Order, Columns};
 
 use table::MODULE_LIMIT;
-use tables::inner::greater;
 
 // Marks the members of an order that are in a set.
 fn mark_listed(order: &[u32], which: &[u32], marks: &mut [u32])
@@ -14,8 +13,8 @@ fn mark_listed(order: &[u32], which: &[u32], marks: &mut [u32])
     requires rows { length which.now ≡ length marks.old }
     ensures { marks.new ≡ join marks.old (listed order.now which.now) }
 {
-    for k in 0..order.len() {
-        let at = order[k] as usize;
+    for &m in order {
+        let at = m as usize;
         if which[at] == 0 {
             continue;
         }
@@ -31,8 +30,8 @@ fn place_sensitive(order: &[u32], sensitive: &[u32], places: &mut [u32])
     ensures { Ranked (keep (has sensitive.now) order.now) places.new }
 {
     let mut count = 0;
-    for k in 0..order.len() {
-        let at = order[k] as usize;
+    for &m in order {
+        let at = m as usize;
         if sensitive[at] == 0 {
             continue;
         }
@@ -78,8 +77,7 @@ fn flag_unmet(
     requires rows { length other.now ≡ length out.old }
     ensures { out.new ≡ join out.old (puts_of eligible.now hosts.now (unmet sensitive.now other.now) order.now) }
 {
-    for k in 0..order.len() {
-        let m = order[k];
+    for &m in order {
         let at = m as usize;
         if sensitive[at] == 0 {
             continue;
@@ -106,15 +104,14 @@ fn flag_overtaken(
     ensures { out.new ≡ join out.old (puts_of eligible.now hosts.now (overtaken sensitive.now places.now expected.now) expected.now) }
 {
     let mut latest = 0;
-    for k in 0..expected.len() {
-        let m = expected[k];
+    for &m in expected {
         let at = m as usize;
         if sensitive[at] == 0 {
             continue;
         }
         let place = places[at];
         let passed = latest;
-        latest = greater(passed, place);
+        latest = passed.max(place);
         if place == 0 {
             continue;
         }

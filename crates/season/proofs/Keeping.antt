@@ -1,6 +1,7 @@
 -- A byte of the input keeps the totals sound, and so does its end.
 -- Assumes nothing.
-use Rattle.std.specs.Prelude.{◌≡◌, ℕ, suc, ◌+◌, ◌-◌, ◌≤◌, Bool, true, false, cond, ◌||◌, eqb, ltb}
+use Rattle.tables.specs.declared.Refusal.TheVariants.{Text, PastSeason}
+use Rattle.std.specs.Prelude.{◌≡◌, ℕ, suc, ◌+◌, ◌-◌, ◌≤◌, Bool, true, false, cond, ◌||◌, eqb, ltb, Result}
 use mathlib.Core.Path.{refl, sym, subst}
 use mathlib.Core.Logic.{⊎_elim}
 use native.Mathlib.Omega.{arith}
@@ -10,7 +11,8 @@ use Rattle.file_names.specs.declared.Names.{Names}
 use Rattle.file_names.specs.declared.Turn.{Turn}
 use Rattle.file_names.specs.declared.Turn.TheVariants.{Nothing, File, Refused}
 use Rattle.file_names.specs.Steps.{begun, turn_of_line, turn_at, names_after, finished}
-use Rattle.share_totals.specs.declared.Outcome.{Outcome}
+use Rattle.tables.specs.declared.Refusal.{Refusal}
+use Rattle.share_totals.specs.declared.Share.{Share}
 use Rattle.share_totals.specs.declared.Totals.{Totals}
 use Rattle.share_totals.specs.Sums.{none, added}
 use Rattle.share_totals.specs.Within.{Fits, Within}
@@ -27,13 +29,13 @@ room-any (Refused n) t w = w
 
 -- the end of a line adds an outcome
 abbrev Adding : Totals → Totals → Type 0
-Adding t r = (o : Outcome) × Fits o × (r ≡ added t o)
+Adding t r = (o : Result Share Refusal) × Fits o × (r ≡ added t o)
 
 line-adds : (n : Names) (t r : Totals) → Acted (turn_of_line n) t r → Adding t r
 unfolding turn_of_line
 line-adds n t r = by n.zero (eqb n.length 0) (ltb 255 n.length)
   where
-    by : (x y z : Bool) → Acted (cond x (Refused 7) (cond y (Refused 7) (cond z (Refused 7) (File n.length)))) t r → Adding t r
+    by : (x y z : Bool) → Acted (cond x (Refused Text) (cond y (Refused Text) (cond z (Refused Text) (File n.length)))) t r → Adding t r
     by true y z a = a
     by false true z a = a
     by false false true a = a
@@ -57,7 +59,7 @@ module _ (n : Names) (t : Totals) (s : Sound n t) where
   unfolding turn_at names_after
   byte-sound b r a = by n.over (eqb n.left 0) (eqb b 10) refl refl a
     where
-      by : (o z l : Bool) → n.over ≡ o → eqb n.left 0 ≡ z → Acted (cond o Nothing (cond z (Refused 11) (cond l (turn_of_line n) Nothing))) t r
+      by : (o z l : Bool) → n.over ≡ o → eqb n.left 0 ≡ z → Acted (cond o Nothing (cond z (Refused PastSeason) (cond l (turn_of_line n) Nothing))) t r
           → Sound (cond o n (cond z (record { left = 0; length = 0; zero = false; over = true }) (cond l (record { left = n.left - 1; length = 0; zero = false; over = false }) (record { left = n.left; length = cond (ltb 255 n.length) n.length (n.length + 1); zero = n.zero || eqb b 0; over = false })))) r
       by true z l e f h = subst (Sound n) (sym h) s
       by false true l e f h = record { left = omega arith; totals = subst (Within 10001) (sym h.2) (within_more 10000 t h.0 (open-room e) h.1) }

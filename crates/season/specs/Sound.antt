@@ -1,15 +1,14 @@
 -- What holds while a report is made: the totals are those of as many projects as were met, so that no sum overflows.
 -- Assumes nothing.
-use Rattle.std.specs.Prelude.{◌≡◌, ℕ, ◌-◌, ◌≤◌, cond}
+use Rattle.std.specs.Prelude.{◌≡◌, ℕ, ◌-◌, ◌≤◌, cond, Result}
 use Rattle.file_names.specs.declared.Names.{Names}
 use Rattle.file_names.specs.declared.Turn.{Turn}
 use Rattle.file_names.specs.declared.Turn.TheVariants.{Nothing, File, Refused}
-use Rattle.share_totals.specs.declared.Outcome.{Outcome}
+use Rattle.tables.specs.declared.Refusal.{Refusal}
+use Rattle.share_totals.specs.declared.Share.{Share}
 use Rattle.share_totals.specs.declared.Totals.{Totals}
 use Rattle.share_totals.specs.Sums.{added}
 use Rattle.share_totals.specs.Within.{Fits, Within}
-use Rattle.season.specs.declared.Got.{Got}
-use Rattle.season.specs.declared.Got.TheVariants.{Bytes, Failed}
 
 -- how many projects were met
 abbrev pub met : Names → ℕ
@@ -28,10 +27,5 @@ Room (Refused k) t = Within 10000 t
 -- and was added
 abbrev pub Acted : Turn → Totals → Totals → Type 0
 Acted Nothing t r = r ≡ t
-Acted (File k) t r = (o : Outcome) × Fits o × (r ≡ added t o)
-Acted (Refused k) t r = (o : Outcome) × Fits o × (r ≡ added t o)
-
--- at most so many bytes
-abbrev pub Fewer : ℕ → Got → Type 0
-Fewer n (Bytes k) = k ≤ n
-Fewer n Failed = Unit {0}
+Acted (File k) t r = (o : Result Share Refusal) × Fits o × (r ≡ added t o)
+Acted (Refused k) t r = (o : Result Share Refusal) × Fits o × (r ≡ added t o)

@@ -1,22 +1,22 @@
 // Reads the names of projects' files from standard input, a name a line, and prints each project's share as it is made, then the totals.
 #![tactic(auto)]
 
-ghost use Rattle.std.specs.Prelude.{◌≡◌, ℕ, ◌-◌, ◌≤◌, length, IfOk};
+ghost use Rattle.std.specs.Prelude.{◌≡◌, ◌-◌, ◌≤◌, length, IfOk, IfSome};
 ghost use Rattle.share_totals.specs.Sums.{added};
 ghost use Rattle.share_totals.specs.Within.{Fits, Within};
-ghost use Rattle.season.specs.Sound.{Sound, Room, Acted, Fewer};
+ghost use Rattle.season.specs.Sound.{Sound, Room, Acted};
 
 use file_names::{NAME_BYTES, Names, Turn, begin, finish, take_byte};
 use report_lines::inner::put_totals;
 use report_lines::put_outcome;
 use share_text::share_of_text;
 use share_totals::inner::{add, no_project};
-use share_totals::{Outcome, Totals};
+use share_totals::{Share, Totals};
 use std::fs::File;
 use std::io::Read;
 use std::rt::Files;
 use std::{io, str};
-use tables::Answer;
+use tables::Refusal;
 
 // How many bytes of a file are read: one more than a text may have.
 const TEXT_BYTES: usize = 65537;
@@ -33,13 +33,6 @@ pub struct Season {
 pub struct Taken {
     pub season: Season,
     pub more: bool,
-}
-
-// How many bytes were read, or that a read failed.
-#[derive(Clone, Copy)]
-pub enum Got {
-    Bytes(usize),
-    Failed,
 }
 
 // Writes the first n bytes.
@@ -59,10 +52,10 @@ fn first_of(bytes: &[u8], n: usize) -> &[u8] {
 }
 
 // Prints the line of an outcome.
-fn print_outcome(rt: &impl Print, outcome: Outcome) -> io::Result<()> {
+fn print_outcome(rt: &impl Print, outcome: Result<Share, Refusal>) -> io::Result<()> {
     let mut out = [0u8; 64];
     let answer = put_outcome(&mut out, outcome);
-    let Answer::Counted(n) = answer else {
+    let Ok(n) = answer else {
         return Ok(());
     };
     write_first(rt, &out, n)
@@ -74,73 +67,70 @@ fn print_totals(rt: &impl Print, totals: Totals) -> io::Result<()>
 {
     let mut out = [0u8; 64];
     let answer = put_totals(&mut out, totals);
-    let Answer::Counted(n) = answer else {
+    let Ok(n) = answer else {
         return Ok(());
     };
     write_first(rt, &out, n)
 }
 
-// Reads once.
-fn read_some(input: &mut impl Read, part: &mut [u8]) -> Got
-    ensures { Fewer (length part.old) result }
+// Reads once: how many bytes, or none where the read failed.
+fn read_some(input: &mut impl Read, part: &mut [u8]) -> Option<usize>
+    ensures { IfSome result (λ n. n ≤ length part.old) }
 {
-    match input.read(part) {
-        Ok(n) => Got::Bytes(n),
-        Err(_) => Got::Failed,
-    }
+    input.read(part).ok()
 }
 
 // Reads once, behind the first n bytes.
-fn read_behind(input: &mut impl Read, text: &mut [u8], n: usize) -> Got
+fn read_behind(input: &mut impl Read, text: &mut [u8], n: usize) -> Option<usize>
     requires { n ≤ length text.old }
-    ensures { Fewer (length text.old - n) result }
+    ensures { IfSome result (λ more. more ≤ length text.old - n) }
 {
     read_some(input, &mut text[n..])
 }
 
-// Reads until `text` is full, the file ends or a read fails.
-fn read_text(input: &mut impl Read, text: &mut [u8]) -> Got {
+// Reads until `text` is full or the file ends: how many bytes, or none where a read failed.
+fn read_text(input: &mut impl Read, text: &mut [u8]) -> Option<usize> {
     let mut n = 0;
     while n < text.len() {
-        let got = read_behind(input, text, n);
-        let Got::Bytes(more) = got else {
-            return Got::Failed;
-        };
+        let more = read_behind(input, text, n)?;
         if more == 0 {
-            return Got::Bytes(n);
+            return Some(n);
         }
         n += more;
     }
-    Got::Bytes(n)
+    Some(n)
 }
 
 // The outcome of an open file.
-fn share_of_descriptor(file: &mut impl Read) -> Outcome
+fn share_of_descriptor(file: &mut impl Read) -> Result<Share, Refusal>
     ensures { Fits result }
 {
     let mut text = [0u8; TEXT_BYTES];
-    let got = read_text(file, &mut text);
-    let Got::Bytes(n) = got else {
-        return Outcome::Refused(7);
+    let Some(n) = read_text(file, &mut text) else {
+        return Err(Refusal::Text);
     };
     share_of_text(first_of(&text, n))
 }
 
 // The outcome of the file of a name. One that isn't text names no file.
-fn share_of_file(rt: &impl Files, name: &[u8]) -> Outcome
+fn share_of_file(rt: &impl Files, name: &[u8]) -> Result<Share, Refusal>
     ensures { Fits result }
 {
     let Ok(path) = str::from_utf8(name) else {
-        return Outcome::Refused(7);
+        return Err(Refusal::Text);
     };
     match File::open(rt, path) {
         Ok(mut file) => share_of_descriptor(&mut file),
-        Err(_) => Outcome::Refused(7),
+        Err(_) => Err(Refusal::Text),
     }
 }
 
 // Prints an outcome and adds it to the totals.
-fn count_outcome(rt: &impl Print, totals: Totals, outcome: Outcome) -> io::Result<Totals>
+fn count_outcome(
+    rt: &impl Print,
+    totals: Totals,
+    outcome: Result<Share, Refusal>,
+) -> io::Result<Totals>
     requires within { Within 10000 totals }
     requires fits { Fits outcome }
     ensures { IfOk result (λ t. t ≡ added totals outcome) }
@@ -157,7 +147,7 @@ fn act(rt: &(impl Files + Print), totals: Totals, turn: Turn, name: &[u8]) -> io
     match turn {
         Turn::Nothing => Ok(totals),
         Turn::File(n) => count_outcome(rt, totals, share_of_file(rt, first_of(name, n))),
-        Turn::Refused(number) => count_outcome(rt, totals, Outcome::Refused(number)),
+        Turn::Refused(refusal) => count_outcome(rt, totals, Err(refusal)),
     }
 }
 
@@ -193,22 +183,10 @@ fn take_piece(
     ensures { IfOk result (λ s. Sound s.names s.totals) }
 {
     let mut now = season;
-    let mut i = 0;
-    while i < piece.len() {
-        now = take(rt, now, name, piece[i])?;
-        i += 1;
+    for &b in piece {
+        now = take(rt, now, name, b)?;
     }
     Ok(now)
-}
-
-// How many bytes a piece of the input has: a failed read has none.
-fn count_of(got: Got) -> usize
-    ensures { (n : ℕ) → Fewer n got → result ≤ n }
-{
-    match got {
-        Got::Bytes(n) => n,
-        Got::Failed => 0,
-    }
 }
 
 // Reads a piece of the input and takes it. A failed read ends the input, and so does the refusal of the project after the last.
@@ -222,7 +200,7 @@ fn take_some(
     ensures { IfOk result (λ t. Sound t.season.names t.season.totals) }
 {
     let mut piece = [0u8; 4096];
-    let n = count_of(read_some(input, &mut piece));
+    let n = read_some(input, &mut piece).unwrap_or(0);
     let next = take_piece(rt, season, name, &piece[..n])?;
     let names = next.names;
     Ok(Taken {

@@ -16,15 +16,7 @@ use table::{ROW_LIMIT, SEED, column};
 pub fn seeds_fit(seeds: &[u32], n: usize) -> bool
     ensures { result ≡ seeds_fit n seeds.now }
 {
-    if ROW_LIMIT < seeds.len() {
-        return false;
-    }
-    for k in 0..seeds.len() {
-        if n <= (seeds[k] as usize) {
-            return false;
-        }
-    }
-    true
+    seeds.len() <= ROW_LIMIT && seeds.iter().all(|seed| (*seed as usize) < n)
 }
 
 // Marks the eligible seeds.

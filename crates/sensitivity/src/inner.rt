@@ -18,6 +18,7 @@ use tables::Target;
 use tables::inner::{first_rows, resolve, thread};
 
 // Whether a record row is a kind 0 record to a normal target with wrap not 0.
+#[tactic(auto, unfolding(tables::specs::Readings::resolved, crate::specs::Marks::wakes))]
 fn row_wakes(
     normal: &[u32],
     wrap: &[u32],
@@ -59,23 +60,19 @@ fn search_uses(
     requires range { (first ≤ end) × (end ≤ length statement_included.now) }
     ensures { result ≡ any (statement_wakes normal.now wrap.now record_kind.now record_target.now statement_included.now use_statement.now use_record.now) (count_from first (end - first)) }
 {
-    let mut found = false;
-    let mut s = first;
-    'search: while s < end {
+    for s in first..end {
         if statement_included[s] == 1 {
             let mut u = heads[s] as usize;
             while u < use_statement.len() {
                 let row = use_record[u] as usize;
                 if row_wakes(normal, wrap, record_kind, record_target, row) {
-                    found = true;
-                    break 'search;
+                    return true;
                 }
                 u = nexts[u] as usize;
             }
         }
-        s += 1;
     }
-    found
+    false
 }
 
 // Whether a module uses, in an included statement, such a record. Its statements are the rows from its start to the next one's
@@ -121,16 +118,12 @@ fn eagerly_triggers_interop_module(
 fn ground_by(acts: bool, wakes: bool) -> u32
     ensures { result ≡ ground_by acts wakes }
 {
-    if acts {
-        if wakes {
-            return 3;
-        }
-        return 1;
+    match (acts, wakes) {
+        (true, true) => 3,
+        (true, false) => 1,
+        (false, true) => 2,
+        (false, false) => 0,
     }
-    if wakes {
-        return 2;
-    }
-    0
 }
 
 // The ground of a module's sensitivity, 0 for one that isn't sensitive. A set flag doesn't end the search.
@@ -210,9 +203,8 @@ fn mark_with_threads(
     requires starts { FirstRows statement_module.now starts.now × (length starts.now ≡ length normal.now + 1) }
     ensures { marks.new ≡ map (ground_at runtime normal.now included.now sensitive.now (uses_wrapped normal.now wrap.now record_kind.now record_target.now statement_module.now statement_included.now use_statement.now use_record.now)) (up_to (length marks.old)) }
 {
-    let mut m = 0;
-    while m < marks.len() {
-        marks[m] = is_order_sensitive(
+    for (m, mark) in marks.iter_mut().enumerate() {
+        *mark = is_order_sensitive(
             normal,
             included,
             sensitive,
@@ -229,7 +221,6 @@ fn mark_with_threads(
             runtime,
             m,
         );
-        m += 1;
     }
 }
 

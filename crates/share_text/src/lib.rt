@@ -7,9 +7,10 @@ ghost use Rattle.shares.specs.Promise.{outcome_of};
 ghost use Rattle.share_text.specs.Texts.{TextOutcome};
 
 use listing::{Reading, read};
-use share_totals::Outcome;
+use share_totals::Share;
 use shares::share;
-use table::COLUMNS;
+use table::{COLUMNS, Table};
+use tables::Refusal;
 
 // The first n values.
 fn first_of(values: &[u32], n: usize) -> &[u32]
@@ -34,31 +35,26 @@ fn share_of_columns<'a>(
     columns: &'a [u32; 32768],
     n: usize,
     names: &'a [u8],
-) -> Outcome
+) -> Result<Share, Refusal>
     requires { n ≤ length columns.now }
     ensures { result ≡ outcome_of (lent_named (get_or settings 0 0) (get_or settings 1 0) bounds.now (take n columns.now) names.now) }
 {
-    share(
+    share(&Table::new(
         settings[0],
         settings[1],
         bounds,
         first_of(columns, n),
         names,
-    )
+    ))
 }
 
 // The outcome of a project's text: 7 where it is none.
-pub fn share_of_text(text: &[u8]) -> Outcome
+pub fn share_of_text(text: &[u8]) -> Result<Share, Refusal>
     ensures { TextOutcome text.now result }
 {
     let mut settings = [0u32; 2];
     let mut bounds = [0u32; COLUMNS + 1];
     let mut columns = [0u32; 32768];
-    let answer = read(text, &mut settings, &mut bounds, &mut columns);
-    match answer {
-        Reading::Refused(number) => Outcome::Refused(number),
-        Reading::Read(n, from, to) => {
-            share_of_columns(settings, &bounds, &columns, n, part_of(text, from, to))
-        }
-    }
+    let Reading { values, from, to } = read(text, &mut settings, &mut bounds, &mut columns)?;
+    share_of_columns(settings, &bounds, &columns, values, part_of(text, from, to))
 }

@@ -1,16 +1,16 @@
 -- What the outcomes of projects come to at most. Each statement is a type; `proofs/Sums.antt` inhabits it.
 -- Assumes nothing.
-use Rattle.std.specs.Prelude.{◌≡◌, ℕ, ◌*◌, ◌^◌, ◌<◌, ◌≤◌, List, length}
+use Rattle.std.specs.Prelude.{◌≡◌, ℕ, ◌*◌, ◌^◌, ◌<◌, ◌≤◌, List, length, Result, Ok, Err}
 use mathlib.Core.List.{foldl, Memᴰ}
-use Rattle.share_totals.specs.declared.Outcome.{Outcome}
-use Rattle.share_totals.specs.declared.Outcome.TheVariants.{Share, Refused}
+use Rattle.tables.specs.declared.Refusal.{Refusal}
+use Rattle.share_totals.specs.declared.Share.{Share}
 use Rattle.share_totals.specs.declared.Totals.{Totals}
 use Rattle.share_totals.specs.Sums.{none, added, totals_of}
 
 -- an outcome as a project can have it: at most 4,096 modules, and none planned that isn't eligible
-abbrev pub Fits : Outcome → Type 0
-Fits (Share e p q r) = (p ≤ e) × (e ≤ 4096)
-Fits (Refused n) = Unit {0}
+abbrev pub Fits : Result Share Refusal → Type 0
+Fits (Ok s) = (s.planned ≤ s.eligible) × (s.eligible ≤ 4096)
+Fits (Err r) = Unit {0}
 
 -- the totals of at most n projects
 pub record Within (n : ℕ) (t : Totals) : Type 0 where
@@ -20,7 +20,7 @@ pub record Within (n : ℕ) (t : Totals) : Type 0 where
 
 -- a step a project gives the sums over the projects
 unfoldable pub StepsGiveTheSums : Type 0
-StepsGiveTheSums = (os : List Outcome) → foldl added none os ≡ totals_of os
+StepsGiveTheSums = (os : List (Result Share Refusal)) → foldl added none os ≡ totals_of os
 
 -- no sum overflows: over 10,000 projects and the refusal of the one that follows each is below 2 ^ 32, and 1,000 times one below 2 ^ 64
 pub record Small (t : Totals) : Type 0 where
@@ -30,4 +30,4 @@ pub record Small (t : Totals) : Type 0 where
   pub product : 1000 * t.planned < 2 ^ 64
 
 unfoldable pub SumsFit : Type 0
-SumsFit = (os : List Outcome) → length os ≤ 10001 → ((o : Outcome) → Memᴰ o os → Fits o) → Small (totals_of os)
+SumsFit = (os : List (Result Share Refusal)) → length os ≤ 10001 → ((o : Result Share Refusal) → Memᴰ o os → Fits o) → Small (totals_of os)

@@ -4,7 +4,8 @@ ghost use Rattle.share_totals.specs.Shares.{quotient_of, remainder_of, share_of}
 ghost use Rattle.share_totals.specs.Sums.{none, added, total_numbers};
 ghost use Rattle.share_totals.specs.Within.{Fits, Within};
 
-use crate::{Outcome, Totals};
+use crate::{Share, Totals};
+use tables::Refusal;
 
 // The quotient of 1,000 times the planned by the eligible modules.
 fn quotient(eligible: u32, planned: u32) -> u32
@@ -28,16 +29,16 @@ fn remainder(eligible: u32, planned: u32) -> u32
 }
 
 // The share of counted modules.
-pub fn share_of(eligible: u32, planned: u32) -> Outcome
+pub fn share_of(eligible: u32, planned: u32) -> Share
     requires { planned ≤ eligible }
     ensures { result ≡ share_of eligible planned }
 {
-    Outcome::Share(
+    Share {
         eligible,
         planned,
-        quotient(eligible, planned),
-        remainder(eligible, planned),
-    )
+        quotient: quotient(eligible, planned),
+        remainder: remainder(eligible, planned),
+    }
 }
 
 // The totals of no project.
@@ -52,18 +53,19 @@ pub fn no_project() -> Totals
 }
 
 // The totals with a project more.
-pub fn add(totals: Totals, outcome: Outcome) -> Totals
+#[tactic(auto, unfolding(crate::specs::Sums::added))]
+pub fn add(totals: Totals, outcome: Result<Share, Refusal>) -> Totals
     requires within { Within 10000 totals }
     requires fits { Fits outcome }
     ensures { result ≡ added totals outcome }
 {
     match outcome {
-        Outcome::Share(eligible, planned, _, _) => Totals {
-            eligible: totals.eligible + eligible,
-            planned: totals.planned + planned,
+        Ok(share) => Totals {
+            eligible: totals.eligible + share.eligible,
+            planned: totals.planned + share.planned,
             refused: totals.refused,
         },
-        Outcome::Refused(_) => Totals {
+        Err(_) => Totals {
             eligible: totals.eligible,
             planned: totals.planned,
             refused: totals.refused + 1,

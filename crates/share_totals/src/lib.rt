@@ -1,17 +1,18 @@
-// A project's outcome, and the totals of a season.
+// A project's share, and the totals of a season.
 #![tactic(auto)]
 
 pub mod inner;
 
-// The counts of eligible and of planned modules with the quotient and the remainder of 1,000 times the second by the first, or the number of
-// a refusal.
-#[derive(Clone, Copy)]
-pub enum Outcome {
-    Share(u32, u32, u32, u32),
-    Refused(u32),
+// The counts of eligible and of planned modules with the quotient and the remainder of 1,000 times the second by the first.
+#[derive(Clone, Copy, PartialEq, Eq)]
+pub struct Share {
+    pub eligible: u32,
+    pub planned: u32,
+    pub quotient: u32,
+    pub remainder: u32,
 }
 
-// Sums over outcomes: eligible modules, planned modules, refused projects.
+// Sums over the projects of a season: eligible modules, planned modules, refused projects.
 #[derive(Clone, Copy)]
 pub struct Totals {
     pub eligible: u32,

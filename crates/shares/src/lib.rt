@@ -2,92 +2,44 @@
 #![tactic(auto)]
 
 ghost use Rattle.std.specs.Prelude.{◌≡◌, ◌≤◌, ◌∷◌, length, drop};
-ghost use Rattle.arrangement.specs.OfProject.{lent_named, lent_named_with};
+ghost use Rattle.arrangement.specs.OfProject.{as_named};
 ghost use Rattle.shares.specs.Promise.{outcome_of, WrittenShare};
 
 use current_columns::inner::read_current;
-use refusal::refusal_number;
-use share_totals::Outcome;
-use table::{
-    DEPENDENCY, MEMBER, MODULE_LIMIT, NORMAL, RECORD_KIND, RECORD_MODULE, RECORD_TARGET, ROW_LIMIT,
-    column, rows,
-};
+use refusal::test;
+use share_totals::Share;
+use table::{DEPENDENCY, MEMBER, MODULE_LIMIT, NORMAL, ROW_LIMIT, Table};
 use table_share::inner::share_of_named;
-use tables::Answer;
+use tables::Refusal;
 
 // The counts of eligible modules and of those that the whole analysis plans, with the quotient and the remainder of 1,000 times the second by the
-// first, or a refusal, of a table whose import records are lent beside it.
+// first.
 #[tactic(auto, unfolding(table::specs::Table::table, table::specs::Table::read, table::specs::Table::current, arrangement::specs::OfProject::named))]
-pub fn share_with_records<'a>(
-    runtime: u32,
-    dynamic: u32,
-    bounds: &'a [u32],
-    columns: &'a [u32],
-    names: &'a [u8],
-    importers: &'a [u32],
-    kinds: &'a [u32],
-    targets: &'a [u32],
-) -> Outcome
-    ensures { result ≡ outcome_of (lent_named_with runtime dynamic bounds.now columns.now names.now importers.now kinds.now targets.now) }
+pub fn share(table: &Table) -> Result<Share, Refusal>
+    ensures { result ≡ outcome_of (as_named table.now) }
 {
-    let number = refusal_number(
-        runtime, dynamic, bounds, columns, names, importers, kinds, targets,
-    );
-    if number != 0 {
-        return Outcome::Refused(number);
-    }
-    let n = rows(bounds, columns, NORMAL);
+    test(table)?;
+    let n = table.rows(NORMAL);
     let mut read_targets = [0u32; ROW_LIMIT];
     let mut read_dependencies = [0u32; ROW_LIMIT];
-    read_current(
-        runtime,
-        dynamic,
-        bounds,
-        columns,
-        importers,
-        kinds,
-        targets,
-        &mut read_targets,
-        &mut read_dependencies,
-    );
-    let records = targets.len();
-    let dependency_rows = rows(bounds, columns, DEPENDENCY);
+    read_current(table, &mut read_targets, &mut read_dependencies);
+    let records = table.targets.len();
+    let dependency_rows = table.rows(DEPENDENCY);
     let mut marks = [0u32; MODULE_LIMIT];
-    share_of_named(
-        runtime,
-        dynamic,
-        bounds,
-        columns,
-        names,
-        importers,
-        kinds,
+    let counted = share_of_named(
+        table.runtime,
+        table.dynamic,
+        table.bounds,
+        table.columns,
+        table.names,
+        table.importers,
+        table.kinds,
         &read_targets[..records],
         &read_dependencies[..dependency_rows],
-        column(bounds, columns, MEMBER),
+        table.column(MEMBER),
         &mut marks[..n],
-    )
-}
-
-// The same of a table with records of its own.
-pub fn share<'a>(
-    runtime: u32,
-    dynamic: u32,
-    bounds: &'a [u32],
-    columns: &'a [u32],
-    names: &'a [u8],
-) -> Outcome
-    ensures { result ≡ outcome_of (lent_named runtime dynamic bounds.now columns.now names.now) }
-{
-    share_with_records(
-        runtime,
-        dynamic,
-        bounds,
-        columns,
-        names,
-        column(bounds, columns, RECORD_MODULE),
-        column(bounds, columns, RECORD_KIND),
-        column(bounds, columns, RECORD_TARGET),
-    )
+    );
+    Ok(counted)
 }
 
 // Writes four numbers from place 0.
@@ -101,55 +53,20 @@ fn put_four(out: &mut [u32], a: u32, b: u32, c: u32, d: u32)
     out[3] = d;
 }
 
-// Writes the four numbers of a share to `out` from place 0, of a table whose import records are lent beside it. The count is 4.
-pub fn write_share_with_records<'a>(
-    runtime: u32,
-    dynamic: u32,
-    bounds: &'a [u32],
-    columns: &'a [u32],
-    names: &'a [u8],
-    importers: &'a [u32],
-    kinds: &'a [u32],
-    targets: &'a [u32],
-    out: &mut [u32],
-) -> Answer
-    ensures { WrittenShare (lent_named_with runtime dynamic bounds.now columns.now names.now importers.now kinds.now targets.now) out.old result out.new }
+// Writes the four numbers of a share to `out` from place 0. The count is 4.
+pub fn write_share(table: &Table, out: &mut [u32]) -> Result<usize, Refusal>
+    ensures { WrittenShare (as_named table.now) out.old result out.new }
 {
-    let outcome = share_with_records(
-        runtime, dynamic, bounds, columns, names, importers, kinds, targets,
-    );
-    match outcome {
-        Outcome::Refused(number) => Answer::Refused(number),
-        Outcome::Share(eligible, planned, quotient, remainder) => {
-            if out.len() < 4 {
-                return Answer::Refused(6);
-            }
-            put_four(out, eligible, planned, quotient, remainder);
-            Answer::Counted(4)
-        }
+    let counted = share(table)?;
+    if out.len() < 4 {
+        return Err(Refusal::ShortSlice);
     }
-}
-
-// The same of a table with records of its own.
-pub fn write_share<'a>(
-    runtime: u32,
-    dynamic: u32,
-    bounds: &'a [u32],
-    columns: &'a [u32],
-    names: &'a [u8],
-    out: &mut [u32],
-) -> Answer
-    ensures { WrittenShare (lent_named runtime dynamic bounds.now columns.now names.now) out.old result out.new }
-{
-    write_share_with_records(
-        runtime,
-        dynamic,
-        bounds,
-        columns,
-        names,
-        column(bounds, columns, RECORD_MODULE),
-        column(bounds, columns, RECORD_KIND),
-        column(bounds, columns, RECORD_TARGET),
+    put_four(
         out,
-    )
+        counted.eligible,
+        counted.planned,
+        counted.quotient,
+        counted.remainder,
+    );
+    Ok(4)
 }

@@ -1,13 +1,14 @@
 // For crates above. Test 1: every list is within its limit, its columns are of one length, and a module is there.
 ghost use Rattle.std.specs.Prelude.{◌≡◌, ◌+◌, ◌<◌, not, ◌&&◌, [], ◌∷◌, length};
 ghost use Rattle.lists.specs.Words.{is_zero};
-ghost use Rattle.table.specs.Table.{column_at, table, with_records};
+ghost use Rattle.table.specs.Table.{column_at};
+ghost use Rattle.table.specs.Lending.{written};
 ghost use Rattle.tables.specs.Refusal.{module_limit, sized, code_sized, symbols_sized, chunks_sized};
 
 use table::{
     CHAIN_SYMBOL, CHUNK, CHUNK_LIMIT, DEPENDED_REFERENCE, DEPENDENCY_MODULE, ENTRY, EXPORTS,
     IMPORT_CHUNK, INCLUDED, MEMBER_CHUNK, MODULE_LIMIT, NEWER, NORMAL, ORDER, OWNER, READS,
-    REFERENCE_STATEMENT, ROW_LIMIT, SEED, SENSITIVE, STATEMENT_MODULE, USE_STATEMENT, WRAP, column,
+    REFERENCE_STATEMENT, ROW_LIMIT, SEED, SENSITIVE, STATEMENT_MODULE, Table, USE_STATEMENT, WRAP,
 };
 
 // A list of one column.
@@ -52,79 +53,67 @@ fn modules_sized<'a>(
 }
 
 // A list of one column, of two or of three, from column k on.
-fn one_at<'a>(bounds: &'a [u32], columns: &'a [u32], limit: usize, k: usize) -> bool
-    ensures { result ≡ sized limit (column_at bounds.now columns.now k) [] }
+fn one_at(table: &Table, limit: usize, k: usize) -> bool
+    ensures { result ≡ sized limit (column_at table.now.bounds.now table.now.columns.now k) [] }
 {
-    one_sized(limit, column(bounds, columns, k))
+    one_sized(limit, table.column(k))
 }
 
-fn two_at<'a>(bounds: &'a [u32], columns: &'a [u32], limit: usize, k: usize) -> bool
+fn two_at(table: &Table, limit: usize, k: usize) -> bool
     requires { k < 64 }
-    ensures { result ≡ sized limit (column_at bounds.now columns.now k) ((column_at bounds.now columns.now (k + 1)) ∷ []) }
+    ensures { result ≡ sized limit (column_at table.now.bounds.now table.now.columns.now k) ((column_at table.now.bounds.now table.now.columns.now (k + 1)) ∷ []) }
 {
-    two_sized(
-        limit,
-        column(bounds, columns, k),
-        column(bounds, columns, k + 1),
-    )
+    two_sized(limit, table.column(k), table.column(k + 1))
 }
 
-fn three_at<'a>(bounds: &'a [u32], columns: &'a [u32], limit: usize, k: usize) -> bool
+fn three_at(table: &Table, limit: usize, k: usize) -> bool
     requires { k < 64 }
-    ensures { result ≡ sized limit (column_at bounds.now columns.now k) ((column_at bounds.now columns.now (k + 1)) ∷ (column_at bounds.now columns.now (k + 2)) ∷ []) }
+    ensures { result ≡ sized limit (column_at table.now.bounds.now table.now.columns.now k) ((column_at table.now.bounds.now table.now.columns.now (k + 1)) ∷ (column_at table.now.bounds.now table.now.columns.now (k + 2)) ∷ []) }
 {
     three_sized(
         limit,
-        column(bounds, columns, k),
-        column(bounds, columns, k + 1),
-        column(bounds, columns, k + 2),
+        table.column(k),
+        table.column(k + 1),
+        table.column(k + 2),
     )
 }
 
 // Modules, records, dependencies and statements.
-pub fn code_sized<'a>(
-    runtime: u32,
-    dynamic: u32,
-    bounds: &'a [u32],
-    columns: &'a [u32],
-    importers: &'a [u32],
-    kinds: &'a [u32],
-    targets: &'a [u32],
-) -> bool
-    ensures { result ≡ code_sized (with_records (table runtime dynamic bounds.now columns.now) importers.now kinds.now targets.now) }
+pub fn code_sized(table: &Table) -> bool
+    ensures { result ≡ code_sized (written table.now) }
 {
     modules_sized(
-        column(bounds, columns, NORMAL),
-        column(bounds, columns, INCLUDED),
-        column(bounds, columns, SENSITIVE),
-        column(bounds, columns, READS),
-        column(bounds, columns, EXPORTS),
-        column(bounds, columns, WRAP),
-        column(bounds, columns, CHUNK),
-        column(bounds, columns, NEWER),
-    ) & three_sized(ROW_LIMIT, importers, kinds, targets)
-        & two_at(bounds, columns, ROW_LIMIT, DEPENDENCY_MODULE)
-        & two_at(bounds, columns, ROW_LIMIT, STATEMENT_MODULE)
+        table.column(NORMAL),
+        table.column(INCLUDED),
+        table.column(SENSITIVE),
+        table.column(READS),
+        table.column(EXPORTS),
+        table.column(WRAP),
+        table.column(CHUNK),
+        table.column(NEWER),
+    ) & three_sized(ROW_LIMIT, table.importers, table.kinds, table.targets)
+        & two_at(table, ROW_LIMIT, DEPENDENCY_MODULE)
+        & two_at(table, ROW_LIMIT, STATEMENT_MODULE)
 }
 
 // Uses, symbols, export chains, references and depended rows.
-pub fn symbols_sized<'a>(runtime: u32, dynamic: u32, bounds: &'a [u32], columns: &'a [u32]) -> bool
-    ensures { result ≡ symbols_sized (table runtime dynamic bounds.now columns.now) }
+pub fn symbols_sized(table: &Table) -> bool
+    ensures { result ≡ symbols_sized (written table.now) }
 {
-    two_at(bounds, columns, ROW_LIMIT, USE_STATEMENT)
-        & two_at(bounds, columns, ROW_LIMIT, OWNER)
-        & two_at(bounds, columns, ROW_LIMIT, CHAIN_SYMBOL)
-        & three_at(bounds, columns, ROW_LIMIT, REFERENCE_STATEMENT)
-        & two_at(bounds, columns, ROW_LIMIT, DEPENDED_REFERENCE)
+    two_at(table, ROW_LIMIT, USE_STATEMENT)
+        & two_at(table, ROW_LIMIT, OWNER)
+        & two_at(table, ROW_LIMIT, CHAIN_SYMBOL)
+        & three_at(table, ROW_LIMIT, REFERENCE_STATEMENT)
+        & two_at(table, ROW_LIMIT, DEPENDED_REFERENCE)
 }
 
 // Chunks, members, imports, entries and seeds.
-pub fn chunks_sized<'a>(runtime: u32, dynamic: u32, bounds: &'a [u32], columns: &'a [u32]) -> bool
-    ensures { result ≡ chunks_sized (table runtime dynamic bounds.now columns.now) }
+pub fn chunks_sized(table: &Table) -> bool
+    ensures { result ≡ chunks_sized (written table.now) }
 {
-    one_at(bounds, columns, CHUNK_LIMIT, ORDER)
-        & two_at(bounds, columns, ROW_LIMIT, MEMBER_CHUNK)
-        & two_at(bounds, columns, ROW_LIMIT, IMPORT_CHUNK)
-        & two_at(bounds, columns, ROW_LIMIT, ENTRY)
-        & one_at(bounds, columns, ROW_LIMIT, SEED)
+    one_at(table, CHUNK_LIMIT, ORDER)
+        & two_at(table, ROW_LIMIT, MEMBER_CHUNK)
+        & two_at(table, ROW_LIMIT, IMPORT_CHUNK)
+        & two_at(table, ROW_LIMIT, ENTRY)
+        & one_at(table, ROW_LIMIT, SEED)
 }

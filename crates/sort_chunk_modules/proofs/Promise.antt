@@ -1,48 +1,60 @@
--- What the operation promises, in each of its cases.
+-- What the operation promises where its project is refused, and what is known of a table that is accepted.
 -- Assumes nothing.
-use Rattle.std.specs.Prelude.{◌≡◌, ℕ, ◌<◌, ◌≤◌, Bool, true, leb, List, ◌++◌, length, drop}
+use Rattle.std.specs.Prelude.{◌≡◌, ℕ, Bool, true, ltb, List, length, Option, None, Some, Result, Ok, Err}
+use Rattle.std.specs.Result.{result_err}
 use mathlib.Core.Path.{refl, sym, ap, ◌∙◌}
 use native.Mathlib.Omega.{arith}
-use borrow.Author.Tests.{le-leb, lt-leb}
+use borrow.Author.Tests.{ltb-true}
 use Rattle.tables.specs.Project.{Project}
-use Rattle.tables.specs.declared.Answer.TheVariants.{Refused, Counted}
-use Rattle.tables.proofs.Answering.{verdict-project, verdict-short, verdict-none, after-refused, after-accepted}
-use Rattle.table.specs.Table.{Lent}
-use Rattle.table.proofs.Laws.{answer-refused, answer-accepted}
+use Rattle.tables.specs.Readings.{modules}
+use Rattle.tables.specs.declared.Refusal.{Refusal}
+use Rattle.tables.specs.Answers.{tested}
+use Rattle.tables.proofs.Answering.{verdict-project, answer-refused, after-refused}
+use Rattle.names.specs.Names.{names_fit}
+use Rattle.table.specs.declared.Table.{Table}
+use Rattle.table.specs.Table.{column_at, table, read, current, tested_too, Lent}
+use Rattle.table.specs.Lending.{as_lent, written}
+use Rattle.table.proofs.Laws.{none-tested}
+use Rattle.table.proofs.Lending.{names-fit}
 use Rattle.arrangement.specs.OfProject.{arranged_of}
-use Rattle.sort_chunk_modules.specs.Promise.{named_number, arranged_verdict, SortChunkModules}
+use Rattle.arrangement.proofs.OfProject.{in-fit}
+use Rattle.sort_chunk_modules.specs.Promise.{named_refusal, SortChunkModules}
 
-module _ (t : Lent) (names out : List ℕ) where
-  abbrev p : Project
-  p = t.project
+-- a refused project changes nothing
+pub project-refused : (t : Lent) (names out : List ℕ) {e : Refusal} → named_refusal t names ≡ Some e → SortChunkModules t names out (Err e) out
+project-refused t names out h =
+    let r = verdict-project _ _ h in
+    record { answered = answer-refused (length t.project.member) r; arranged = after-refused out (arranged_of t.project names) r }
 
-  abbrev rows : ℕ
-  rows = length p.member
+-- what a test answers, and one more test with it
+pub test-named : (r : Option Refusal) (named : Bool) {a : Result (Unit {0}) Refusal} {e n : Option Refusal} → a ≡ tested r → e ≡ result_err a → n ≡ tested_too e true named → n ≡ tested_too r true named
+test-named r named h k l = l ∙ ap (λ (e : Option Refusal). tested_too e true named) (k ∙ ap result_err h ∙ err r)
+  where
+    err : (r : Option Refusal) → result_err (tested r) ≡ r
+    err None = refl
+    err (Some x) = refl
 
-  abbrev number : ℕ
-  number = arranged_verdict t names (length out)
+-- a table that passes both
+module _ (t : Table) (accepts : named_refusal (as_lent t) t.names.now ≡ None) where
+  abbrev names : List ℕ
+  names = t.names.now
 
-  abbrev room : Bool
-  room = leb rows (length out)
+  abbrev q : Project
+  q = current (written t)
 
-  -- a refusal changes nothing
-  refused : (n : ℕ) → number ≡ n → (n ≡ 0 → ⊥) → SortChunkModules t names out (Refused n) out
-  refused n e h =
-      let k : number ≡ 0 → ⊥ = λ z. h (sym e ∙ z) in
-      record { answered = answer-refused number rows n e h; arranged = sym (after-refused number out (arranged_of p names) k) }
+  both : ((as_lent t).refused ≡ None) × (true ≡ true) × (ltb 0 (length names) ≡ true)
+  both = none-tested (as_lent t).refused true (ltb 0 (length names)) accepts
 
-  pub project-refused : (n : ℕ) → n ≡ named_number t names → (n ≡ 0 → ⊥) → SortChunkModules t names out (Refused n) out
-  project-refused n e h = refused n (verdict-project (named_number t names) true room (λ z. h (e ∙ z)) ∙ sym e) h
+  some : length names ≡ 0 → ⊥
+  some z = omega (arith, z, ltb-true 0 (length names) both.2)
 
-  module _ (accepts : named_number t names ≡ 0) where
-    pub room-refused : length out < rows → SortChunkModules t names out (Refused 6) out
-    room-refused l = refused 6 (verdict-short (named_number t names) true room accepts refl (lt-leb rows (length out) l)) (λ z. omega arith)
+  pub passed : Ok tt ≡ tested (as_lent t).refused
+  passed = sym (ap tested both.0)
 
-    pub members-arranged : rows ≤ length out → (made : List ℕ) (count : ℕ) → made ≡ arranged_of p names → length (arranged_of p names) ≡ rows → count ≡ rows
-        → SortChunkModules t names out (Counted count) (made ++ drop count out)
-    members-arranged l made count e s c =
-        let z : number ≡ 0 = verdict-none (named_number t names) true room accepts refl (le-leb rows (length out) l) in
-        record {
-          answered = answer-accepted number rows count z c;
-          arranged = ap (λ (xs : List ℕ). xs ++ drop count out) e ∙ ap (λ (i : ℕ). arranged_of p names ++ drop i out) (c ∙ sym s) ∙ sym (after-accepted number out (arranged_of p names) z);
-        }
+  pub named-fit : names_fit (modules q) names ≡ true
+  named-fit = in-fit (modules q) names (names-fit t passed) some
+
+  -- as many rows as the table has members
+  pub counts-members : {n : ℕ} → n ≡ length (column_at t.bounds.now t.columns.now 28) → n ≡ length q.member
+  unfolding table read current
+  counts-members e = e

@@ -1,6 +1,6 @@
 -- What the operation promises, in each of its cases.
 -- Assumes nothing.
-use Rattle.std.specs.Prelude.{◌≡◌, ℕ, ◌<◌, ◌≤◌, Bool, true, false, ◌&&◌, leb, List, ◌++◌, length, drop}
+use Rattle.std.specs.Prelude.{◌≡◌, ℕ, ◌<◌, ◌≤◌, Bool, true, false, ◌&&◌, leb, List, ◌++◌, length, drop, Option, None, Some, Ok, Err}
 use mathlib.Core.Path.{refl, sym, ap, ◌∙◌}
 use native.Mathlib.Omega.{arith}
 use borrow.Author.Tests.{le-leb, lt-leb}
@@ -8,10 +8,11 @@ use Rattle.lists.proofs.Laws.{and-join}
 use Rattle.tables.specs.Project.{Project}
 use Rattle.tables.specs.Readings.{modules}
 use Rattle.tables.specs.Accepted.{Accepted}
-use Rattle.tables.specs.declared.Answer.TheVariants.{Refused, Counted}
-use Rattle.tables.proofs.Answering.{verdict-project, verdict-short, verdict-none, after-refused, after-accepted}
+use Rattle.tables.specs.declared.Refusal.{Refusal}
+use Rattle.tables.specs.declared.Refusal.TheVariants.{ShortSlice}
+use Rattle.tables.specs.Answers.{tested}
+use Rattle.tables.proofs.Answering.{verdict-project, verdict-short, verdict-none, answer-refused, answer-accepted, after-refused, after-accepted, tested-refused}
 use Rattle.table.specs.Table.{Lent}
-use Rattle.table.proofs.Laws.{answer-refused, answer-accepted}
 use Rattle.sort_visit.specs.Visit.{Fit}
 use Rattle.sort_modules.specs.OfProject.{numbers_of, sorted_of}
 use Rattle.sort_modules.specs.Promise.{sort_verdict, SortModules}
@@ -34,46 +35,16 @@ module _ (t : Lent) (ns ss : List ℕ) where
   abbrev p : Project
   p = t.project
 
-  abbrev number : ℕ
-  number = sort_verdict t (length ns) (length ss)
-
-  -- a slice is long enough
-  abbrev long : List ℕ → Bool
-  long s = leb (modules p) (length s)
+  abbrev refused : Option Refusal
+  refused = sort_verdict t (length ns) (length ss)
 
   -- a refusal changes nothing
-  refused : (n : ℕ) → number ≡ n → (n ≡ 0 → ⊥) → SortModules t ns ss (Refused n) ns ss
-  refused n e h =
-      let k : number ≡ 0 → ⊥ = λ z. h (sym e ∙ z) in
-      record {
-        answered = answer-refused number (length (sorted_of p)) n e h;
-        numbered = sym (after-refused number ns (numbers_of p) k);
-        listed = sym (after-refused number ss (sorted_of p) k);
-      }
+  refused-with : {e : Refusal} → refused ≡ Some e → SortModules t ns ss (Err e) ns ss
+  refused-with h = record {
+    answered = answer-refused (length (sorted_of p)) h;
+    numbered = after-refused ns (numbers_of p) h;
+    listed = after-refused ss (sorted_of p) h;
+  }
 
-  pub project-refused : (n : ℕ) → n ≡ t.number → (n ≡ 0 → ⊥) → SortModules t ns ss (Refused n) ns ss
-  project-refused n e h = refused n (verdict-project t.number true (long ns && long ss) (λ z. h (e ∙ z)) ∙ sym e) h
-
-  module _ (accepts : t.number ≡ 0) where
-    short : long ns && long ss ≡ false → SortModules t ns ss (Refused 6) ns ss
-    short e = refused 6 (verdict-short t.number true (long ns && long ss) accepts refl e) (λ z. omega arith)
-
-    pub numbers-refused : length ns < modules p → SortModules t ns ss (Refused 6) ns ss
-    numbers-refused l = short (ap (λ (b : Bool). b && long ss) (lt-leb (modules p) (length ns) l))
-
-    module _ (enough : modules p ≤ length ns) where
-      pub sorted-refused : length ss < modules p → SortModules t ns ss (Refused 6) ns ss
-      sorted-refused l = short (ap (λ (b : Bool). b && long ss) (le-leb (modules p) (length ns) enough) ∙ lt-leb (modules p) (length ss) l)
-
-      pub order-sorted : modules p ≤ length ss → (count : ℕ) → count ≡ modules p → {marks marks' numbers' sorted' : List ℕ} {r : ℕ}
-          → Sorted (numbers_of p) (sorted_of p) marks ss marks' numbers' sorted' r
-          → SortModules t ns ss (Counted r) (numbers' ++ drop count ns) sorted'
-      unfolding numbers_of sorted_of
-      order-sorted l count same {r = r} o =
-          let z : number ≡ 0 = verdict-none t.number true (long ns && long ss) accepts refl (and-join (long ns) (long ss) (le-leb (modules p) (length ns) enough) (le-leb (modules p) (length ss) l)) in
-          let c : count ≡ length (numbers_of p) = same ∙ sym (numbers-count p.dynamic p.normal p.record_module p.record_kind p.record_target p.runtime p.entry) in
-          record {
-            answered = answer-accepted number (length (sorted_of p)) r z o.count;
-            numbered = ap (λ (x : List ℕ). x ++ drop count ns) o.numbers ∙ ap (λ (k : ℕ). numbers_of p ++ drop k ns) c ∙ sym (after-accepted number ns (numbers_of p) z);
-            listed = o.written ∙ sym (after-accepted number ss (sorted_of p) z);
-          }
+  pub project-refused : {e : Refusal} → Err e ≡ tested t.refused → SortModules t ns ss (Err e) ns ss
+  project-refused h = refused-with (verdict-project true _ (tested-refused t.refused h))

@@ -1,104 +1,50 @@
 // Module numbers and sorted list.
 #![tactic(auto)]
 
-ghost use Rattle.table.specs.Table.{lent, lent_with};
+ghost use Rattle.table.specs.Lending.{as_lent};
 ghost use Rattle.sort_modules.specs.Promise.{SortModules};
 
 use current_columns::inner::read_current;
 use inner::sort_table;
-use refusal::refusal_number;
-use table::{
-    DEPENDENCY, MEMBER, MODULE_LIMIT, NORMAL, RECORD_KIND, RECORD_MODULE, RECORD_TARGET, ROW_LIMIT,
-    column, rows,
-};
-use tables::Answer;
+use refusal::test;
+use table::{DEPENDENCY, MEMBER, MODULE_LIMIT, NORMAL, ROW_LIMIT, Table};
+use tables::Refusal;
 
 pub mod inner;
 
-// The number of each module, and the list of the normal modules in the order of their numbers, from place 0, of a table whose import records are lent
-// beside it.
-pub fn sort_modules_with_records<'a>(
-    runtime: u32,
-    dynamic: u32,
-    bounds: &'a [u32],
-    columns: &'a [u32],
-    names: &'a [u8],
-    importers: &'a [u32],
-    kinds: &'a [u32],
-    targets: &'a [u32],
+// The number of each module, and the list of the normal modules in the order of their numbers, from place 0. The count is that of the listed modules.
+#[tactic(auto, unfolding(table::specs::Table::table, table::specs::Table::read, table::specs::Table::current))]
+pub fn sort_modules(
+    table: &Table,
     numbers: &mut [u32],
     sorted: &mut [u32],
-) -> Answer
-    ensures { SortModules (lent_with runtime dynamic bounds.now columns.now names.now importers.now kinds.now targets.now) numbers.old sorted.old result numbers.new sorted.new }
+) -> Result<usize, Refusal>
+    ensures { SortModules (as_lent table.now) numbers.old sorted.old result numbers.new sorted.new }
 {
-    let refused = refusal_number(
-        runtime, dynamic, bounds, columns, names, importers, kinds, targets,
-    );
-    if refused != 0 {
-        return Answer::Refused(refused);
-    }
-    let modules = rows(bounds, columns, NORMAL);
-    if numbers.len() < modules {
-        return Answer::Refused(6);
-    }
-    if sorted.len() < modules {
-        return Answer::Refused(6);
+    test(table)?;
+    let modules = table.rows(NORMAL);
+    if numbers.len() < modules || sorted.len() < modules {
+        return Err(Refusal::ShortSlice);
     }
     let mut read_targets = [0u32; ROW_LIMIT];
     let mut read_dependencies = [0u32; ROW_LIMIT];
-    read_current(
-        runtime,
-        dynamic,
-        bounds,
-        columns,
-        importers,
-        kinds,
-        targets,
-        &mut read_targets,
-        &mut read_dependencies,
-    );
-    let records = targets.len();
-    let dependency_rows = rows(bounds, columns, DEPENDENCY);
+    read_current(table, &mut read_targets, &mut read_dependencies);
+    let records = table.targets.len();
+    let dependency_rows = table.rows(DEPENDENCY);
     let mut marks = [0u32; MODULE_LIMIT];
     let count = sort_table(
-        runtime,
-        dynamic,
-        bounds,
-        columns,
-        importers,
-        kinds,
+        table.runtime,
+        table.dynamic,
+        table.bounds,
+        table.columns,
+        table.importers,
+        table.kinds,
         &read_targets[..records],
         &read_dependencies[..dependency_rows],
-        column(bounds, columns, MEMBER),
+        table.column(MEMBER),
         &mut marks[..modules],
         &mut numbers[..modules],
         sorted,
     );
-    Answer::Counted(count)
-}
-
-// The number of each module, and the list of the normal modules in the order of their numbers, from place 0.
-pub fn sort_modules<'a>(
-    runtime: u32,
-    dynamic: u32,
-    bounds: &'a [u32],
-    columns: &'a [u32],
-    names: &'a [u8],
-    numbers: &mut [u32],
-    sorted: &mut [u32],
-) -> Answer
-    ensures { SortModules (lent runtime dynamic bounds.now columns.now names.now) numbers.old sorted.old result numbers.new sorted.new }
-{
-    sort_modules_with_records(
-        runtime,
-        dynamic,
-        bounds,
-        columns,
-        names,
-        column(bounds, columns, RECORD_MODULE),
-        column(bounds, columns, RECORD_KIND),
-        column(bounds, columns, RECORD_TARGET),
-        numbers,
-        sorted,
-    )
+    Ok(count)
 }

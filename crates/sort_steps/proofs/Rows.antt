@@ -46,14 +46,6 @@ module _ (dynamic : ℕ) (normal kind target : List ℕ) (row : ℕ) where
   abbrev pub led : List ℕ
   led = row_targets (is_static dynamic) any_target normal kind target row
 
-  -- another kind leads nowhere
-  pub led-kind : is_static dynamic (get_or kind row 0) ≡ false → led ≡ []
-  led-kind e = rw e
-
-  -- a static record leads to its target
-  pub led-static : (t : Target) → is_static dynamic (get_or kind row 0) ≡ true → resolved normal target row ≡ t → led ≡ any_target t
-  led-static t e q = rw (e, q)
-
   -- a target that is there is the row's, and not the mark
   there : (t : ℕ) → any_target (resolved normal target row) ≡ t ∷ [] → (eqb (get_or target row 0) missing ≡ false) × (get_or target row 0 ≡ t)
   unfolding resolved
@@ -65,9 +57,6 @@ module _ (dynamic : ℕ) (normal kind target : List ℕ) (row : ℕ) where
     where
       same : get_or target row 0 ∷ [] ≡ t ∷ [] → get_or target row 0 ≡ t
       same q = cc
-
-  pub led-one : (t : ℕ) → any_target (resolved normal target row) ≡ t ∷ [] → t ∷ [] ≡ unless_missing t
-  led-one t e = let p = there t e in let n : eqb t missing ≡ false = ap (λ (x : ℕ). eqb x missing) (sym p.1) ∙ p.0 in rw n
 
   -- a module that is led to has a row
   pub led-in : (n t : ℕ) → BelowOrMissing n target → row < length target → led ≡ t ∷ [] → t < n

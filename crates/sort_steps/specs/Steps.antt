@@ -1,6 +1,6 @@
 -- What the steps of a visit ensure, and what a walk that numbers makes.
 -- Assumes nothing.
-use Rattle.std.specs.Prelude.{◌≡◌, ℕ, ◌+◌, Bool, cond, not, List, [], ◌∷◌, ◌==◌, slice_index_or, slice_set}
+use Rattle.std.specs.Prelude.{◌≡◌, ℕ, ◌+◌, Bool, cond, not, Option, None, Some, List, [], ◌∷◌, ◌==◌, slice_index_or, slice_set}
 use Rattle.lists.specs.Words.{is_zero, keep}
 use Rattle.walk.specs.Walk.{Placed, place}
 use Rattle.tables.specs.Project.{missing}
@@ -14,6 +14,11 @@ pub record Met (marks : List ℕ) (m : ℕ) (r : Bool) (marks' : List ℕ) : Typ
 -- those that are not met
 abbrev pub unmet_of : List ℕ → List ℕ → List ℕ
 unmet_of marks = keep (λ (m : ℕ). is_zero (slice_index_or marks m 1))
+
+-- the one module that is led to, if any
+abbrev pub one_or_none : Option ℕ → List ℕ
+one_or_none None = []
+one_or_none (Some t) = t ∷ []
 
 -- t as the one module that is led to, or none if it is the mark
 abbrev pub unless_missing : ℕ → List ℕ

@@ -3,10 +3,10 @@ ghost use Rattle.std.specs.Prelude.{◌≡◌, ◌<◌, length};
 ghost use Rattle.tables.specs.Project.{missing};
 ghost use Rattle.tables.specs.Readings.{is_static, any_target, row_targets};
 ghost use Rattle.tables.specs.Accepted.{BelowOrMissing};
-ghost use Rattle.sort_steps.specs.Steps.{Met, unless_missing, unmet_of, made, number};
+ghost use Rattle.sort_steps.specs.Steps.{Met, one_or_none, unmet_of, made, number};
 
+use tables::Target;
 use tables::inner::{is_static, resolve};
-use tables::{ModuleIdx, Target};
 
 // How many modules are listed, and the next number, which counts externals too.
 #[derive(Clone, Copy)]
@@ -28,28 +28,29 @@ pub fn met(marks: &mut [u32], m: u32) -> bool
     false
 }
 
-// The module that a record leads to, or the mark if it leads nowhere.
+// The module that a record leads to, if any.
 pub fn led<'a>(
     normal: &'a [u32],
     record_kind: &'a [u32],
     record_target: &'a [u32],
     dynamic: u32,
     row: usize,
-) -> u32
+) -> Option<u32>
     requires { (row < length record_kind.now) × (row < length record_target.now) }
-    ensures { row_targets (is_static dynamic) any_target normal.now record_kind.now record_target.now row ≡ unless_missing result }
+    ensures { row_targets (is_static dynamic) any_target normal.now record_kind.now record_target.now row ≡ one_or_none result }
 {
     if !is_static(dynamic, record_kind[row]) {
-        return ModuleIdx::MISSING;
+        return None;
     }
     let found = resolve(normal, record_target, row);
     let (Target::External(t) | Target::Normal(t)) = found else {
-        return ModuleIdx::MISSING;
+        return None;
     };
-    t
+    Some(t)
 }
 
-// The unmet module that a record leads to, or the mark if there is none.
+// The unmet module that a record leads to, if any.
+#[tactic(auto, unfolding(tables::specs::Readings::resolved))]
 pub fn unmet<'a>(
     normal: &'a [u32],
     record_kind: &'a [u32],
@@ -57,18 +58,15 @@ pub fn unmet<'a>(
     marks: &[u32],
     dynamic: u32,
     row: usize,
-) -> u32
+) -> Option<u32>
     requires { (row < length record_kind.now) × (row < length record_target.now) × BelowOrMissing (length marks.now) record_target.now }
-    ensures { unmet_of marks.now (row_targets (is_static dynamic) any_target normal.now record_kind.now record_target.now row) ≡ unless_missing result }
+    ensures { unmet_of marks.now (row_targets (is_static dynamic) any_target normal.now record_kind.now record_target.now row) ≡ one_or_none result }
 {
-    let t = led(normal, record_kind, record_target, dynamic, row);
-    if t == ModuleIdx::MISSING {
-        return t;
-    }
+    let t = led(normal, record_kind, record_target, dynamic, row)?;
     if marks[t as usize] != 0 {
-        return ModuleIdx::MISSING;
+        return None;
     }
-    t
+    Some(t)
 }
 
 // Leaves a module: it takes the next number, and is listed if it is normal.

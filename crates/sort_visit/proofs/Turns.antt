@@ -1,6 +1,6 @@
 -- A lent visit, turn by turn: what the slices and the counters hold, what a call may rely on, and how a turn leads to the next.
 -- Assumes nothing.
-use Rattle.std.specs.Prelude.{◌≡◌, ℕ, suc, ◌+◌, ◌<◌, ◌≤◌, Bool, true, false, cond, eqb, List, [], ◌∷◌, length, get_or, set}
+use Rattle.std.specs.Prelude.{◌≡◌, ℕ, suc, ◌+◌, ◌<◌, ◌≤◌, Bool, true, false, cond, List, [], ◌∷◌, length, get_or, set}
 use mathlib.Core.Path.{refl, sym, ap, subst, ◌∙◌}
 use native.Mathlib.Nat.{le_antisymm}
 use native.Mathlib.Omega.{arith}
@@ -16,7 +16,7 @@ use Rattle.tables.specs.Accepted.{Below, BelowOrMissing}
 use Rattle.tables.specs.Readings.{is_static, any_target, row_targets, targets_of}
 use Rattle.tables.proofs.Rows.{run-ordered, targets-of-run}
 use Rattle.sort_steps.specs.declared.inner.Counters.{Counters}
-use Rattle.sort_steps.specs.Steps.{Met, unless_missing, unmet_of, Numbered, made, number}
+use Rattle.sort_steps.specs.Steps.{Met, unmet_of, Numbered, made, number}
 use Rattle.sort_visit.specs.Visit.{Indexed, held, Room}
 use Rattle.sort_steps.proofs.Rows.{led-in, led-all, led-met}
 use Rattle.sort_visit.proofs.Carried.{Carried, carried, room_after}
@@ -136,17 +136,17 @@ module _ (normal record_module record_kind record_target : List ℕ) where
                 (omega (arith, p.kinds, end_is.within), omega (arith, p.targets, end_is.within), subst (λ (n : ℕ). BelowOrMissing n record_target) (sym marks-len) p.within)
 
             -- a row that leads to nothing unmet
-            abbrev pub skip : (t : ℕ) → u.row < end → unmet_of u.at.ms (rows u.row) ≡ unless_missing t → eqb t missing ≡ true → Turn
-            skip t less e y = record {
+            abbrev pub skip : u.row < end → unmet_of u.at.ms (rows u.row) ≡ [] → Turn
+            skip less e = record {
               row = u.row + 1;
               at = u.at;
-              going = going-row succ everywhere (number normal) rows first (stood (marked t₀ m)) u.going (led-met dynamic normal record_kind record_target u.row succ everywhere (number normal) (stood u.at) (e ∙ ap (λ (b : Bool). cond b [] (t ∷ [])) y));
+              going = going-row succ everywhere (number normal) rows first (stood (marked t₀ m)) u.going (led-met dynamic normal record_kind record_target u.row succ everywhere (number normal) (stood u.at) e);
               upto = omega arith;
             }
 
-            module _ (t : ℕ) (less : u.row < end) (e : unmet_of u.at.ms (rows u.row) ≡ unless_missing t) (n : eqb t missing ≡ false) where
+            module _ (t : ℕ) (less : u.row < end) (e : unmet_of u.at.ms (rows u.row) ≡ t ∷ []) where
               pub leads : rows u.row ≡ t ∷ []
-              leads = led-all dynamic normal record_kind record_target u.row u.at.ms t (e ∙ ap (λ (b : Bool). cond b [] (t ∷ [])) n)
+              leads = led-all dynamic normal record_kind record_target u.row u.at.ms t e
 
               -- a row that leads to a module, which is visited
               pub call-ready : Prepared starts u.at t

@@ -7,7 +7,6 @@ ghost use Rattle.sort_steps.specs.Steps.{number};
 ghost use Rattle.sort_visit.specs.Visit.{Indexed, held, Room};
 
 use sort_steps::inner::{Counters, leave, met, unmet};
-use tables::ModuleIdx;
 
 // Visits a module: marks it, visits what its records lead to, and then leaves it. The counters are lent to each visit. `starts` has each
 // module's first record row.
@@ -31,11 +30,10 @@ fn visit<'a>(
         return;
     }
     let at = m as usize;
-    let mut row = starts[at] as usize;
+    let start = starts[at] as usize;
     let end = starts[at + 1] as usize;
-    while row < end {
-        let t = unmet(normal, record_kind, record_target, marks, dynamic, row);
-        if t != ModuleIdx::MISSING {
+    for row in start..end {
+        if let Some(t) = unmet(normal, record_kind, record_target, marks, dynamic, row) {
             visit(
                 normal,
                 record_module,
@@ -50,7 +48,6 @@ fn visit<'a>(
                 t,
             );
         }
-        row += 1;
     }
     let so_far = *counters;
     *counters = leave(normal, numbers, sorted, m, so_far);
@@ -87,7 +84,7 @@ pub fn visit_roots<'a>(
         dynamic,
         runtime,
     );
-    for row in 0..entry.len() {
+    for &m in entry {
         visit(
             normal,
             record_module,
@@ -99,7 +96,7 @@ pub fn visit_roots<'a>(
             numbers,
             sorted,
             dynamic,
-            entry[row],
+            m,
         );
     }
     counters

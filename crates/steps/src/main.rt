@@ -9,46 +9,35 @@ use parts::{first_of, part_of};
 use std::io;
 use std::rt::Env;
 use streams::read_full;
-use table::{COLUMNS, MODULE_LIMIT, NORMAL, rows};
-use tables::{Answer, ModuleIdx};
+use table::{COLUMNS, MODULE_LIMIT, NORMAL, Table};
+use tables::{ModuleIdx, Refusal};
 
-fn refused(rt: &impl Print, number: u32) -> io::Result<()> {
-    println!(rt; "refused {number}")
+fn refused(rt: &impl Print, refusal: Refusal) -> io::Result<()> {
+    println!(rt; "refused {}", refusal.number())
 }
 
-// The number with a digit more; the mark where it is too large.
-fn with_digit(value: u32, digit: u8) -> u32 {
-    let n = value as u64 * 10 + digit as u64;
-    if 4294967295 < n {
-        return ModuleIdx::MISSING;
-    }
-    n as u32
-}
-
-// The number that a text is, the mark where it is none.
-fn number_of(text: &[u8]) -> u32 {
-    if text.len() == 0 {
-        return ModuleIdx::MISSING;
+// The number that a text is, if it is one of 32 bits.
+fn number_of(text: &[u8]) -> Option<u32> {
+    if text.is_empty() {
+        return None;
     }
     let mut value: u32 = 0;
-    for i in 0..text.len() {
-        let b = text[i];
-        if b < 48 {
-            return ModuleIdx::MISSING;
+    for &b in text {
+        match b {
+            b'0'..=b'9' => {
+                value = value.checked_mul(10)?.checked_add(u32::from(b - b'0'))?;
+            }
+            _ => return None,
         }
-        if 57 < b {
-            return ModuleIdx::MISSING;
-        }
-        value = with_digit(value, b - 48);
     }
-    value
+    Some(value)
 }
 
-// The entry that the argument names.
+// The entry that the argument names. No module row is the mark, so a text that is no number names none.
 fn read_entry(rt: &impl Env) -> u32 {
     let mut text = [0u8; 64];
     let n = rt.arg(1, &mut text).unwrap_or(0);
-    number_of(&text[..n])
+    number_of(&text[..n]).unwrap_or(ModuleIdx::MISSING)
 }
 
 // A step's line.
@@ -58,67 +47,31 @@ fn print_step(rt: &impl Print, place: u64, module: u32, host: u32) -> io::Result
 
 // The first steps, as many as there are modules and hosts of them.
 fn print_steps(rt: &impl Print, modules: &[u32], hosts: &[u32]) -> io::Result<()> {
-    for place in 0..modules.len() {
-        if hosts.len() <= place {
-            return Ok(());
-        }
-        print_step(rt, place as u64, modules[place], hosts[place])?;
+    for (place, (&module, &host)) in modules.iter().zip(hosts).enumerate() {
+        print_step(rt, place as u64, module, host)?;
     }
     Ok(())
 }
 
 // The steps of an entry's load with a plan.
-fn try_plan<'a>(
-    rt: &(impl Env + Print),
-    runtime: u32,
-    dynamic: u32,
-    bounds: &'a [u32],
-    columns: &'a [u32],
-    names: &'a [u8],
-    plan: &'a [u32],
-) -> io::Result<()> {
+fn try_plan<'a>(rt: &(impl Env + Print), table: &Table, plan: &'a [u32]) -> io::Result<()> {
     let mut steps = [0u32; MODULE_LIMIT];
     let mut hosts = [0u32; MODULE_LIMIT];
-    let answer = load_run(
-        runtime,
-        dynamic,
-        bounds,
-        columns,
-        names,
-        read_entry(rt),
-        plan,
-        &mut steps,
-        &mut hosts,
-    );
+    let answer = load_run(table, read_entry(rt), plan, &mut steps, &mut hosts);
     match answer {
-        Answer::Refused(number) => refused(rt, number),
-        Answer::Counted(count) => print_steps(rt, first_of(&steps, count), &hosts),
+        Err(refusal) => refused(rt, refusal),
+        Ok(count) => print_steps(rt, first_of(&steps, count), &hosts),
     }
 }
 
 // The steps with the whole analysis' plan.
-fn try_load<'a>(
-    rt: &(impl Env + Print),
-    runtime: u32,
-    dynamic: u32,
-    bounds: &'a [u32],
-    columns: &'a [u32],
-    names: &'a [u8],
-) -> io::Result<()> {
-    let n = rows(bounds, columns, NORMAL);
+fn try_load(rt: &(impl Env + Print), table: &Table) -> io::Result<()> {
+    let n = table.rows(NORMAL);
     let mut plan = [0u32; MODULE_LIMIT];
-    let answer = analyze_execution_order(runtime, dynamic, bounds, columns, names, &mut plan);
+    let answer = analyze_execution_order(table, &mut plan);
     match answer {
-        Answer::Refused(number) => refused(rt, number),
-        Answer::Counted(_) => try_plan(
-            rt,
-            runtime,
-            dynamic,
-            bounds,
-            columns,
-            names,
-            first_of(&plan, n),
-        ),
+        Err(refusal) => refused(rt, refusal),
+        Ok(_) => try_plan(rt, table, first_of(&plan, n)),
     }
 }
 
@@ -133,11 +86,13 @@ fn try_read<'a>(
 ) -> io::Result<()> {
     try_load(
         rt,
-        settings[0],
-        settings[1],
-        bounds,
-        first_of(columns, n),
-        names,
+        &Table::new(
+            settings[0],
+            settings[1],
+            bounds,
+            first_of(columns, n),
+            names,
+        ),
     )
 }
 
@@ -149,14 +104,14 @@ fn main(rt: HostRuntime) -> io::Result<()> {
     let n = read_full(&mut rt.reader(), &mut text)?;
     let answer = read(&text[..n], &mut settings, &mut bounds, &mut columns);
     match answer {
-        Reading::Refused(number) => refused(&rt, number),
-        Reading::Read(k, from, to) => {
+        Err(refusal) => refused(&rt, refusal),
+        Ok(Reading { values, from, to }) => {
             try_read(
                 &rt,
                 settings,
                 &bounds,
                 &columns,
-                k,
+                values,
                 part_of(&text, from, to),
             )
         }

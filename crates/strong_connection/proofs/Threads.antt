@@ -5,7 +5,7 @@ use native.Mathlib.Nat.{le_trans}
 use Rattle.tables.specs.Refusal.{chunk_limit, row_limit}
 use Rattle.tables.specs.Threads.{Threadable, Threads}
 use Rattle.strong_connection.specs.inner.Graph.{Graph}
-use Rattle.strong_connection.specs.inner.Graph.{Linked, Threaded}
+use Rattle.strong_connection.specs.inner.Graph.{Threaded}
 
 -- in slices that are long enough
 pub threadable : {from to : List ℕ} {n : ℕ} → Graph from to n → (heads nexts : List ℕ) → chunk_limit ≤ length heads → row_limit ≤ length nexts → Threadable from heads nexts
@@ -13,6 +13,3 @@ threadable g heads nexts h k = record { rows = g.rows; room = le_trans g.rows k;
 
 pub threaded : {from to : List ℕ} {n : ℕ} → Graph from to n → (heads nexts : List ℕ) → chunk_limit ≤ length heads → Threads from heads nexts → Threaded from to heads nexts n
 threaded g heads nexts h t = record { graph = g; threads = t; heads-room = le_trans g.few h }
-
-pub threaded-linked : {from to heads nexts : List ℕ} {n : ℕ} → Threaded from to heads nexts n → Linked from to heads nexts n
-threaded-linked t = record { lengths = t.graph.lengths; tos = t.graph.tos; threads = t.threads; heads-room = t.heads-room }

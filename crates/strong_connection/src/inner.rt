@@ -5,8 +5,6 @@ ghost use Rattle.tables.specs.Readings.{values_of};
 ghost use Rattle.strong_connection.specs.inner.Graph.{Linked, Threaded};
 ghost use Rattle.strong_connection.specs.inner.Marking.{Marked, reach_marks};
 
-use lists::inner::fill;
-
 // Marks m and all that it leads to.
 pub fn visit(from: &[u32], to: &[u32], heads: &[u32], nexts: &[u32], m: u32, marks: &mut [u32])
     requires rows { Linked from.now to.now heads.now nexts.now (length marks.old) }
@@ -31,7 +29,7 @@ pub fn reach(from: &[u32], to: &[u32], heads: &[u32], nexts: &[u32], c: u32, mar
     requires chunk { c < length marks.old }
     ensures { marks.new ≡ reach_marks (length marks.old) (values_of from.now to.now) c }
 {
-    fill(marks, 0);
+    marks.fill(0);
     visit(from, to, heads, nexts, c, marks);
 }
 

@@ -17,13 +17,7 @@ pub const NEVER: u32 = 4097;
 fn earlier(least: u32, place: u32) -> u32
     ensures { Earlier least place result }
 {
-    if place == 0 {
-        return least;
-    }
-    if least < place {
-        return least;
-    }
-    place
+    if place == 0 { least } else { least.min(place) }
 }
 
 // Lowers what is noted of each sensitive member of an order to the least place of the sensitive members up to it.
@@ -35,8 +29,8 @@ fn lower_order(order: &[u32], sensitive: &[u32], placed: &[u32], asked: &mut [u3
     ensures { Lowered order.now sensitive.now placed.now asked.old asked.new }
 {
     let mut least = NEVER;
-    for k in 0..order.len() {
-        let m = order[k] as usize;
+    for &member in order {
+        let m = member as usize;
         if sensitive[m] == 0 {
             continue;
         }
@@ -52,15 +46,10 @@ fn is_listed(order: &[u32], sensitive: &[u32], eligible: &[u32], placed: &[u32])
     requires placed { length placed.now ≡ length sensitive.now }
     ensures { result ≡ true → AllPlanned order.now sensitive.now eligible.now placed.now }
 {
-    for k in 0..order.len() {
-        let m = order[k] as usize;
-        if sensitive[m] == 0 {
-            continue;
-        }
-        if eligible[m] == 0 {
-            continue;
-        }
-        if placed[m] == 0 {
+    // tried, the proof of `all` didn't close
+    for &member in order {
+        let m = member as usize;
+        if sensitive[m] != 0 && eligible[m] != 0 && placed[m] == 0 {
             return false;
         }
     }

@@ -23,12 +23,9 @@ fn first_in(order: &[u32], first: &[u32], second: &[u32]) -> usize
     requires rows { length second.now ≡ length first.now }
     ensures { FirstIn first.now second.now order.now result }
 {
-    for k in 0..order.len() {
-        let at = order[k] as usize;
-        if first[at] == 0 {
-            continue;
-        }
-        if second[at] != 0 {
+    for (k, &member) in order.iter().enumerate() {
+        let m = member as usize;
+        if first[m] != 0 && second[m] != 0 {
             return k;
         }
     }

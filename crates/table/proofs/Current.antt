@@ -2,6 +2,7 @@
 -- Assumes nothing.
 use mathlib.Core.Path.{◌≡◌, refl, sym, subst, ◌∙◌}
 use mathlib.Core.Logic.{⊎_elim}
+use Rattle.std.specs.Prelude.{None}
 use mathlib.Core.Bool.{Bool, true, ◌&&◌, ◌||◌}
 use mathlib.Core.List.Memᴰ
 use mathlib.Core.List.{List, map}
@@ -17,7 +18,7 @@ use Rattle.tables.specs.Readings.{modules, chunks}
 use Rattle.tables.specs.Refusal.{module_limit, sized, sizes_fit, below, below_or_missing, settings_in, modules_in, pair_in, symbols_in, chunks_in, values_fit, rows_rise, rows_agree, newer_fits, refusal}
 use Rattle.tables.specs.Accepted.{Accepted}
 use Rattle.tables.proofs.Accepted.{sizes-fit, all-passed, accepted}
-use Rattle.tables.proofs.Number.{number-0}
+use Rattle.tables.proofs.Number.{none-refused}
 use Rattle.replacement.specs.Replacement.{latest, as_read}
 use Rattle.replacement.proofs.Chains.{latest-in, latest-past}
 use Rattle.table.specs.Table.{read, current}
@@ -100,12 +101,12 @@ module _ (p : Project) where
         two-parts (settings_in (modules p) p.runtime p.dynamic) (modules_in (chunks p) p.normal p.included p.sensitive p.reads p.exports p.wrap p.chunk) (below (modules p) p.record_module) (below 4 p.record_kind) (below_or_missing (modules p) p.record_target) (below_or_missing (modules p) (as_read p.newer p.record_target)) (below (modules p) p.dependency_module) (below (modules p) p.dependency) (below (modules p) (as_read p.newer p.dependency)) (pair_in (modules p) 2 p.statement_module p.statement_included) (symbols_in p && chunks_in p)
         targets-in dependencies-in
 
-  -- a project without a number has none as it is read
-  pub current-tested : refusal p ≡ 0 → refusal (current p) ≡ 0
+  -- a project that nothing refuses is refused by nothing as it is read
+  pub current-tested : refusal p ≡ None → refusal (current p) ≡ None
   current-tested e =
       let t = all-passed p e in
       let s = sizes-fit p t.0 in
-      sym (number-0 (current p) (sizes-read ∙ t.0) (values-read s.newer (omega (arith, s.newer, s.normal)) t.4 t.1) (rise-read ∙ t.2) (agree-read ∙ t.3) (newer-read ∙ t.4))
+      sym (none-refused (current p) (sizes-read ∙ t.0) (values-read s.newer (omega (arith, s.newer, s.normal)) t.4 t.1) (rise-read ∙ t.2) (agree-read ∙ t.3) (newer-read ∙ t.4))
 
-  pub current-accepted : refusal p ≡ 0 → Accepted (current p)
+  pub current-accepted : refusal p ≡ None → Accepted (current p)
   current-accepted e = accepted (current p) (current-tested e)

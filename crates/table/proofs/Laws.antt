@@ -1,6 +1,7 @@
 -- What a column is, by its bounds, and a project read with its own columns.
 -- Assumes nothing.
 use mathlib.Core.Path.{◌≡◌, refl, sym, ap}
+use Rattle.std.specs.Prelude.{Option, None, Some}
 use mathlib.Core.Bool.{Bool, true, false, cond, not, ◌||◌}
 use mathlib.Core.List.{List, []}
 use Prim.Native.Nat.{ℕ, ◌+◌, ◌-◌, ◌≤◌, ◌<◌}
@@ -12,10 +13,10 @@ use Rattle.tables.specs.Project.{Project}
 use Rattle.tables.specs.Readings.{modules}
 use Rattle.tables.specs.Refusal.{refusal}
 use Rattle.tables.specs.Accepted.{Accepted}
-use Rattle.tables.specs.declared.Answer.TheVariants.{Refused, Counted}
+use Rattle.tables.specs.declared.Refusal.{Refusal}
+use Rattle.tables.specs.declared.Refusal.TheVariants.{ListSize, ColumnValue}
 use Rattle.tables.proofs.Accepted.{accepted}
-use Rattle.tables.proofs.Answering.{not-zero}
-use Rattle.table.specs.Table.{part, column_at, table, read, with_records, current, bounds_fit, table_number, tested_too, lent_as, lent, lent_with, answer}
+use Rattle.table.specs.Table.{part, column_at, table, read, with_records, current, bounds_fit, table_refusal, tested_too, lent_as, lent, lent_with}
 use Rattle.names.specs.Names.{names_sized, names_in}
 use Rattle.table.proofs.Current.{current-accepted}
 
@@ -56,63 +57,49 @@ pub lent_cut : (runtime dynamic : ℕ) (bounds columns names : List ℕ) {import
 unfolding table read
 lent_cut runtime dynamic bounds columns names e1 e2 e3 = ap (lent_as bounds columns names) (rw (e1, e2, e3))
 
--- the number of a table
+-- what refuses a table
 
 module _ (bounds columns : List ℕ) (p : Project) where
-  pub number-unfit : bounds_fit bounds columns ≡ false → 1 ≡ table_number bounds columns p
-  number-unfit e = rw e
+  pub table-unfit : bounds_fit bounds columns ≡ false → Some ListSize ≡ table_refusal bounds columns p
+  table-unfit e = rw e
 
-  pub number-fit : bounds_fit bounds columns ≡ true → refusal p ≡ table_number bounds columns p
-  number-fit e = rw e
+  pub table-fit : bounds_fit bounds columns ≡ true → refusal p ≡ table_refusal bounds columns p
+  table-fit e = rw e
 
--- no number with two further tests: none without them, and both are passed
-pub none-tested : (n : ℕ) (one two : Bool) → tested_too n one two ≡ 0 → (n ≡ 0) × (one ≡ true) × (two ≡ true)
-none-tested n false two z = absurd (first (eqb n 1) z)
+-- nothing refuses with two further tests: nothing does without them, and both are passed
+pub none-tested : (r : Option Refusal) (one two : Bool) → tested_too r one two ≡ None → (r ≡ None) × (one ≡ true) × (two ≡ true)
+none-tested None true true z = (refl, refl, refl)
+none-tested None true false z = cc
+none-tested None false two z = cc
+none-tested (Some x) one two z = none x one two z
   where
-    first : (b : Bool) → cond (b || true) 1 (cond (eqb n 2 || not two) 2 n) ≡ 0 → ⊥
-    first true e = omega arith
-    first false e = omega arith
-none-tested n true false z = absurd (second (eqb n 1) (eqb n 2) z)
-  where
-    second : (a b : Bool) → cond (a || false) 1 (cond (b || true) 2 n) ≡ 0 → ⊥
-    second true b e = omega arith
-    second false true e = omega arith
-    second false false e = omega arith
-none-tested n true true z = (third (eqb n 1) (eqb n 2) z, refl, refl)
-  where
-    third : (a b : Bool) → cond (a || false) 1 (cond (b || false) 2 n) ≡ 0 → n ≡ 0
-    third true b e = absurd (omega arith)
-    third false true e = absurd (omega arith)
-    third false false e = e
+    none : (x : Refusal) (one two : Bool) → tested_too (Some x) one two ≡ None → (Some x ≡ None) × (one ≡ true) × (two ≡ true)
+    none ListSize one two z = cc
+    none ColumnValue true two z = cc
+    none x false two z = cc
+    none x true false z = cc
+    none x true true z = cc
 
--- what a lent project without a number has
+-- what a lent project that nothing refuses has
 
 module _ (bounds columns names : List ℕ) (p : Project) where
-  passed : (lent_as bounds columns names p).number ≡ 0 → (table_number bounds columns p ≡ 0) × (names_sized names ≡ true) × (names_in (modules p) names ≡ true)
-  passed z = none-tested (table_number bounds columns p) (names_sized names) (names_in (modules p) names) z
+  passed : (lent_as bounds columns names p).refused ≡ None → (table_refusal bounds columns p ≡ None) × (names_sized names ≡ true) × (names_in (modules p) names ≡ true)
+  passed z = none-tested (table_refusal bounds columns p) (names_sized names) (names_in (modules p) names) z
 
-  pub lent-tested : (lent_as bounds columns names p).number ≡ 0 → refusal p ≡ 0
+  pub lent-tested : (lent_as bounds columns names p).refused ≡ None → refusal p ≡ None
   lent-tested z = go (bounds_fit bounds columns) (passed z).0
     where
-      go : (b : Bool) → cond b (refusal p) 1 ≡ 0 → refusal p ≡ 0
+      go : (b : Bool) → cond b (refusal p) (Some ListSize) ≡ None → refusal p ≡ None
       go true e = e
-      go false e = absurd (omega arith)
+      go false e = cc
 
-  pub lent-accepted : (lent_as bounds columns names p).number ≡ 0 → Accepted p
+  pub lent-accepted : (lent_as bounds columns names p).refused ≡ None → Accepted p
   lent-accepted z = accepted p (lent-tested z)
 
   -- and so is what is read of it
-  pub lent-current : (lent_as bounds columns names p).number ≡ 0 → Accepted (current p)
+  pub lent-current : (lent_as bounds columns names p).refused ≡ None → Accepted (current p)
   lent-current z = current-accepted p (lent-tested z)
 
   -- and its names are those of its modules, or none at all
-  pub lent-names : (lent_as bounds columns names p).number ≡ 0 → names_in (modules p) names ≡ true
+  pub lent-names : (lent_as bounds columns names p).refused ≡ None → names_in (modules p) names ≡ true
   lent-names z = (passed z).2
-
--- what an operation answers, by its number
-
-pub answer-refused : (v count n : ℕ) → v ≡ n → (n ≡ 0 → ⊥) → Refused n ≡ answer v count
-answer-refused v count n e h = rw (e, not-zero n h)
-
-pub answer-accepted : (v count r : ℕ) → v ≡ 0 → r ≡ count → Counted r ≡ answer v count
-answer-accepted v count r e f = rw (e, f)

@@ -1,12 +1,11 @@
 -- A table: where each column starts, with where the last ends, and all columns one after the other.
 -- Assumes nothing.
-use Rattle.std.specs.Prelude.{Bool, cond, not, ◌&&◌, ◌||◌, List, [], ℕ, ◌+◌, ◌-◌, length, get_or, take, drop, eqb, leb}
+use Rattle.std.specs.Prelude.{Bool, true, false, cond, ◌&&◌, List, [], ℕ, ◌+◌, ◌-◌, length, get_or, take, drop, eqb, leb, Option, Some}
 use Rattle.tables.specs.Project.{Project}
 use Rattle.tables.specs.Readings.{modules}
 use Rattle.tables.specs.Refusal.{rises, refusal}
-use Rattle.tables.specs.declared.Answer.{Answer}
-use Rattle.tables.specs.declared.Answer.TheVariants.{Refused, Counted}
-use Rattle.lists.specs.Words.{is_zero}
+use Rattle.tables.specs.declared.Refusal.{Refusal}
+use Rattle.tables.specs.declared.Refusal.TheVariants.{ListSize, ColumnValue}
 use Rattle.replacement.specs.Replacement.{as_read}
 use Rattle.names.specs.Names.{names_sized, names_in}
 
@@ -114,22 +113,26 @@ with_records p importers kinds targets = read p importers kinds targets p.depend
 unfoldable pub current : Project → Project
 current p = read p p.record_module p.record_kind (as_read p.newer p.record_target) (as_read p.newer p.dependency) p.member
 
--- the number of a table: 1 where the bounds don't fit, else the project's
-abbrev pub table_number : List ℕ → List ℕ → Project → ℕ
-table_number bounds columns p = cond (bounds_fit bounds columns) (refusal p) 1
+-- what refuses a table: 1 where the bounds don't fit, else what refuses the project
+abbrev pub table_refusal : List ℕ → List ℕ → Project → Option Refusal
+table_refusal bounds columns p = cond (bounds_fit bounds columns) (refusal p) (Some ListSize)
 
--- a number where 1 tests one thing more, and 2 another
-abbrev pub tested_too : ℕ → Bool → Bool → ℕ
-tested_too n one two = cond (eqb n 1 || not one) 1 (cond (eqb n 2 || not two) 2 n)
+-- what refuses where 1 tests one thing more, and 2 another: the lowest number is given
+abbrev pub tested_too : Option Refusal → Bool → Bool → Option Refusal
+tested_too (Some ListSize) one two = Some ListSize
+tested_too r false two = Some ListSize
+tested_too (Some ColumnValue) true two = Some ColumnValue
+tested_too r true false = Some ColumnValue
+tested_too r true true = r
 
--- a project as it is read, its members as written, with the number of its tests as it was lent, the names among what 1 and 2 test
+-- a project as it is read, its members as written, with what refuses it as it was lent, the names among what 1 and 2 test
 pub record Lent : Type 0 where
-  pub number : ℕ
+  pub refused : Option Refusal
   pub project : Project
 
 abbrev pub lent_as : List ℕ → List ℕ → List ℕ → Project → Lent
 lent_as bounds columns names p =
-    record { number = tested_too (table_number bounds columns p) (names_sized names) (names_in (modules p) names); project = current p }
+    record { refused = tested_too (table_refusal bounds columns p) (names_sized names) (names_in (modules p) names); project = current p }
 
 -- a table as it was lent
 abbrev pub lent : ℕ → ℕ → List ℕ → List ℕ → List ℕ → Lent
@@ -139,7 +142,3 @@ lent runtime dynamic bounds columns names = lent_as bounds columns names (table 
 abbrev pub lent_with : ℕ → ℕ → List ℕ → List ℕ → List ℕ → List ℕ → List ℕ → List ℕ → Lent
 lent_with runtime dynamic bounds columns names importers kinds targets =
     lent_as bounds columns names (with_records (table runtime dynamic bounds columns) importers kinds targets)
-
--- what an operation answers: the number of a refusal, else the count
-abbrev pub answer : ℕ → ℕ → Answer
-answer v count = cond (is_zero v) (Counted count) (Refused v)

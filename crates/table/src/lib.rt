@@ -2,9 +2,24 @@
 #![tactic(auto)]
 
 ghost use Rattle.std.specs.Prelude.{◌≡◌, length, get_or};
-ghost use Rattle.table.specs.Table.{column_at};
+ghost use Rattle.table.specs.Table.{column_at, lent};
+ghost use Rattle.table.specs.Lending.{as_lent};
 
 use tables::ModuleIdx;
+
+// A project as it is lent: its settings, where each column starts, with where the last ends, all columns one after the other, the modules' names,
+// and the import records that it is read with.
+#[derive(Clone, Copy)]
+pub struct Table<'a> {
+    pub runtime: u32,
+    pub dynamic: u32,
+    pub bounds: &'a [u32],
+    pub columns: &'a [u32],
+    pub names: &'a [u8],
+    pub importers: &'a [u32],
+    pub kinds: &'a [u32],
+    pub targets: &'a [u32],
+}
 
 // How many modules there can be.
 pub const MODULE_LIMIT: usize = ModuleIdx::LARGEST as usize + 1;
@@ -120,4 +135,43 @@ pub fn rows(bounds: &[u32], columns: &[u32], k: usize) -> usize
     ensures { result ≡ length (column_at bounds.now columns.now k) }
 {
     column(bounds, columns, k).len()
+}
+
+impl<'a> Table<'a> {
+    // A table with the import records that stand in its columns.
+    pub fn new(
+        runtime: u32,
+        dynamic: u32,
+        bounds: &'a [u32],
+        columns: &'a [u32],
+        names: &'a [u8],
+    ) -> Self
+        ensures lent { as_lent result ≡ lent runtime dynamic bounds.entry.now columns.entry.now names.entry.now }
+        ensures names { result.names.now ≡ names.entry.now }
+    {
+        Table {
+            runtime,
+            dynamic,
+            bounds,
+            columns,
+            names,
+            importers: column(bounds, columns, RECORD_MODULE),
+            kinds: column(bounds, columns, RECORD_KIND),
+            targets: column(bounds, columns, RECORD_TARGET),
+        }
+    }
+
+    // Column k.
+    pub fn column(&self, k: usize) -> &'a [u32]
+        ensures { result.now ≡ column_at self.now.bounds.now self.now.columns.now k }
+    {
+        column(self.bounds, self.columns, k)
+    }
+
+    // How many rows column k has.
+    pub fn rows(&self, k: usize) -> usize
+        ensures { result ≡ length (column_at self.now.bounds.now self.now.columns.now k) }
+    {
+        rows(self.bounds, self.columns, k)
+    }
 }

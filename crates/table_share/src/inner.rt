@@ -13,7 +13,7 @@ use arrangement::inner::read_members;
 use eligibility::of_table::mark_table_eligible;
 use lists::inner::count_marked;
 use order_analysis::inner::analyze;
-use share_totals::Outcome;
+use share_totals::Share;
 use share_totals::inner::share_of;
 use table::ROW_LIMIT;
 
@@ -60,7 +60,7 @@ pub fn share_of_table<'a>(
     dependencies: &'a [u32],
     members: &'a [u32],
     marks: &mut [u32],
-) -> Outcome
+) -> Share
     requires places { let p : Project = read (table runtime dynamic bounds.now columns.now) importers.now kinds.now targets.now dependencies.now members.now in Places p (modules p) (length marks.old) }
     ensures { let p : Project = read (table runtime dynamic bounds.now columns.now) importers.now kinds.now targets.now dependencies.now members.now in result ≡ share_of (eligible_count p) (planned_count p) }
 {
@@ -104,7 +104,7 @@ pub fn share_of_named<'a>(
     dependencies: &'a [u32],
     members: &'a [u32],
     marks: &mut [u32],
-) -> Outcome
+) -> Share
     requires names { let p : Project = read (table runtime dynamic bounds.now columns.now) importers.now kinds.now targets.now dependencies.now members.now in names_in (modules p) names.now ≡ true }
     requires places { let p : Project = read (table runtime dynamic bounds.now columns.now) importers.now kinds.now targets.now dependencies.now members.now in Places p (modules p) (length marks.old) }
     ensures { let p : Project = read (table runtime dynamic bounds.now columns.now) importers.now kinds.now targets.now dependencies.now members.now in result ≡ share_of (eligible_count (named p names.now)) (planned_count (named p names.now)) }

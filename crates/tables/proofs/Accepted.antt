@@ -1,6 +1,6 @@
 -- What a project that no test refuses is known to be.
 -- Assumes nothing.
-use Rattle.std.specs.Prelude.{◌≡◌, ℕ, zero, suc, ◌<◌, ◌≤◌, Bool, true, false, cond, not, ◌&&◌, ◌||◌, eqb, ltb, leb, ◌⊎◌, List, [], ◌∷◌, length, get_or}
+use Rattle.std.specs.Prelude.{◌≡◌, ℕ, zero, suc, ◌<◌, ◌≤◌, Bool, true, false, cond, not, ◌&&◌, ◌||◌, eqb, ltb, leb, ◌⊎◌, List, [], ◌∷◌, length, get_or, None, Some}
 use mathlib.Core.Path.{refl, sym, ◌∙◌}
 use mathlib.Core.Logic.{⊎_map}
 use mathlib.Core.Bool.{true≢false}
@@ -14,6 +14,7 @@ use Rattle.lists.proofs.Tests.{every-at}
 use Rattle.tables.specs.Project.{Project, missing}
 use Rattle.tables.specs.Readings.{modules, is_normal}
 use Rattle.tables.specs.Refusal.{module_limit, chunk_limit, row_limit, sized, code_sized, symbols_sized, chunks_sized, sizes_fit, below, below_or_missing, code_in, symbols_in, chunks_in, values_fit, rows_rise, same_pair, all_normal, uses_own, depended_resolved, plain_symbols, entries_once, imports_once, rows_agree, newer_fits, refusal}
+use Rattle.tables.specs.declared.Refusal.TheVariants.{ListSize, ColumnValue, RowOrder, RowConflict, NewerRow}
 use Rattle.tables.specs.Accepted.{Below, BelowOrMissing, Sizes, Values, Rises, Agrees, Accepted}
 use Rattle.tables.proofs.Rise.{rises-rising}
 
@@ -299,22 +300,22 @@ rows_agree_lem p e =
       imports = import-rows p a5.1;
     }
 
--- the number is 0 only if every test passes
-all_pass : (a b c d e : Bool) → ◌≡◌ {A = ℕ} (cond a (cond b (cond c (cond d (cond e 0 10) 4) 3) 2) 1) 0
+-- nothing refuses only if every test passes
+all_pass : (a b c d e : Bool) → cond a (cond b (cond c (cond d (cond e None (Some NewerRow)) (Some RowConflict)) (Some RowOrder)) (Some ColumnValue)) (Some ListSize) ≡ None
     → (a ≡ true) × (b ≡ true) × (c ≡ true) × (d ≡ true) × (e ≡ true)
 all_pass true true true true true z = (refl, refl, refl, refl, refl)
-all_pass true true true true false z = absurd (omega arith)
-all_pass true true true false e z = absurd (omega arith)
-all_pass true true false d e z = absurd (omega arith)
-all_pass true false c d e z = absurd (omega arith)
-all_pass false b c d e z = absurd (omega arith)
+all_pass true true true true false z = cc
+all_pass true true true false e z = cc
+all_pass true true false d e z = cc
+all_pass true false c d e z = cc
+all_pass false b c d e z = cc
 
--- the tests of a project without a number
-pub all-passed : (p : Project) → refusal p ≡ 0 → (sizes_fit p ≡ true) × (values_fit p ≡ true) × (rows_rise p ≡ true) × (rows_agree p ≡ true) × (newer_fits p.newer ≡ true)
+-- the tests of a project that nothing refuses
+pub all-passed : (p : Project) → refusal p ≡ None → (sizes_fit p ≡ true) × (values_fit p ≡ true) × (rows_rise p ≡ true) × (rows_agree p ≡ true) × (newer_fits p.newer ≡ true)
 unfolding refusal
 all-passed p e = all_pass (sizes_fit p) (values_fit p) (rows_rise p) (rows_agree p) (newer_fits p.newer) e
 
-pub accepted : (p : Project) → refusal p ≡ 0 → Accepted p
+pub accepted : (p : Project) → refusal p ≡ None → Accepted p
 accepted p e =
     let t = all-passed p e in
     record { sizes = sizes-fit p t.0; values = values-fit p t.1; rises = rows-rise p t.2; agrees = rows_agree_lem p t.3; newer = t.4 }

@@ -120,3 +120,8 @@ carried-all xs starts x all ends c =
     go : (y : ℕ) → y < length starts → (i : ℕ) → get_or starts y 0 ≤ i → i < length xs → Dec (get_or xs i 0 < y) → y ≤ get_or xs i 0
     go y h i l k (yes b) = absurd (omega (arith, c y i (omega arith) k b))
     go y h i l k (no b) = omega arith
+
+-- what the loops of the look-ups keep
+pub ruleset end_steps = (ends-none, ends-past, ends-row)
+
+pub ruleset start_steps = (carried_none, ends-carried, carried-more, carried-all)

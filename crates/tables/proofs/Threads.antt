@@ -66,6 +66,8 @@ module _ (from heads nexts : List ℕ) (row : ℕ) (inside : row < length from) 
   pub threading-step : Threading from (set heads place row) (set nexts row (get_or heads place 0)) row
   threading-step = record { first = λ m l. first-after m (omega (arith, length-set heads place row)); next = next-after }
 
+pub ruleset thread_steps = (threading-start, threading-step)
+
 -- going through the rows of m
 
 -- where a loop over the rows of m stands: at one of them, or at the end

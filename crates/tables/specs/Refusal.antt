@@ -1,9 +1,11 @@
 -- 01's tests 1 to 4 of a project and 02's test 10, in their words and order, and the number that applies first.
 -- Assumes nothing.
-use Rattle.std.specs.Prelude.{ℕ, suc, Bool, true, cond, not, ◌&&◌, ◌||◌, ltb, List, [], ◌∷◌, length, ◌==◌, nat_eq, nat_le, nat_lt, slice_index}
+use Rattle.std.specs.Prelude.{ℕ, suc, Bool, true, cond, not, ◌&&◌, ◌||◌, ltb, List, [], ◌∷◌, length, ◌==◌, nat_eq, nat_le, nat_lt, slice_index, Option, None, Some}
 use mathlib.Core.List.{zip}
 use Rattle.lists.specs.Words.{is_zero, up_to, every, twice}
 use Rattle.tables.specs.Project.{Project, missing, largest}
+use Rattle.tables.specs.declared.Refusal.{Refusal}
+use Rattle.tables.specs.declared.Refusal.TheVariants.{ListSize, ColumnValue, RowOrder, RowConflict, NewerRow}
 use Rattle.tables.specs.Readings.{modules, chunks, is_normal}
 
 -- "Modules 1 to 4,096; chunks 0 to 1,024; any other list 0 to 16,384 rows."
@@ -169,6 +171,7 @@ fits_at newer m = slice_index newer m == missing || (nat_lt m (slice_index newer
 unfoldable pub newer_fits : List ℕ → Bool
 newer_fits newer = every (fits_at newer) (up_to (length newer))
 
--- "The lowest that applies is given", and 10 "after 4"; 0 for none
-unfoldable pub refusal : Project → ℕ
-refusal p = cond (sizes_fit p) (cond (values_fit p) (cond (rows_rise p) (cond (rows_agree p) (cond (newer_fits p.newer) 0 10) 4) 3) 2) 1
+-- "The lowest that applies is given", and 10 "after 4"
+unfoldable pub refusal : Project → Option Refusal
+refusal p =
+    cond (sizes_fit p) (cond (values_fit p) (cond (rows_rise p) (cond (rows_agree p) (cond (newer_fits p.newer) None (Some NewerRow)) (Some RowConflict)) (Some RowOrder)) (Some ColumnValue)) (Some ListSize)

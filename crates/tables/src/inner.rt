@@ -5,53 +5,40 @@ ghost use Rattle.tables.specs.Readings.{is_static, resolved};
 ghost use Rattle.tables.specs.Threads.{Threadable, Threads};
 
 use crate::{ModuleIdx, Target};
-use lists::inner::fill;
 
 // The first row of a rising column that is at least x.
 pub fn first_row(column: &[u32], x: usize) -> usize
     requires { Rising column.now }
     ensures { FirstRow column.now x result }
 {
-    let mut low = 0;
-    let mut high = column.len();
-    while low < high {
-        let middle = low + (high - low) / 2;
-        if (column[middle] as usize) < x {
-            low = middle + 1;
-        } else {
-            high = middle;
-        }
-    }
-    low
+    column.partition_point(|row| (*row as usize) < x)
 }
 
 // The greater of two.
 pub fn greater(a: u32, b: u32) -> u32
     ensures { result ≡ greater_of a b }
 {
-    if a < b {
-        return b;
-    }
-    a
+    a.max(b)
 }
 
 // Writes at the place after each value the row after its last, and 0 at the other places.
+#[tactic(auto, using(crate::proofs::Starts::end_steps))]
 fn row_ends(column: &[u32], starts: &mut [u32])
     requires rising { Rising column.now }
     requires few { length column.now ≤ 16384 }
     ensures { RowEnds column.now starts.new (length column.now) }
 {
-    fill(starts, 0);
-    for row in 0..column.len() {
-        let next = column[row] as usize + 1;
-        if starts.len() <= next {
-            continue;
+    starts.fill(0);
+    for (row, value) in column.iter().enumerate() {
+        let next = *value as usize + 1;
+        if next < starts.len() {
+            starts[next] = row as u32 + 1;
         }
-        starts[next] = row as u32 + 1;
     }
 }
 
 // The first row of each value that has a place in `starts`.
+#[tactic(auto, using(crate::proofs::Starts::start_steps))]
 pub fn first_rows(column: &[u32], starts: &mut [u32])
     requires rising { Rising column.now }
     requires few { length column.now ≤ 16384 }
@@ -59,19 +46,18 @@ pub fn first_rows(column: &[u32], starts: &mut [u32])
 {
     row_ends(column, starts);
     for x in 1..starts.len() {
-        starts[x] = greater(starts[x - 1], starts[x]);
+        starts[x] = starts[x - 1].max(starts[x]);
     }
 }
 
 // Threads the rows of each place: `heads` gets its first row, `nexts` the next row of the same place, or the end.
+#[tactic(auto, using(crate::proofs::Threads::thread_steps))]
 pub fn thread(from: &[u32], heads: &mut [u32], nexts: &mut [u32])
     requires { Threadable from.now heads.old nexts.old }
     ensures { Threads from.now heads.new nexts.new }
 {
-    let mut row = from.len();
-    fill(heads, row as u32);
-    while 0 < row {
-        row -= 1;
+    heads.fill(from.len() as u32);
+    for row in (0..from.len()).rev() {
         let m = from[row] as usize;
         nexts[row] = heads[m];
         heads[m] = row as u32;
@@ -88,25 +74,15 @@ pub fn resolve(normal: &[u32], target: &[u32], row: usize) -> Target
     if t == ModuleIdx::MISSING {
         return Target::Missing;
     }
-    let at = t as usize;
-    if normal.len() <= at {
-        return Target::External(t);
+    match normal.get(t as usize) {
+        Some(&1) => Target::Normal(t),
+        _ => Target::External(t),
     }
-    if normal[at] == 1 {
-        return Target::Normal(t);
-    }
-    Target::External(t)
 }
 
 // Whether a record of this kind is static.
 pub fn is_static(dynamic: u32, kind: u32) -> bool
     ensures { result ≡ is_static dynamic kind }
 {
-    if kind < 2 {
-        return true;
-    }
-    if kind == 2 {
-        return dynamic == 1;
-    }
-    false
+    kind < 2 || (kind == 2 && dynamic == 1)
 }

@@ -22,9 +22,41 @@ pub enum Target {
     Normal(u32),
 }
 
-// What an operation answers: 01's number of a refusal, or the count.
-#[derive(Clone, Copy)]
-pub enum Answer {
-    Refused(u32),
-    Counted(usize),
+// Why a call is turned back; `as u32` is its number.
+#[derive(Clone, Copy, PartialEq, Eq, Debug)]
+pub enum Refusal {
+    // A list is over its limit, its columns differ in length, there is no module, or the columns' bounds don't fit.
+    ListSize = 1,
+    // A value is outside its column, or the names break their form.
+    ColumnValue = 2,
+    // A first column falls.
+    RowOrder = 3,
+    // RowConflict disagree.
+    RowConflict = 4,
+    // A root, entry, chunk or seed that doesn't exist or isn't analysed, or too many seeds.
+    Argument = 5,
+    // A lent slice is too short.
+    ShortSlice = 6,
+    // A text isn't of the form, or can't be read.
+    Text = 7,
+    // The slices for circles are too short for all of them.
+    ShortForCircles = 8,
+    // A lent plan isn't one mark for each module.
+    PlanForm = 9,
+    // A module's `newer` is neither missing nor the number of a later row.
+    NewerRow = 10,
+    // A season has no place for another project.
+    PastSeason = 11,
+}
+
+impl Refusal {
+    ghost use Rattle.std.specs.Prelude.{◌≡◌};
+    ghost use Rattle.tables.specs.Answers.{number};
+
+    // Its number.
+    pub fn number(self) -> u32
+        ensures { result ≡ number self }
+    {
+        self as u32
+    }
 }

@@ -11,15 +11,15 @@ use std::fs::File;
 use std::io::Read;
 use std::rt::{Env, Files};
 use std::{io, str};
-use table::{COLUMNS, MODULE_LIMIT, SEED, column};
-use tables::Answer;
+use table::{COLUMNS, MODULE_LIMIT, SEED, Table};
+use tables::Refusal;
 use takings_from_seeds::takings_from_seeds;
 
 // How many bytes of a file are read: one more than a text may have.
 const TEXT_BYTES: usize = 65537;
 
-fn refused(rt: &impl Print, number: u32) -> io::Result<()> {
-    println!(rt; "refused {number}")
+fn refused(rt: &impl Print, refusal: Refusal) -> io::Result<()> {
+    println!(rt; "refused {}", refusal.number())
 }
 
 // The values from place k on.
@@ -36,8 +36,8 @@ fn print_module(rt: &impl Print, m: u32) -> io::Result<()> {
 }
 
 fn print_modules(rt: &impl Print, modules: &[u32]) -> io::Result<()> {
-    for i in 0..modules.len() {
-        print_module(rt, modules[i])?;
+    for &m in modules {
+        print_module(rt, m)?;
     }
     Ok(())
 }
@@ -58,45 +58,30 @@ fn print_front(rt: &impl Print, list: &[u32], n: u32, k: usize) -> io::Result<()
 
 // Prints the list after each number of takings.
 fn print_takings(rt: &impl Print, list: &[u32], lengths: &[u32]) -> io::Result<()> {
-    for k in 0..lengths.len() {
-        print_front(rt, list, lengths[k], k)?;
+    for (k, &length) in lengths.iter().enumerate() {
+        print_front(rt, list, length, k)?;
     }
     print_list(rt, list, list.len())
 }
 
 // Shows a worklist that was written, or the refusal.
-fn show_written(rt: &impl Print, list: &[u32], lengths: &[u32], answer: Answer) -> io::Result<()> {
+fn show_written(
+    rt: &impl Print,
+    list: &[u32],
+    lengths: &[u32],
+    answer: Result<usize, Refusal>,
+) -> io::Result<()> {
     match answer {
-        Answer::Refused(number) => refused(rt, number),
-        Answer::Counted(count) => print_takings(
-            rt,
-            first_of(list, count),
-            first_of(lengths, count),
-        ),
+        Err(refusal) => refused(rt, refusal),
+        Ok(count) => print_takings(rt, first_of(list, count), first_of(lengths, count)),
     }
 }
 
 // Shows the worklist of a table.
-fn show_table<'a>(
-    rt: &impl Print,
-    runtime: u32,
-    dynamic: u32,
-    bounds: &'a [u32],
-    columns: &'a [u32],
-    names: &'a [u8],
-) -> io::Result<()> {
+fn show_table(rt: &impl Print, table: &Table) -> io::Result<()> {
     let mut list = [0u32; MODULE_LIMIT];
     let mut lengths = [0u32; MODULE_LIMIT];
-    let answer = takings_from_seeds(
-        runtime,
-        dynamic,
-        bounds,
-        columns,
-        names,
-        column(bounds, columns, SEED),
-        &mut list,
-        &mut lengths,
-    );
+    let answer = takings_from_seeds(table, table.column(SEED), &mut list, &mut lengths);
     show_written(rt, &list, &lengths, answer)
 }
 
@@ -111,11 +96,13 @@ fn show_read<'a>(
 ) -> io::Result<()> {
     show_table(
         rt,
-        settings[0],
-        settings[1],
-        bounds,
-        first_of(columns, n),
-        names,
+        &Table::new(
+            settings[0],
+            settings[1],
+            bounds,
+            first_of(columns, n),
+            names,
+        ),
     )
 }
 
@@ -126,9 +113,16 @@ fn show_text(rt: &impl Print, text: &[u8]) -> io::Result<()> {
     let mut columns = [0u32; 32768];
     let answer = read(text, &mut settings, &mut bounds, &mut columns);
     match answer {
-        Reading::Refused(number) => refused(rt, number),
-        Reading::Read(k, from, to) => {
-            show_read(rt, settings, &bounds, &columns, k, part_of(text, from, to))
+        Err(refusal) => refused(rt, refusal),
+        Ok(Reading { values, from, to }) => {
+            show_read(
+                rt,
+                settings,
+                &bounds,
+                &columns,
+                values,
+                part_of(text, from, to),
+            )
         }
     }
 }
@@ -165,11 +159,11 @@ fn show_open<R: Files + Print>(rt: &R, file: &mut R::File) -> io::Result<()> {
 // Shows that of the file of a name.
 fn show_file(rt: &(impl Files + Print), name: &[u8]) -> io::Result<()> {
     let Ok(path) = str::from_utf8(name) else {
-        return refused(rt, 7);
+        return refused(rt, Refusal::Text);
     };
     match File::open(rt, path) {
         Ok(mut file) => show_open(rt, &mut file),
-        Err(_) => refused(rt, 7),
+        Err(_) => refused(rt, Refusal::Text),
     }
 }
 

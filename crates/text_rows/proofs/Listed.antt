@@ -13,11 +13,10 @@ use Rattle.form.proofs.Rows.{field-not-end, field-once}
 use Rattle.form.proofs.Runs.{sets-append}
 use Rattle.text_rows.specs.inner.Cells.{ender, following, cells, Whole, body, Head, listed, texts, Wholes, stops}
 use Rattle.text_rows.specs.inner.Cells as rows
-use Rattle.text_rows.specs.inner.Steps.{LineIs, RowsIs, RowsRead, ListIs, Room, Noted, Step, AllIs, Steps}
-use Rattle.text_rows.specs.declared.inner.Place.TheVariants.{At, Differs}
-use Rattle.text_rows.specs.declared.inner.Rows.TheVariants.{Bad}
+use Rattle.std.specs.Prelude.{Option, Some, None}
+use Rattle.text_rows.specs.inner.Steps.{LineIs, RowsIs, ListIs, Room, RoomAfter, AllIs, Steps}
 use Rattle.text_rows.specs.declared.inner.Cursor.{Cursor}
-use Rattle.text_rows.specs.declared.inner.Cursor.TheVariants.{On, Off}
+use Rattle.text_rows.proofs.Line.{line_on}
 use Rattle.text_rows.proofs.Turn.{ender-low}
 
 -- a value has two bytes at least
@@ -32,45 +31,37 @@ unfolding body
 body-long last vs f = omega (arith, cells-long last last vs f, length-append (cells last last vs) (10 ∷ []))
 
 module _ (s : List ℕ) (h : Head) (d d' : List ℕ) (c : Cursor) where
-  pub list-off : c ≡ Off → ListIs s h d d' c Off
-  list-off q = rw q tt
+  apart : (vs rest : List ℕ) → listed h vs ++ rest ≡ h.name ++ 10 ∷ (body h.last vs ++ rest)
+  unfolding listed
+  apart vs rest = append_assoc h.name (10 ∷ body h.last vs) rest
 
-  module _ (at k : ℕ) (q : c ≡ On at k) where
-    apart : (vs rest : List ℕ) → listed h vs ++ rest ≡ h.name ++ 10 ∷ (body h.last vs ++ rest)
-    unfolding listed
-    apart vs rest = append_assoc h.name (10 ∷ body h.last vs) rest
+  pub list-no-line : LineIs s c.at h.name None → ListIs s h d d' c None
+  list-no-line l vs rest t e = l (body h.last vs ++ rest) (e ∙ apart vs rest)
 
-    pub list-no-line : LineIs s at h.name Differs → ListIs s h d d' c Off
-    list-no-line l = rw q (λ vs rest t e. l (body h.last vs ++ rest) (e ∙ apart vs rest))
-
-    pub list-no-rows : (next : ℕ) → LineIs s at h.name (At next) → RowsIs s next h.last d k d' Bad → ListIs s h d d' c Off
-    list-no-rows next l r =
-        rw q
-        (λ vs rest t e.
+  pub list_rows : (next : ℕ) → Room s c → LineIs s c.at h.name (Some next) → (r : Option Cursor) → RowsIs s next h.last d c.count d' r
+      → ListIs s h d d' c r × RoomAfter s r
+  list_rows next room l None r = (
+    λ vs rest t e.
         let x : 10 ∷ drop next s ≡ 10 ∷ (body h.last vs ++ rest) =
         append_cancel_left h.name (10 ∷ drop next s) (10 ∷ (body h.last vs ++ rest)) (sym l.0 ∙ e ∙ apart vs rest) in
-        r vs rest t (cc))
-
-    pub list-yes : (next e n : ℕ) → Room s c → LineIs s at h.name (At next) → RowsRead s next h.last d k d' e n
-        → ListIs s h d d' c (On n e) × Room s (On n e)
-    list-yes next e n room l r =
-        let o : Room s (On at k) = rw q at room in
-        let len1 : length s - at ≡ length h.name + length (10 ∷ drop next s) = sym (length-drop at s) ∙ ap length l.0 ∙ length-append h.name (10 ∷ drop next s) in
-        let len2 : length s - next ≡ length (body h.last r.vs) + length (drop n s) = sym (length-drop next s) ∙ ap length r.text ∙ length-append (body h.last r.vs) (drop n s) in (
-          rw q
-              (record {
-                vs = r.vs;
-                whole = r.whole;
-                text = l.0 ∙ ap (λ (x : List ℕ). h.name ++ 10 ∷ x) r.text ∙ sym (apart r.vs (drop n s));
-                inside = r.inside;
-                count = r.count;
-                put = r.put;
-              }),
-          (
-            r.inside,
-            omega (arith, len1, len2, length-drop next s, length-drop n s, body-long h.last r.vs r.whole.fit, o.0, o.1, l.1, r.inside, r.count),
-          ),
-        )
+        r vs rest t (cc),
+    tt,
+  )
+  list_rows next room l (Some n) r =
+      let len : length s - next ≡ length (body h.last r.vs) + length (drop n.at s) = sym (length-drop next s) ∙ ap length r.text ∙ length-append (body h.last r.vs) (drop n.at s) in (
+        record {
+          vs = r.vs;
+          whole = r.whole;
+          text = l.0 ∙ ap (λ (x : List ℕ). h.name ++ 10 ∷ x) r.text ∙ sym (apart r.vs (drop n.at s));
+          inside = r.inside;
+          count = r.count;
+          put = r.put;
+        },
+        (
+          r.inside,
+          omega (arith, len, line_on s c.at h.name next l, length-drop n.at s, body-long h.last r.vs r.whole.fit, room.1, r.inside, r.count),
+        ),
+      )
 
 -- the rows of a list are read in one way only
 cells-once : (last left : ℕ) (vs us x y : List ℕ) → Fit vs → Fit us → cells last left vs ++ 10 ∷ x ≡ cells last left us ++ 10 ∷ y → x ≡ y
@@ -102,59 +93,49 @@ listed-once h vs us x y tv tu q =
     tails : {a b : List ℕ} → 10 ∷ a ≡ 10 ∷ b → a ≡ b
     tails e = cc
 
-module _ (s : List ℕ) (at : ℕ) (h : Head) (hs : List Head) where
-  all-off : ((vs rest : List ℕ) → Whole h.last vs → drop at s ≡ listed h vs ++ rest → ⊥)
-      → (vss : List (List ℕ)) (rest : List ℕ) → Wholes (h ∷ hs) vss → drop at s ≡ texts (h ∷ hs) vss ++ rest → ⊥
+module _ (s : List ℕ) (h : Head) (hs : List Head) (d d₁ d' e e₁ e' : List ℕ) (j : ℕ) (c : Cursor) where
+  pub all_off : ListIs s h d d₁ c None → AllIs s (h ∷ hs) d d' e e' j c None
   unfolding texts
-  all-off l vss rest (rows.Wholes.more {vs = vs} {vss = us} t ts) e =
-      l vs (texts hs us ++ rest) t (e ∙ append_assoc (listed h vs) (texts hs us) rest)
+  all_off l vss rest (rows.Wholes.more {vs = vs} {vss = us} t ts) q =
+      l vs (texts hs us ++ rest) t (q ∙ append_assoc (listed h vs) (texts hs us) rest)
 
-  all-late : (at₁ : ℕ) (ws : List ℕ) → Whole h.last ws → drop at s ≡ listed h ws ++ drop at₁ s
-      → ((vss : List (List ℕ)) (rest : List ℕ) → Wholes hs vss → drop at₁ s ≡ texts hs vss ++ rest → ⊥)
-      → (vss : List (List ℕ)) (rest : List ℕ) → Wholes (h ∷ hs) vss → drop at s ≡ texts (h ∷ hs) vss ++ rest → ⊥
+  all-late : (c₁ : Cursor) → ListIs s h d d₁ c (Some c₁) → AllIs s hs d₁ d' e₁ e' (suc j) c₁ None → AllIs s (h ∷ hs) d d' e e' j c None
   unfolding texts
-  all-late at₁ ws tw w a vss rest (rows.Wholes.more {vs = vs} {vss = us} t ts) e =
+  all-late c₁ l a vss rest (rows.Wholes.more {vs = vs} {vss = us} t ts) q =
       a us rest ts
-      (listed-once h ws vs (drop at₁ s) (texts hs us ++ rest) tw t (sym w ∙ e ∙ append_assoc (listed h vs) (texts hs us) rest))
+      (listed-once h l.vs vs (drop c₁.at s) (texts hs us ++ rest) l.whole t (sym l.text ∙ q ∙ append_assoc (listed h vs) (texts hs us) rest))
 
-all_end : (s : List ℕ) (d e : List ℕ) (j : ℕ) (c : Cursor) → Room s c → AllIs s [] d d e e j c c
-unfolding texts flatten stops
-all_end s d e j Off r = tt
-all_end s d e j (On at k) r =
-    record { vss = []; wholes = rows.Wholes.none; text = refl; inside = r.0; count = omega arith; put = refl; noted = refl }
+  all_more : (c₁ : Cursor) (r : Option Cursor) → ListIs s h d d₁ c (Some c₁) → e₁ ≡ set e j c₁.count → AllIs s hs d₁ d' e₁ e' (suc j) c₁ r
+      → AllIs s (h ∷ hs) d d' e e' j c r
+  unfolding texts flatten stops
+  all_more c₁ None l n a = all-late c₁ l a
+  all_more c₁ (Some r) l n a =
+      record {
+        vss = l.vs ∷ a.vss;
+        wholes = rows.Wholes.more l.whole a.wholes;
+        text = l.text ∙ ap (λ (x : List ℕ). listed h l.vs ++ x) a.text ∙ sym (append_assoc (listed h l.vs) (texts hs a.vss) (drop r.at s));
+        inside = a.inside;
+        count = omega (arith, l.count, a.count, length-append l.vs (flatten a.vss));
+        put =
+            a.put
+            ∙ ap₂ (λ (x : List ℕ) (i : ℕ). sets x i (flatten a.vss)) l.put l.count
+            ∙ sets-append d c.count l.vs (flatten a.vss);
+        noted =
+            a.noted
+            ∙ ap (λ (x : List ℕ). sets x (suc j) (stops c₁.count a.vss)) n
+            ∙ ap (λ (m : ℕ). sets (set e j m) (suc j) (stops m a.vss)) l.count;
+      }
 
-all_more : (s : List ℕ) (h : Head) (hs : List Head) (d d₁ d' e e₁ e' : List ℕ) (j : ℕ) (c c₁ r : Cursor)
-    → ListIs s h d d₁ c c₁ → Noted e j e₁ c₁ → AllIs s hs d₁ d' e₁ e' (suc j) c₁ r → AllIs s (h ∷ hs) d d' e e' j c r
-unfolding texts flatten stops
-all_more s h hs d d₁ d' e e₁ e' j Off Off Off l n a = tt
-all_more s h hs d d₁ d' e e₁ e' j Off Off (On at k) l n a = a
-all_more s h hs d d₁ d' e e₁ e' j Off (On at₁ k₁) r l n a = absurd l
-all_more s h hs d d₁ d' e e₁ e' j (On at k) Off Off l n a = all-off s at h hs l
-all_more s h hs d d₁ d' e e₁ e' j (On at k) Off (On at' k') l n a = absurd a
-all_more s h hs d d₁ d' e e₁ e' j (On at k) (On at₁ k₁) Off l n a = all-late s at h hs at₁ l.vs l.whole l.text a
-all_more s h hs d d₁ d' e e₁ e' j (On at k) (On at₁ k₁) (On at' k') l n a =
-    record {
-      vss = l.vs ∷ a.vss;
-      wholes = rows.Wholes.more l.whole a.wholes;
-      text = l.text ∙ ap (λ (x : List ℕ). listed h l.vs ++ x) a.text ∙ sym (append_assoc (listed h l.vs) (texts hs a.vss) (drop at' s));
-      inside = a.inside;
-      count = omega (arith, l.count, a.count, length-append l.vs (flatten a.vss));
-      put =
-          a.put
-          ∙ ap₂ (λ (x : List ℕ) (i : ℕ). sets x i (flatten a.vss)) l.put l.count
-          ∙ sets-append d k l.vs (flatten a.vss);
-      noted =
-          a.noted
-          ∙ ap (λ (x : List ℕ). sets x (suc j) (stops k₁ a.vss)) n
-          ∙ ap (λ (m : ℕ). sets (set e j m) (suc j) (stops m a.vss)) l.count;
-    }
+  -- a list and those behind it
+  pub steps-more : (c₁ : Cursor) (r : Option Cursor) → ListIs s h d d₁ c (Some c₁) → e₁ ≡ set e j c₁.count → Steps s hs d₁ d' e₁ e' (suc j) c₁ r
+      → Steps s (h ∷ hs) d d' e e' j c r
+  steps-more c₁ r l n b = record { all = all_more c₁ r l n b.all; room = b.room }
 
 -- no list more
-pub steps-none : (s d e : List ℕ) (j : ℕ) (c : Cursor) → Room s c → Steps s [] d d e e j c c
-steps-none s d e j c r = record { all = all_end s d e j c r; room = r }
-
--- a list and those behind it
-pub steps-more : {s : List ℕ} {h : Head} {hs : List Head} {d d₁ d' e e₁ e' : List ℕ} {j : ℕ} {c c₁ r : Cursor}
-    → Step s h d d₁ e e₁ j c c₁ → Steps s hs d₁ d' e₁ e' (suc j) c₁ r → Steps s (h ∷ hs) d d' e e' j c r
-steps-more {s} {h} {hs} {d} {d₁} {d'} {e} {e₁} {e'} {j} {c} {c₁} {r} a b =
-    record { all = all_more s h hs d d₁ d' e e₁ e' j c c₁ r a.list a.noted b.all; room = b.room }
+pub steps-none : (s d e : List ℕ) (j : ℕ) (c : Cursor) → Room s c → Steps s [] d d e e j c (Some c)
+unfolding texts flatten stops
+steps-none s d e j c r =
+    record {
+      all = record { vss = []; wholes = rows.Wholes.none; text = refl; inside = r.0; count = omega arith; put = refl; noted = refl };
+      room = r;
+    }

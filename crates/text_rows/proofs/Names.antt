@@ -7,7 +7,7 @@ use native.Mathlib.Numerals.{add-one}
 use mathlib.Core.Path.{◌≡◌, refl, sym, ap, ap₂, ◌∙◌}
 use mathlib.Core.Bool.{◌&&◌}
 use mathlib.Core.List.{List, [], ◌∷◌, ◌++◌, append_assoc}
-use lib.ListN.{length, get_or, take, drop, length-append}
+use lib.ListN.{length, get_or, set, take, drop, length-append}
 use lib.Seq.{drop-cons, take_at, drop_at}
 use lib.Dec.{ltb}
 use borrow.Author.Tests.{ltb-true}
@@ -15,10 +15,10 @@ use Rattle.lists.proofs.Laws.{and_parts}
 use Rattle.lists.proofs.Tests.{every-at}
 use Rattle.form.specs.Form.{names}
 use Rattle.text_rows.specs.inner.Cells.{Head, head, heads_of, widths, heads, name_lines, starts_of}
-use Rattle.text_rows.specs.inner.Steps.{Room, Step, Steps}
+use Rattle.std.specs.Prelude.{Option, Some, None}
+use Rattle.text_rows.specs.inner.Steps.{Room, ListIs, start_of_text, Steps}
 use Rattle.text_rows.specs.declared.inner.Cursor.{Cursor}
-use Rattle.text_rows.specs.declared.inner.Cursor.TheVariants.{On}
-use Rattle.text_rows.proofs.Listed.{steps-none, steps-more}
+use Rattle.text_rows.proofs.Listed.{all_off, steps-none, steps-more}
 
 -- every list has a column, and eight at most
 pub narrow : (l : ℕ) → l < 15 → (0 < get_or widths l 0) × (get_or widths l 0 < 9)
@@ -78,24 +78,36 @@ last-at (n ∷ ns) (w ∷ ws) (suc l) h = last-at ns ws l (omega arith)
 pub record Begun (s d₀ e₀ d e : List ℕ) (c : Cursor) (l : ℕ) : Type 0 where
   pub below : l ≤ 15
   pub room : Room s c
-  pub rest : (d' e' : List ℕ) (r : Cursor) → Steps s (drop l heads) d d' e e' l c r → Steps s heads d₀ d' e₀ e' 0 (On 0 0) r
+  pub rest : (d' e' : List ℕ) (r : Option Cursor) → Steps s (drop l heads) d d' e e' l c r → Steps s heads d₀ d' e₀ e' 0 start_of_text r
 
 module _ (s d₀ e₀ : List ℕ) where
-  pub begun : length s ≤ 65536 → Begun s d₀ e₀ d₀ e₀ (On 0 0) 0
+  pub begun : length s ≤ 65536 → Begun s d₀ e₀ d₀ e₀ start_of_text 0
   begun h = record { below = omega arith; room = (omega arith, omega arith); rest = λ d' e' r x. x }
 
   module _ (d e : List ℕ) (c : Cursor) (l : ℕ) (g : Begun s d₀ e₀ d e c l) where
-    pub begun_more : (name : List ℕ) (w : ℕ) (d₁ e₁ : List ℕ) (c₁ : Cursor) → l < 15 → name ≡ (nth heads l).name → w ≡ get_or widths l 0
-        → Step s (head name (w - 1)) d d₁ e e₁ l c c₁ → Begun s d₀ e₀ d₁ e₁ c₁ (l + 1)
-    begun_more name w d₁ e₁ c₁ h n v step =
-        let q : head name (w - 1) ≡ nth heads l = ap₂ head n (ap (λ (k : ℕ). k - 1) v ∙ sym (last-at names widths l h)) in
-        record {
-          below = omega arith;
-          room = step.room;
-          rest = λ d' e' r x. g.rest d' e' r (rw (drop-cons heads l (head [] 0) h, ← q) (steps-more step (rw add-one at x)));
-        }
+    module _ (name : List ℕ) (w : ℕ) (d₁ : List ℕ) (h : l < 15) (n : name ≡ (nth heads l).name) (v : w ≡ get_or widths l 0) where
+      same : head name (w - 1) ≡ nth heads l
+      same = ap₂ head n (ap (λ (k : ℕ). k - 1) v ∙ sym (last-at names widths l h))
 
-    pub begun_all : 15 ≤ l → Steps s heads d₀ d e₀ e 0 (On 0 0) c
+      pub begun_more : (c₁ : Cursor) → ListIs s (head name (w - 1)) d d₁ c (Some c₁) → Room s c₁ → Begun s d₀ e₀ d₁ (set e l c₁.count) c₁ (l + 1)
+      begun_more c₁ i room =
+          record {
+            below = omega arith;
+            room = room;
+            rest = λ d' e' r x.
+                g.rest d' e' r
+                (rw (drop-cons heads l (head [] 0) h, ← same)
+                (steps-more s (head name (w - 1)) (drop (suc l) heads) d d₁ d' e (set e l c₁.count) e' l c c₁ r i refl (rw add-one at x)));
+          }
+
+      pub begun_off : ListIs s (head name (w - 1)) d d₁ c None
+          → Steps s heads d₀ d₁ e₀ (set e l (get_or e l 0)) 0 start_of_text None
+      begun_off i =
+          g.rest d₁ (set e l (get_or e l 0)) None
+          (rw (drop-cons heads l (head [] 0) h, ← same)
+          (record { all = all_off s (head name (w - 1)) (drop (suc l) heads) d d₁ d₁ e e (set e l (get_or e l 0)) l c i; room = tt }))
+
+    pub begun_all : 15 ≤ l → Steps s heads d₀ d e₀ e 0 start_of_text (Some c)
     begun_all h =
         let q : l ≡ 15 = omega (arith, g.below) in
-        g.rest d e c (rw q (steps-none s d e 15 c g.room))
+        g.rest d e (Some c) (rw q (steps-none s d e 15 c g.room))

@@ -4,15 +4,14 @@ use native.Mathlib.Omega.{arith}
 use native.Mathlib.Numerals.{add-one}
 use mathlib.Core.Path.{◌≡◌, refl, sym, ap, ap₂, ◌∙◌}
 use mathlib.Core.List.{List, ◌∷◌}
-use lib.ListN.{length, drop, get_or, drop_of_length-le}
-use lib.Seq.{drop-cons}
+use mathlib.Core.Logic.{◌⊎◌, ⊎_elim}
+use lib.ListN.{length, take, drop, get_or, drop_of_length-le, length-drop}
+use lib.Seq.{drop-length}
+use lib.Seq.{drop-cons, get_or-drop}
+use Rattle.std.proofs.lemmas.List.{take_rest}
 use borrow.Author.Tests.{lt-ltb, le-ltb, le-leb, lt-leb, eq-eqb, ne_eqb}
 use Rattle.tables.specs.Project.{missing}
 use Rattle.form.specs.Parse.{ok, bad, further, front}
-
-pub at-end : (s : List ℕ) (v i : ℕ) → length s ≤ i → further v (drop i s) ≡ ok v (drop i s)
-unfolding further
-at-end s v i h = rw (drop_of_length-le s h) refl
 
 further-in : (v d : ℕ) (r : List ℕ) → 48 ≤ d → d ≤ 57 → v * 10 + (d - 48) < missing → further v (d ∷ r) ≡ further (v * 10 + (d - 48)) r
 unfolding further
@@ -22,19 +21,22 @@ module _ (s : List ℕ) (i d : ℕ) (h : i < length s) (e : d ≡ get_or s i 0) 
   pub here : drop i s ≡ d ∷ drop (i + 1) s
   here = drop-cons s i 0 h ∙ ap₂ (λ (x : ℕ) (n : ℕ). x ∷ drop n s) (sym e) (sym (add-one i))
 
-  pub at_low : (v : ℕ) → d < 48 → further v (drop i s) ≡ ok v (drop i s)
+  at_low : (v : ℕ) → d < 48 → further v (drop i s) ≡ ok v (drop i s)
   unfolding further
   at_low v l = rw here (simp (lt-ltb d 48 l))
 
-  pub at_high : (v : ℕ) → 48 ≤ d → 57 < d → further v (drop i s) ≡ ok v (drop i s)
+  at_high : (v : ℕ) → 48 ≤ d → 57 < d → further v (drop i s) ≡ ok v (drop i s)
   unfolding further
   at_high v l g = rw here (simp (le-ltb d 48 l, lt-ltb 57 d g))
 
-  pub at-big : (v : ℕ) → 48 ≤ d → d ≤ 57 → missing ≤ v * 10 + (d - 48) → further v (drop i s) ≡ bad
+  at-none : (v : ℕ) → d < 48 ⊎ (48 ≤ d × 57 < d) → further v (drop i s) ≡ ok v (drop i s)
+  at-none v = ⊎_elim (at_low v) (λ g. at_high v g.0 g.1)
+
+  at-big : (v : ℕ) → 48 ≤ d → d ≤ 57 → missing ≤ v * 10 + (d - 48) → further v (drop i s) ≡ bad
   unfolding further
   at-big v l g b = rw here (simp (le-ltb d 48 l, le-ltb 57 d g, le-leb missing (v * 10 + (d - 48)) b))
 
-  pub at_more : (v : ℕ) → 48 ≤ d → d ≤ 57 → v * 10 + (d - 48) < missing → further v (drop i s) ≡ further (v * 10 + (d - 48)) (drop (i + 1) s)
+  at_more : (v : ℕ) → 48 ≤ d → d ≤ 57 → v * 10 + (d - 48) < missing → further v (drop i s) ≡ further (v * 10 + (d - 48)) (drop (i + 1) s)
   at_more v l g b = ap (further v) here ∙ further-in v d (drop (i + 1) s) l g b
 
   pub front-dash : d ≡ 45 → front (drop i s) ≡ ok missing (drop (i + 1) s)
@@ -60,3 +62,33 @@ module _ (s : List ℕ) (i d : ℕ) (h : i < length s) (e : d ≡ get_or s i 0) 
 pub front-end : (s : List ℕ) (i : ℕ) → length s ≤ i → front (drop i s) ≡ bad
 unfolding front
 front-end s i h = rw (drop_of_length-le s h) refl
+
+-- the same at the k-th byte of the part from `from` on
+module _ (s : List ℕ) (from k v : ℕ) where
+  abbrev pub part : List ℕ
+  part = take (length s - from) (drop from s)
+
+  pub part-over : length part ≤ k → further v (drop (from + k) s) ≡ ok v (drop (length s) s)
+  unfolding further
+  part-over h =
+      let l : length s ≤ from + k = omega (arith, h, ap length (take_rest s from), length-drop from s) in
+      rw (drop_of_length-le s l, drop-length s) refl
+
+  module _ (h : k < length part) where
+    pub inside : from + k < length s
+    inside = omega (arith, h, ap length (take_rest s from), length-drop from s)
+
+    byte : get_or part k 0 ≡ get_or s (from + k) 0
+    byte = ap (λ (x : List ℕ). get_or x k 0) (take_rest s from) ∙ get_or-drop from s k 0
+
+    pub part-none : get_or part k 0 < 48 ⊎ (48 ≤ get_or part k 0 × 57 < get_or part k 0) → further v (drop (from + k) s) ≡ ok v (drop (from + k) s)
+    part-none = at-none s (from + k) (get_or part k 0) inside byte v
+
+    pub part-big : 48 ≤ get_or part k 0 → get_or part k 0 ≤ 57 → missing ≤ v * 10 + (get_or part k 0 - 48) → further v (drop (from + k) s) ≡ bad
+    part-big = at-big s (from + k) (get_or part k 0) inside byte v
+
+    pub part-more : 48 ≤ get_or part k 0 → get_or part k 0 ≤ 57 → v * 10 + (get_or part k 0 - 48) < missing
+        → further v (drop (from + k) s) ≡ further (v * 10 + (get_or part k 0 - 48)) (drop (from + (k + 1)) s)
+    part-more l g b =
+        at_more s (from + k) (get_or part k 0) inside byte v l g b
+        ∙ ap (λ (n : ℕ). further (v * 10 + (get_or part k 0 - 48)) (drop n s)) {x = from + k + 1} {y = from + (k + 1)} (omega arith)

@@ -13,8 +13,7 @@ use Rattle.text_rows.specs.inner.Cells.{ender, following, cells, ends, body}
 use Rattle.form.specs.Parse.{Fit, none, more}
 use Rattle.form.proofs.Fields.{split}
 use Rattle.text_rows.specs.inner.Steps.{CellIs, RowsRead, RowsIs}
-use Rattle.text_rows.specs.declared.fields.Field.TheVariants.{Value, Broken}
-use Rattle.text_rows.specs.declared.inner.Rows.TheVariants.{Bad}
+use Rattle.std.specs.Prelude.{Some, None}
 use Rattle.text_rows.proofs.Positions.{here}
 use Rattle.form.proofs.Rows.{field-not-end, field-once}
 use Rattle.form.proofs.Runs.{sets-append}
@@ -70,7 +69,7 @@ module _ (s : List ℕ) (at last : ℕ) (d : List ℕ) (from : ℕ) where
         put = refl;
       }
 
-  pub step : (d' : List ℕ) (i k left v next : ℕ) → Going s at last d from d' i k left → CellIs s i (ender left) (Value v next)
+  pub step : (d' : List ℕ) (i k left v next : ℕ) → Going s at last d from d' i k left → CellIs s i (ender left) (Some (v, next))
       → Going s at last d from (set d' k v) next (k + 1) (following last left)
   step d' i k left v next g c =
       let n : length (g.vs ++ v ∷ []) ≡ length g.vs + 1 = length-append g.vs (v ∷ []) in
@@ -130,7 +129,7 @@ stuck last left (v ∷ vs) (u ∷ us) x y (more hv fv) (more hu fu) w q nf ne =
     nf ne
 
 module _ (s : List ℕ) (at last : ℕ) (d : List ℕ) (from : ℕ) (d' : List ℕ) (i k left : ℕ) (g : Going s at last d from d' i k left) where
-  pub refuse : CellIs s i (ender left) Broken → (left ≡ last → (rest : List ℕ) → drop i s ≡ 10 ∷ rest → ⊥) → RowsIs s at last d from d' Bad
+  pub refuse : CellIs s i (ender left) None → (left ≡ last → (rest : List ℕ) → drop i s ≡ 10 ∷ rest → ⊥) → RowsIs s at last d from d' None
   unfolding body
   refuse nf ne us rest t q =
       stuck last last g.vs us (drop i s) rest g.fit t.fit t.whole
@@ -139,11 +138,11 @@ module _ (s : List ℕ) (at last : ℕ) (d : List ℕ) (from : ℕ) (d' : List �
       (λ l r p. ne (g.now-left ∙ l) r p)
 
   -- in the middle of a row
-  pub refuse-row : CellIs s i (ender left) Broken → (left ≡ last → ⊥) → RowsIs s at last d from d' Bad
+  pub refuse-row : CellIs s i (ender left) None → (left ≡ last → ⊥) → RowsIs s at last d from d' None
   refuse-row nf n = refuse nf (λ l r p. n l)
 
   -- another byte than the empty line's
-  pub refuse-byte : CellIs s i (ender left) Broken → i < length s → (get_or s i 0 ≡ 10 → ⊥) → RowsIs s at last d from d' Bad
+  pub refuse-byte : CellIs s i (ender left) None → i < length s → (get_or s i 0 ≡ 10 → ⊥) → RowsIs s at last d from d' None
   refuse-byte nf h n =
       refuse nf
       (λ l r p.
@@ -151,7 +150,7 @@ module _ (s : List ℕ) (at last : ℕ) (d : List ℕ) (from : ℕ) (d' : List �
       let b : get_or s i 0 ≡ 10 = cc in n b)
 
   -- at the end of the text
-  pub refuse-end : length s ≤ i → RowsIs s at last d from d' Bad
+  pub refuse-end : length s ≤ i → RowsIs s at last d from d' None
   refuse-end h =
       let q : drop i s ≡ [] = drop_of_length-le s h in
       refuse

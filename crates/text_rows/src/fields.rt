@@ -6,83 +6,46 @@ ghost use Rattle.text_rows.specs.inner.Steps.{Told, CellIs};
 
 use tables::ModuleIdx;
 
-#[derive(Clone, Copy)]
-pub enum Field {
-    // The value, and the position behind what was read.
-    Value(u32, usize),
-    Broken,
-}
-
-fn wide(x: u8) -> u64
-    ensures { (result ≡ x) × (result < 256) }
-{
-    x as u64
-}
-
-// Reads the digits from `from` on, behind a number that is `first` so far.
-fn further_digits(s: &[u8], from: usize, first: u64) -> Field
+// Reads the digits from `from` on, behind a number that is `first` so far: the value, and the position behind it.
+fn further_digits(s: &[u8], from: usize, first: u64) -> Option<(u32, usize)>
     requires { (from ≤ length s.now) × (0 < first) × (first < missing) }
     ensures { Told s.now (further first (drop from s.now)) result }
 {
     let mut v = first;
-    let mut i = from;
-    while i < s.len() {
-        let d = wide(s[i]);
-        if d < 48 {
-            return Field::Value(v as u32, i);
-        }
-        if 57 < d {
-            return Field::Value(v as u32, i);
+    for (k, b) in s[from..].iter().enumerate() {
+        let d = *b as u64;
+        if d < 48 || 57 < d {
+            return Some((v as u32, from + k));
         }
         let n = v * 10 + (d - 48);
         if ModuleIdx::MISSING as u64 <= n {
-            return Field::Broken;
+            return None;
         }
         v = n;
-        i += 1;
     }
-    Field::Value(v as u32, i)
+    Some((v as u32, s.len()))
 }
 
 // Reads the field at `at`: a number, or `-`.
-fn read_field(s: &[u8], at: usize) -> Field
+fn read_field(s: &[u8], at: usize) -> Option<(u32, usize)>
     ensures { Told s.now (front (drop at s.now)) result }
 {
-    if s.len() <= at {
-        return Field::Broken;
+    match *s.get(at)? {
+        b'-' => Some((ModuleIdx::MISSING, at + 1)),
+        b'0' => Some((0, at + 1)),
+        b @ b'1'..=b'9' => further_digits(s, at + 1, b as u64 - 48),
+        _ => None,
     }
-    let b = wide(s[at]);
-    if b == 45 {
-        return Field::Value(ModuleIdx::MISSING, at + 1);
-    }
-    if b == 48 {
-        return Field::Value(0, at + 1);
-    }
-    if b < 49 {
-        return Field::Broken;
-    }
-    if 57 < b {
-        return Field::Broken;
-    }
-    further_digits(s, at + 1, b - 48)
 }
 
-// Reads the field at `at` and the byte behind it, which has to be `end`.
-pub fn read_cell(s: &[u8], at: usize, end: u8) -> Field
+// Reads the field at `at` and the byte behind it, which has to be `end`: the value, and the position behind that byte.
+pub fn read_cell(s: &[u8], at: usize, end: u8) -> Option<(u32, usize)>
     requires { end < 48 }
     ensures { CellIs s.now at end result }
 {
-    let f = read_field(s, at);
-    match f {
-        Field::Value(v, i) => {
-            if s.len() <= i {
-                return Field::Broken;
-            }
-            if s[i] != end {
-                return Field::Broken;
-            }
-            Field::Value(v, i + 1)
-        }
-        Field::Broken => Field::Broken,
+    let (v, i) = read_field(s, at)?;
+    if *s.get(i)? != end {
+        return None;
     }
+    Some((v, i + 1))
 }

@@ -24,19 +24,18 @@ fn way_of<'a>(normal: &'a [u32], included: &'a [u32], wrap: &'a [u32], m: usize)
 }
 
 // In which way each module executes, a place a module.
+#[tactic(auto, using(crate::proofs::Columns::map_up_to_written))]
 pub fn write_ways<'a>(normal: &'a [u32], included: &'a [u32], wrap: &'a [u32], ways: &mut [u32])
     requires { (length normal.now ≡ length ways.old) × (length included.now ≡ length ways.old) × (length wrap.now ≡ length ways.old) }
     ensures { ways.new ≡ map (way_of normal.now included.now wrap.now) (up_to (length ways.old)) }
 {
-    let mut m = 0;
-    while m < ways.len() {
-        ways[m] = way_of(normal, included, wrap, m);
-        m += 1;
+    for (m, way) in ways.iter_mut().enumerate() {
+        *way = way_of(normal, included, wrap, m);
     }
 }
 
 // Which module a record row triggers: its target, if its kind is 0 or 1 and the target executes and its wrap is not 0. Else the mark.
-#[tactic(auto, using(crate::proofs::Columns::trigger_kind))]
+#[tactic(auto, unfolding(tables::specs::Readings::resolved))]
 fn trigger_of<'a>(
     normal: &'a [u32],
     included: &'a [u32],
@@ -64,6 +63,7 @@ fn trigger_of<'a>(
 }
 
 // Which module each record row triggers, or the mark, a place a row.
+#[tactic(auto, using(crate::proofs::Columns::map_up_to_written))]
 pub fn write_triggers<'a>(
     normal: &'a [u32],
     included: &'a [u32],
@@ -77,9 +77,7 @@ pub fn write_triggers<'a>(
     requires modules { (length included.now ≡ length normal.now) × (length wrap.now ≡ length normal.now) }
     ensures { triggers.new ≡ map (row_trigger normal.now included.now wrap.now record_kind.now record_target.now) (up_to (length triggers.old)) }
 {
-    let mut row = 0;
-    while row < triggers.len() {
-        triggers[row] = trigger_of(normal, included, wrap, record_kind, record_target, row);
-        row += 1;
+    for (row, trigger) in triggers.iter_mut().enumerate() {
+        *trigger = trigger_of(normal, included, wrap, record_kind, record_target, row);
     }
 }

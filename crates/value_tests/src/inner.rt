@@ -1,13 +1,14 @@
 // For crates above. Test 2: every value is inside its column.
 ghost use Rattle.std.specs.Prelude.{◌≡◌, ◌+◌, ◌<◌, ◌&&◌};
-ghost use Rattle.table.specs.Table.{column_at, table, with_records};
+ghost use Rattle.table.specs.Table.{column_at};
+ghost use Rattle.table.specs.Lending.{written};
 ghost use Rattle.tables.specs.Refusal.{below, below_or_missing, settings_in, modules_in, pair_in, entries_in, code_in, symbols_in, chunks_in};
 
 use column_tests::inner::{all_below, all_below_or_missing};
 use table::{
     CHAIN_SYMBOL, CHUNK, DEPENDED_REFERENCE, DEPENDENCY_MODULE, ENTRY, ENTRY_CHUNK, EXPORTS,
     IMPORT_CHUNK, INCLUDED, MEMBER_CHUNK, NORMAL, ORDER, OWNER, READS, REFERENCE_STATEMENT, SEED,
-    SENSITIVE, STATEMENT_MODULE, USE_STATEMENT, WRAP, column, rows,
+    SENSITIVE, STATEMENT_MODULE, Table, USE_STATEMENT, WRAP,
 };
 use tables::ModuleIdx;
 
@@ -69,33 +70,21 @@ fn entries_in<'a>(entry: &'a [u32], entry_chunk: &'a [u32], modules: usize, chun
 }
 
 // A list of two columns or of three, from column k on.
-fn pair_at<'a>(bounds: &'a [u32], columns: &'a [u32], k: usize, m: usize, n: usize) -> bool
+fn pair_at(table: &Table, k: usize, m: usize, n: usize) -> bool
     requires { k < 64 }
-    ensures { result ≡ pair_in m n (column_at bounds.now columns.now k) (column_at bounds.now columns.now (k + 1)) }
+    ensures { result ≡ pair_in m n (column_at table.now.bounds.now table.now.columns.now k) (column_at table.now.bounds.now table.now.columns.now (k + 1)) }
 {
-    pair_in(
-        column(bounds, columns, k),
-        column(bounds, columns, k + 1),
-        m,
-        n,
-    )
+    pair_in(table.column(k), table.column(k + 1), m, n)
 }
 
-fn three_at<'a>(
-    bounds: &'a [u32],
-    columns: &'a [u32],
-    k: usize,
-    l: usize,
-    m: usize,
-    n: usize,
-) -> bool
+fn three_at(table: &Table, k: usize, l: usize, m: usize, n: usize) -> bool
     requires { k < 64 }
-    ensures { result ≡ (below l (column_at bounds.now columns.now k) && (below m (column_at bounds.now columns.now (k + 1)) && below_or_missing n (column_at bounds.now columns.now (k + 2)))) }
+    ensures { result ≡ (below l (column_at table.now.bounds.now table.now.columns.now k) && (below m (column_at table.now.bounds.now table.now.columns.now (k + 1)) && below_or_missing n (column_at table.now.bounds.now table.now.columns.now (k + 2)))) }
 {
     three_in(
-        column(bounds, columns, k),
-        column(bounds, columns, k + 1),
-        column(bounds, columns, k + 2),
+        table.column(k),
+        table.column(k + 1),
+        table.column(k + 2),
         l,
         m,
         n,
@@ -103,73 +92,64 @@ fn three_at<'a>(
 }
 
 // Settings, modules, records, dependencies and statements.
-pub fn code_in<'a>(
-    runtime: u32,
-    dynamic: u32,
-    bounds: &'a [u32],
-    columns: &'a [u32],
-    importers: &'a [u32],
-    kinds: &'a [u32],
-    targets: &'a [u32],
-) -> bool
-    ensures { result ≡ code_in (with_records (table runtime dynamic bounds.now columns.now) importers.now kinds.now targets.now) }
+pub fn code_in(table: &Table) -> bool
+    ensures { result ≡ code_in (written table.now) }
 {
-    let modules = rows(bounds, columns, NORMAL);
-    let chunks = rows(bounds, columns, ORDER);
-    settings_in(modules, runtime, dynamic)
+    let modules = table.rows(NORMAL);
+    let chunks = table.rows(ORDER);
+    settings_in(modules, table.runtime, table.dynamic)
         & modules_in(
-            column(bounds, columns, NORMAL),
-            column(bounds, columns, INCLUDED),
-            column(bounds, columns, SENSITIVE),
-            column(bounds, columns, READS),
-            column(bounds, columns, EXPORTS),
-            column(bounds, columns, WRAP),
-            column(bounds, columns, CHUNK),
+            table.column(NORMAL),
+            table.column(INCLUDED),
+            table.column(SENSITIVE),
+            table.column(READS),
+            table.column(EXPORTS),
+            table.column(WRAP),
+            table.column(CHUNK),
             chunks,
         )
-        & three_in(importers, kinds, targets, modules, 4, modules)
-        & pair_at(bounds, columns, DEPENDENCY_MODULE, modules, modules)
-        & pair_at(bounds, columns, STATEMENT_MODULE, modules, 2)
+        & three_in(
+            table.importers,
+            table.kinds,
+            table.targets,
+            modules,
+            4,
+            modules,
+        )
+        & pair_at(table, DEPENDENCY_MODULE, modules, modules)
+        & pair_at(table, STATEMENT_MODULE, modules, 2)
 }
 
 // Uses, symbols, export chains, references and depended rows.
-pub fn symbols_in<'a>(
-    runtime: u32,
-    dynamic: u32,
-    bounds: &'a [u32],
-    columns: &'a [u32],
-    importers: &'a [u32],
-    kinds: &'a [u32],
-    targets: &'a [u32],
-) -> bool
-    ensures { result ≡ symbols_in (with_records (table runtime dynamic bounds.now columns.now) importers.now kinds.now targets.now) }
+pub fn symbols_in(table: &Table) -> bool
+    ensures { result ≡ symbols_in (written table.now) }
 {
-    let modules = rows(bounds, columns, NORMAL);
-    let records = importers.len();
-    let statements = rows(bounds, columns, STATEMENT_MODULE);
-    let symbols = rows(bounds, columns, OWNER);
-    let references = rows(bounds, columns, REFERENCE_STATEMENT);
-    pair_at(bounds, columns, USE_STATEMENT, statements, records)
-        & pair_at(bounds, columns, OWNER, modules, symbols)
-        & pair_at(bounds, columns, CHAIN_SYMBOL, symbols, symbols)
-        & three_at(bounds, columns, REFERENCE_STATEMENT, statements, 3, symbols)
-        & pair_at(bounds, columns, DEPENDED_REFERENCE, references, symbols)
+    let modules = table.rows(NORMAL);
+    let records = table.importers.len();
+    let statements = table.rows(STATEMENT_MODULE);
+    let symbols = table.rows(OWNER);
+    let references = table.rows(REFERENCE_STATEMENT);
+    pair_at(table, USE_STATEMENT, statements, records)
+        & pair_at(table, OWNER, modules, symbols)
+        & pair_at(table, CHAIN_SYMBOL, symbols, symbols)
+        & three_at(table, REFERENCE_STATEMENT, statements, 3, symbols)
+        & pair_at(table, DEPENDED_REFERENCE, references, symbols)
 }
 
 // Chunks, members, imports, entries and seeds.
-pub fn chunks_in<'a>(runtime: u32, dynamic: u32, bounds: &'a [u32], columns: &'a [u32]) -> bool
-    ensures { result ≡ chunks_in (table runtime dynamic bounds.now columns.now) }
+pub fn chunks_in(table: &Table) -> bool
+    ensures { result ≡ chunks_in (written table.now) }
 {
-    let modules = rows(bounds, columns, NORMAL);
-    let chunks = rows(bounds, columns, ORDER);
-    all_below(column(bounds, columns, ORDER), ModuleIdx::MISSING as usize)
-        & pair_at(bounds, columns, MEMBER_CHUNK, chunks, modules)
-        & pair_at(bounds, columns, IMPORT_CHUNK, chunks, chunks)
+    let modules = table.rows(NORMAL);
+    let chunks = table.rows(ORDER);
+    all_below(table.column(ORDER), ModuleIdx::MISSING as usize)
+        & pair_at(table, MEMBER_CHUNK, chunks, modules)
+        & pair_at(table, IMPORT_CHUNK, chunks, chunks)
         & entries_in(
-            column(bounds, columns, ENTRY),
-            column(bounds, columns, ENTRY_CHUNK),
+            table.column(ENTRY),
+            table.column(ENTRY_CHUNK),
             modules,
             chunks,
         )
-        & all_below(column(bounds, columns, SEED), modules)
+        & all_below(table.column(SEED), modules)
 }

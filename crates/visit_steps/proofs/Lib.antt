@@ -1,4 +1,3 @@
--- `Passing`: met places that are passed over. `Leading`: what the rows of a place name. `Filling`: what one more listed module does to the slices.
-pub mod Passing
+-- `Leading`: what the rows of a place name. `Filling`: what one more listed module does to the slices.
 pub mod Leading
 pub mod Filling

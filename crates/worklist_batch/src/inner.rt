@@ -17,8 +17,9 @@ fn any_sensitive(part: &[u32], sensitive: &[u32]) -> bool
     requires { Below (length sensitive.now) part.now }
     ensures { result ≡ false → (i : ℕ) → i < length part.now → has sensitive.now (slice_index part.now i) ≢ true }
 {
-    for i in 0..part.len() {
-        if sensitive[part[i] as usize] != 0 {
+    // tried, the proof of `any` didn't close
+    for &m in part {
+        if sensitive[m as usize] != 0 {
             return true;
         }
     }

@@ -1,6 +1,6 @@
 // For crates above, on tested tables.
-ghost use Rattle.std.specs.Prelude.{◌≡◌, ℕ, ◌≤◌, not, length, slice_index};
-ghost use Rattle.lists.specs.Words.{is_zero, bit, has, marks_of};
+ghost use Rattle.std.specs.Prelude.{◌≡◌, ℕ, ◌≤◌, length, slice_index};
+ghost use Rattle.lists.specs.Words.{has, marks_of};
 ghost use Rattle.tables.specs.Accepted.{Below};
 ghost use Rattle.tables.specs.Refusal.{module_limit};
 ghost use Rattle.request_queue.specs.inner.Growing.{Listed};
@@ -18,8 +18,7 @@ pub fn list_seeds(seeds: &[u32], eligible: &[u32], placed: &mut [u32], list: &mu
     ensures { Seeded seeds.now eligible.now placed.old list.old placed.new list.new result }
 {
     let mut end = 0;
-    for i in 0..seeds.len() {
-        let m = seeds[i];
+    for &m in seeds {
         if eligible[m as usize] == 0 {
             continue;
         }
@@ -28,22 +27,12 @@ pub fn list_seeds(seeds: &[u32], eligible: &[u32], placed: &mut [u32], list: &mu
     end
 }
 
-// 1 for a number that isn't 0.
-fn mark_of(x: u32) -> u32
-    ensures { result ≡ bit (not (is_zero x)) }
-{
-    if x == 0 {
-        return 0;
-    }
-    1
-}
-
 // Makes the places of a list marks.
 pub fn mark_listed(placed: &mut [u32])
     ensures { placed.new ≡ marks_of (has placed.old) (length placed.old) }
 {
-    for m in 0..placed.len() {
-        placed[m] = mark_of(placed[m]);
+    for place in placed.iter_mut() {
+        *place = u32::from(*place != 0);
     }
 }
 
@@ -53,11 +42,10 @@ pub fn write_listed(placed: &[u32], list: &mut [u32])
     requires room { (m : ℕ) → slice_index placed.now m ≤ length list.old }
     ensures { ListWritten placed.now list.old list.new }
 {
-    for m in 0..placed.len() {
-        let end = placed[m] as usize;
+    for (m, &end) in placed.iter().enumerate() {
         if end == 0 {
             continue;
         }
-        list[end - 1] = m as u32;
+        list[end as usize - 1] = m as u32;
     }
 }

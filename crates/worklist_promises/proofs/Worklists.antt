@@ -1,12 +1,12 @@
 -- The statements of specs/Worklists, inhabited.
 -- Assumes nothing.
 use mathlib.Core.Path.{refl, ap, ◌∙◌}
-use Prim.Native.Nat.{ℕ}
 use lib.ListN.{length, take, drop}
 use lib.Seq.{take_at}
 use Rattle.tables.specs.Readings.{modules}
-use Rattle.tables.specs.Answers.{after}
-use Rattle.table.specs.Table.{answer}
+use Rattle.std.specs.Prelude.{Option}
+use Rattle.tables.specs.declared.Refusal.{Refusal}
+use Rattle.tables.specs.Answers.{answer, after}
 use Rattle.takings.specs.Taking.{set_of}
 use Rattle.takings.proofs.Takings.{last}
 use Rattle.takings_from_seeds.proofs.Runs.{run_length}
@@ -29,8 +29,8 @@ pub takings_calls_list_the_plan : TakingsCallsListThePlan
 unfolding TakingsCallsListThePlan WorklistsGiveThePlan
 takings_calls_list_the_plan t seeds list lengths r list' lengths' h z = record {
   count = length h.members;
-  counted = h.answered ∙ ap (λ (v : ℕ). answer v (length h.members)) z;
+  counted = h.answered ∙ ap (λ (v : Option Refusal). answer v (length h.members)) z;
   planned =
-      ap (set_of (modules t.project)) (ap (take (length h.members)) (h.listed ∙ ap (λ (v : ℕ). after v list h.members) z) ∙ take_at h.members (drop (length h.members) list) (length h.members) refl)
+      ap (set_of (modules t.project)) (ap (take (length h.members)) (h.listed ∙ ap (λ (v : Option Refusal). after v list h.members) z) ∙ take_at h.members (drop (length h.members) list) (length h.members) refl)
       ∙ worklists_give_the_plan t.project seeds h.members h.sizes (h.run z);
 }

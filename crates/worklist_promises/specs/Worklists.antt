@@ -1,11 +1,10 @@
 -- What a buyer is told of planning by a worklist, at the terms of `takings_from_seeds`.
 -- Each statement is a type; `proofs/Worklists.antt` inhabits it.
 -- Assumes nothing.
-use Rattle.std.specs.Prelude.{◌≡◌, List, ℕ, ◌<◌, ◌≤◌, length, get_or, take}
+use Rattle.std.specs.Prelude.{◌≡◌, List, ℕ, ◌<◌, ◌≤◌, length, get_or, take, None, Result, Ok}
 use Rattle.tables.specs.Project.{Project}
 use Rattle.tables.specs.Readings.{modules}
-use Rattle.tables.specs.declared.Answer.{Answer}
-use Rattle.tables.specs.declared.Answer.TheVariants.{Counted}
+use Rattle.tables.specs.declared.Refusal.{Refusal}
 use Rattle.table.specs.Table.{Lent}
 use Rattle.chunk_cycles.specs.Cycles.{labels_of}
 use Rattle.wrap_rules.specs.Plan.{orders_of, asked, start}
@@ -31,13 +30,13 @@ unfoldable pub WorklistsGiveThePlan : Type 0
 WorklistsGiveThePlan = (p : Project) (seeds list lengths : List ℕ) → RunOf p seeds list lengths → set_of (modules p) list ≡ plan_of p seeds
 
 -- an accepted call's count, and what its list has below it
-pub record ListedPlan (p : Project) (seeds : List ℕ) (r : Answer) (list' : List ℕ) : Type 0 where
+pub record ListedPlan (p : Project) (seeds : List ℕ) (r : Result ℕ Refusal) (list' : List ℕ) : Type 0 where
   pub count : ℕ
-  pub counted : r ≡ Counted count
+  pub counted : r ≡ Ok count
   pub planned : set_of (modules p) (take count list') ≡ plan_of p seeds
 
 -- so an accepted call lists the plan
 unfoldable pub TakingsCallsListThePlan : Type 0
 TakingsCallsListThePlan =
-    (t : Lent) (seeds list lengths : List ℕ) (r : Answer) (list' lengths' : List ℕ) → TakingsFromSeeds t seeds list lengths r list' lengths'
-    → takings_verdict t seeds (length list) (length lengths) ≡ 0 → ListedPlan t.project seeds r list'
+    (t : Lent) (seeds list lengths : List ℕ) (r : Result ℕ Refusal) (list' lengths' : List ℕ) → TakingsFromSeeds t seeds list lengths r list' lengths'
+    → takings_verdict t seeds (length list) (length lengths) ≡ None → ListedPlan t.project seeds r list'

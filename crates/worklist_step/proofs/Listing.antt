@@ -1,15 +1,15 @@
 -- Listing what places give, row by row.
 -- Assumes nothing.
-use Rattle.std.specs.Prelude.{◌≡◌, ℕ, ◌+◌, ◌<◌, ◌≤◌, true, ◌⊎◌, List, length, get_or}
-use mathlib.Core.Path.{refl, sym, ap, subst, ◌∙◌}
+use Rattle.std.specs.Prelude.{◌≡◌, ℕ, ◌+◌, ◌<◌, true, ◌⊎◌, List, length, get_or}
+use mathlib.Core.Path.{sym, subst, ◌∙◌}
 use mathlib.Core.Logic.{inl, inr, ⊎_elim}
 use native.Mathlib.Omega.{arith}
 use native.Mathlib.Decide.{ℕ_discrete}
 use Rattle.lists.specs.Words.{has}
 use Rattle.tables.specs.Threads.{NextRow}
-use Rattle.request_queue.specs.inner.Growing.{Listed, Grew, Pushed}
+use Rattle.request_queue.specs.inner.Growing.{Listed, Pushed}
 use Rattle.request_queue.proofs.Growing.{grew_none, grew-has, grew-on}
-use Rattle.worklist_step.specs.inner.Step.{Gives, Given, RequestedBelow, AskedBelow}
+use Rattle.worklist_step.specs.inner.Step.{Gives, RequestedBelow, AskedBelow}
 
 module _ (part marks candidates placed list : List ℕ) (count : ℕ) where
   abbrev Below : ℕ → ℕ → Type 0
@@ -21,25 +21,24 @@ module _ (part marks candidates placed list : List ℕ) (count : ℕ) where
   wider : (rows m : ℕ) → Below rows m → Below (rows + 1) m
   wider rows m q = (q.0, omega (arith, q.1), q.2)
 
-  module _ (row : ℕ) (placed' list' : List ℕ) (end : ℕ) (g : RequestedBelow part marks candidates row placed list count placed' list' end) (r : ℕ) (h : Given marks candidates (get_or part row 0) r) where
+  module _ (row : ℕ) (placed' list' : List ℕ) (end : ℕ) (g : RequestedBelow part marks candidates row placed list count placed' list' end) where
     -- a place that gives none
-    pub requested-pass : length candidates ≤ r → ((m : ℕ) → Gives marks candidates (get_or part row 0) m → m < length candidates) → RequestedBelow part marks candidates (row + 1) placed list count placed' list' end
-    requested-pass l few = record { grew = grew-on (wider row) (λ m q. inl q) g.grew (grew_none (λ (m : ℕ). has placed' m ≡ true) g.grew.listed); all = λ i b m q. go i b m q (ℕ_discrete i row) }
+    pub requested-pass : ((m : ℕ) → Gives marks candidates (get_or part row 0) m → ⊥) → RequestedBelow part marks candidates (row + 1) placed list count placed' list' end
+    requested-pass n = record { grew = grew-on (wider row) (λ m q. inl q) g.grew (grew_none (λ (m : ℕ). has placed' m ≡ true) g.grew.listed); all = λ i b m q. go i b m q (ℕ_discrete i row) }
       where
         go : (i : ℕ) → i < row + 1 → (m : ℕ) → Gives marks candidates (get_or part i 0) m → Dec (i ≡ row) → has placed' m ≡ true
-        go i b m q (yes z) =
-            let q' : Gives marks candidates (get_or part row 0) m = subst (λ (j : ℕ). Gives marks candidates (get_or part j 0) m) z q in
-            absurd (omega (arith, l, h.none m q', few m q'))
-        go i b m q (no n) = g.all i (omega arith) m q
+        go i b m q (yes z) = absurd (n m (subst (λ (j : ℕ). Gives marks candidates (get_or part j 0) m) z q))
+        go i b m q (no k) = g.all i (omega arith) m q
 
-    pub requested-put : r < length candidates → (placed'' list'' : List ℕ) (end'' : ℕ) → Pushed r placed' list' end placed'' list'' end'' → RequestedBelow part marks candidates (row + 1) placed list count placed'' list'' end''
-    requested-put l placed'' list'' end'' p = record {
-      grew = grew-on (wider row) (λ m q. inr (row, omega arith, subst (Gives marks candidates (get_or part row 0)) (sym q) (h.some l))) g.grew p.grew;
+    pub requested-put : (r : ℕ) → Gives marks candidates (get_or part row 0) r → ((m : ℕ) → Gives marks candidates (get_or part row 0) m → r ≡ m) → (placed'' list'' : List ℕ) (end'' : ℕ) → Pushed r placed' list' end placed'' list'' end''
+        → RequestedBelow part marks candidates (row + 1) placed list count placed'' list'' end''
+    requested-put r s o placed'' list'' end'' p = record {
+      grew = grew-on (wider row) (λ m q. inr (row, omega arith, subst (Gives marks candidates (get_or part row 0)) (sym q) s)) g.grew p.grew;
       all = λ i b m q. go i b m q (ℕ_discrete i row);
     }
       where
         go : (i : ℕ) → i < row + 1 → (m : ℕ) → Gives marks candidates (get_or part i 0) m → Dec (i ≡ row) → has placed'' m ≡ true
-        go i b m q (yes z) = subst (λ (x : ℕ). has placed'' x ≡ true) (h.none m (subst (λ (j : ℕ). Gives marks candidates (get_or part j 0) m) z q)) p.here
+        go i b m q (yes z) = subst (λ (x : ℕ). has placed'' x ≡ true) (o m (subst (λ (j : ℕ). Gives marks candidates (get_or part j 0) m) z q)) p.here
         go i b m q (no n) = grew-has p.grew m (g.all i (omega arith) m q)
 
 module _ (asked eligible : List ℕ) (at : ℕ) (placed list : List ℕ) (count : ℕ) where

@@ -7,7 +7,6 @@ ghost use Rattle.worklist_step.specs.inner.Step.{nodes, Half, Given, Requested, 
 
 use request_graph::inner::{DEPENDENT, LABEL, LEAD, REQUEST};
 use request_queue::inner::{push, reach};
-use tables::ModuleIdx;
 
 // How many places of the graph are met, and how many modules are listed.
 #[derive(Clone, Copy)]
@@ -22,41 +21,46 @@ fn half(v: u32) -> u32
     ensures { Half v result }
 {
     if v < DEPENDENT {
-        return v - LEAD;
+        v - LEAD
+    } else {
+        v - DEPENDENT
     }
-    v - DEPENDENT
 }
 
-// The module that is to be listed when a place is met, or the mark: that of a request, or the candidate with both halves of rule (iii).
-fn module_of(v: u32, marks: &[u32], candidates: &[u32]) -> u32
+// The module that is to be listed when a place is met: that of a request, or the candidate with both halves of rule (iii).
+fn module_of(v: u32, marks: &[u32], candidates: &[u32]) -> Option<u32>
     requires places { length marks.now ≡ nodes }
     requires few { length candidates.now ≤ module_limit }
     ensures { Given marks.now candidates.now v result }
 {
     if v < REQUEST {
-        return ModuleIdx::MISSING;
+        return None;
     }
     if v < LEAD {
-        return v - REQUEST;
+        let m = v - REQUEST;
+        if candidates.len() <= m as usize {
+            return None;
+        }
+        return Some(m);
     }
     if LABEL <= v {
-        return ModuleIdx::MISSING;
+        return None;
     }
     let m = half(v);
     let at = m as usize;
     if candidates.len() <= at {
-        return ModuleIdx::MISSING;
+        return None;
     }
     if candidates[at] == 0 {
-        return ModuleIdx::MISSING;
+        return None;
     }
     if marks[at + LEAD as usize] == 0 {
-        return ModuleIdx::MISSING;
+        return None;
     }
     if marks[at + DEPENDENT as usize] == 0 {
-        return ModuleIdx::MISSING;
+        return None;
     }
-    m
+    Some(m)
 }
 
 // Lists the modules that are to be listed for the places of a part of the graph's list. How many are listed then.
@@ -75,11 +79,10 @@ fn list_requests(
     ensures { Requested part.now marks.now candidates.now placed.old list.old count placed.new list.new result }
 {
     let mut end = count;
-    for i in 0..part.len() {
-        let m = module_of(part[i], marks, candidates);
-        if candidates.len() <= m as usize {
+    for &v in part {
+        let Some(m) = module_of(v, marks, candidates) else {
             continue;
-        }
+        };
         end = push(placed, list, end, m);
     }
     end

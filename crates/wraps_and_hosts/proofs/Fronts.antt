@@ -1,46 +1,22 @@
 -- A list that is written place by place to the front of a slice, and the wraps with a plan's modules read as 2.
 -- Assumes nothing.
-use Rattle.std.specs.Prelude.{◌≡◌, ℕ, zero, suc, ◌+◌, ◌<◌, ◌≤◌, List, [], ◌∷◌, ◌++◌, map, length, get_or, take, drop, set}
+use Rattle.std.specs.Prelude.{◌≡◌, ℕ, zero, suc, ◌+◌, ◌<◌, List, [], ◌∷◌, ◌++◌, map, length, get_or, take, drop, set}
 use mathlib.Core.Path.{refl, sym, ap, ◌∙◌}
-use mathlib.Core.List.{append-nil}
 use native.Mathlib.Omega.{arith}
-use lib.ListN.{length-set}
-use lib.Seq.{take-length, drop-length, length-take-le}
+use lib.ListN.{length-map}
+use lib.Seq.{ext_get_or, length-take-le}
+use Rattle.std.proofs.lemmas.List.{map-append}
 use Rattle.lists.proofs.Laws.{front-more, take_more}
 use Rattle.tables.proofs.Answering.{not-zero}
 use Rattle.entry_run.specs.Actual.{read_as_two}
 
--- the first i places of a list stand at the front, the rest is as it was
-pub record Fronted (list old : List ℕ) (i : ℕ) (now : List ℕ) : Type 0 where
-  pub within : i ≤ length list
-  pub len : length now ≡ length old
-  pub made : now ≡ take i list ++ drop i old
-
-module _ (list old : List ℕ) where
-  pub fronted-start : Fronted list old 0 old
-  fronted-start = record { within = omega arith; len = refl; made = refl }
-
-  pub fronted-more : (i : ℕ) (now : List ℕ) (x : ℕ) → Fronted list old i now → i < length list → i < length old → x ≡ get_or list i 0 → Fronted list old (i + 1) (set now i x)
-  fronted-more i now x f h k e =
-      record {
-        within = omega arith;
-        len = length-set now i x ∙ f.len;
-        made =
-            ap (λ (t : List ℕ). set t i x) f.made
-            ∙ front-more (take i list) old i x (length-take-le i list (omega arith)) k
-            ∙ ap (λ (y : ℕ). (take i list ++ (y ∷ [])) ++ drop (i + 1) old) e
-            ∙ ap (λ (t : List ℕ). t ++ drop (i + 1) old) (take_more list i h);
-      }
-
-  pub fronted-end : (i : ℕ) (now : List ℕ) → Fronted list old i now → length list ≤ i → now ≡ list ++ drop (length list) old
-  fronted-end i now f h =
-      let n : i ≡ length list = omega (arith, f.within) in
-      f.made ∙ ap (λ (j : ℕ). take j list ++ drop j old) n ∙ ap (λ (t : List ℕ). t ++ drop (length list) old) (take-length list)
-
-  -- a list as long as the slice fills it
-  pub fronted-all : length old ≡ length list → (i : ℕ) (now : List ℕ) → Fronted list old i now → length list ≤ i → now ≡ list
-  fronted-all e i now f h =
-      fronted-end i now f h ∙ ap (λ (j : ℕ). list ++ drop j old) (sym e) ∙ ap (λ (t : List ℕ). list ++ t) (drop-length old) ∙ append-nil list
+-- the front of a slice has the values of a list's first members, the rest is as it was
+pub front_mapped : (f : ℕ → ℕ) (list old now : List ℕ) (i x : ℕ) → now ≡ map f (take i list) ++ drop i old → x ≡ f (get_or list i 0) → i < length list → i < length old → set now i x ≡ map f (take (i + 1) list) ++ drop (i + 1) old
+front_mapped f list old now i x e q h k =
+    let y = get_or list i 0 in
+    rw (e, q)
+    (front-more (map f (take i list)) old i (f y) (length-map (take i list) f ∙ length-take-le i list (omega arith)) k
+    ∙ ap (λ (t : List ℕ). t ++ drop (i + 1) old) (sym (map-append f (take i list) (y ∷ [])) ∙ ap (λ (t : List ℕ). map f t) (take_more list i h)))
 
 pub at_map : (f : ℕ → ℕ) (xs : List ℕ) (i : ℕ) → i < length xs → f (get_or xs i 0) ≡ get_or (map f xs) i 0
 at_map f [] i h = absurd (omega arith)
@@ -65,3 +41,6 @@ as_two_in S [] m h e = omega arith
 as_two_in [] (w ∷ wraps) m h e = absurd (e refl)
 as_two_in (x ∷ S) (w ∷ wraps) zero h e = rw (not-zero x e)
 as_two_in (x ∷ S) (w ∷ wraps) (suc m) h e = as_two_in S wraps m (omega arith) e
+
+pub as_two_written : (S wraps now : List ℕ) → length now ≡ length wraps → ((k : ℕ) → k < length now → get_or now k 0 ≡ get_or (read_as_two S wraps) k 0) → now ≡ read_as_two S wraps
+as_two_written S wraps now e at = ext_get_or 0 now (read_as_two S wraps) (e ∙ sym (as-two-length S wraps)) at

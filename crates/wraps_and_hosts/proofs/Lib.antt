@@ -1,3 +1,2 @@
--- `Fronts`: a list written place by place. `Hosts`: the host of a module that has a place.
+-- Lists that are written place by place.
 pub mod Fronts
-mod Hosts

@@ -19,15 +19,14 @@ fn wrap_with<'a>(plan: &'a [u32], wraps: &'a [u32], m: usize) -> u32
 }
 
 // The wraps, with 2 for each module of a plan.
+#[tactic(auto, using(crate::proofs::Fronts::as_two_written))]
 pub fn read_as_two<'a>(plan: &'a [u32], wraps: &'a [u32], out: &mut [u32])
     requires plan { length plan.now ≡ length out.old }
     requires wraps { length wraps.now ≡ length out.old }
     ensures { out.new ≡ read_as_two plan.now wraps.now }
 {
-    let mut m = 0;
-    while m < out.len() {
-        out[m] = wrap_with(plan, wraps, m);
-        m += 1;
+    for (m, wrap) in out.iter_mut().enumerate() {
+        *wrap = wrap_with(plan, wraps, m);
     }
 }
 
@@ -44,14 +43,13 @@ pub fn own_host(noted: &[u32], m: u32) -> u32
 }
 
 // The hosts of some modules, written from place 0.
+#[tactic(auto, using(crate::proofs::Fronts::front_mapped))]
 pub fn name_hosts<'a>(listed: &'a [u32], noted: &'a [u32], hosts: &mut [u32])
     requires inside { Below (length noted.now) listed.now }
     requires room { length listed.now ≤ length hosts.old }
     ensures { hosts.new ≡ map (host_by noted.now) listed.now ++ drop (length listed.now) hosts.old }
 {
-    let mut i = 0;
-    while i < listed.len() {
-        hosts[i] = own_host(noted, listed[i]);
-        i += 1;
+    for (i, &m) in listed.iter().enumerate() {
+        hosts[i] = own_host(noted, m);
     }
 }

@@ -1,11 +1,7 @@
 -- The members below i are listed.
 -- Assumes nothing.
-use Rattle.std.proofs.Common.{length, ◌-◌}
 use Rattle.lines.proofs.Members.{Listing}
 use Rattle.lines.proofs.rising.Given as goal
 
 abbrev pub invariant-loop-i : goal.invariant-loop-i
 invariant-loop-i l = Listing l.marks l.initial.out l.out l.n l.i
-
-abbrev pub decreases-loop-i : goal.decreases-loop-i
-decreases-loop-i l = length l.marks - l.i

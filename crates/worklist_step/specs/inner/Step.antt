@@ -1,6 +1,6 @@
 -- What a taking asks and does, over the columns of the request graph.
 -- Assumes nothing.
-use Rattle.std.specs.Prelude.{◌≡◌, ℕ, ◌+◌, ◌<◌, ◌≤◌, true, ◌⊎◌, List, length, slice_index}
+use Rattle.std.specs.Prelude.{◌≡◌, ℕ, ◌+◌, ◌<◌, ◌≤◌, true, ◌⊎◌, List, length, slice_index, Option, MatchOption}
 use Rattle.lists.specs.Words.{has}
 use Rattle.tables.specs.Refusal.{module_limit}
 use Rattle.tables.specs.Threads.{Threads}
@@ -22,10 +22,9 @@ Gives marks candidates v m =
     ((v ≡ m + at_request) × (m < length candidates))
     ⊎ (((v ≡ m + at_lead) ⊎ (v ≡ m + at_dependent)) × (has marks (m + at_lead) ≡ true) × (has marks (m + at_dependent) ≡ true) × (has candidates m ≡ true))
 
--- r is that module, where there is one
-pub record Given (marks candidates : List ℕ) (v r : ℕ) : Type 0 where
-  pub some : r < length candidates → Gives marks candidates v r
-  pub none : (m : ℕ) → Gives marks candidates v m → r ≡ m
+-- r is that module, the only one, or none where there is none
+abbrev pub Given : List ℕ → List ℕ → ℕ → Option ℕ → Type 0
+Given marks candidates v r = MatchOption r ((m : ℕ) → Gives marks candidates v m → ⊥) (λ n. Gives marks candidates v n × ((m : ℕ) → Gives marks candidates v m → n ≡ m))
 
 -- the list has grown by what the first so many places of a part give
 pub record RequestedBelow (part marks candidates : List ℕ) (rows : ℕ) (placed list : List ℕ) (count : ℕ) (placed' list' : List ℕ) (count' : ℕ) : Type 0 where

@@ -18,11 +18,6 @@ use Rattle.circle_gathering.proofs.Leading.{led-targets, led-leads, led-single}
 use borrow.Author.Rules.{rules}
 use Rattle.circle_gathering.proofs.inner.gather_circles.Statement.{statement}
 use Rattle.circle_gathering.proofs.inner.gather_circles.Tie as tie
-use Rattle.circle_gathering.proofs.inner.gather_circles.Reads as reads
-use Rattle.circle_gathering.proofs.inner.gather_circles.Lts as lts
-use Rattle.circle_gathering.proofs.inner.write_circles.Reads as write-circles-reads
-use Rattle.circle_rows.proofs.inner.lead_rows.Reads as lead-rows-reads
-use Rattle.tables.proofs.inner.first_rows.Reads as first-rows-reads
 
 -- the sort's targets
 abbrev statics : tie.Start → ℕ → List ℕ

@@ -1,11 +1,10 @@
 -- `component_labels::inner::number` meets its contract. The measure is the number of chunks that have no number.
 -- Assumes nothing.
-use Rattle.std.specs.Prelude.{◌≡◌, ℕ, suc, ◌+◌, ◌<◌, ◌≤◌, true, List, length, get_or, set}
-use mathlib.Core.Path.{refl, sym, subst, ◌∙◌}
+use Rattle.std.specs.Prelude.{◌≡◌, ℕ, suc, ◌+◌, ◌<◌, ◌≤◌, List, length, get_or, set}
+use mathlib.Core.Path.{sym, subst, ◌∙◌}
 use native.Mathlib.Omega.{arith}
 use lib.ListN.{length-set}
-use borrow.Author.Rules.{rules}
-use Rattle.lists.specs.Words.{is_zero, zeros}
+use Rattle.lists.specs.Words.{zeros}
 use Rattle.walk.proofs.Visits.{set-zeros, fresh-zero}
 use Rattle.tables.specs.Refusal.{chunk_limit}
 use Rattle.strong_connection.specs.inner.Graph.{Threaded}

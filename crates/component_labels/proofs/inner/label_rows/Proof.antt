@@ -29,8 +29,8 @@ Loop = tie.At-loop-row invariant-loop decreases-loop
 abbrev entry : Loop → tie.Start invariant-loop decreases-loop
 entry l = l.before.before.before.before.before.before.before.before.before.before.before.before.before.before.before
 
-size-len : (l : Loop) → length l.fill.new.slots ≡ length (entry l).args.labels.now
-size-len l = l.fill.auto.slots
+size-len : (l : Loop) → length l.fill.new.self ≡ length (entry l).args.labels.now
+size-len l = l.fill.auto.self
 
 len : (l : Loop) → length l.loop-row.labels ≡ length (entry l).args.labels.now
 len l = l.loop-row.invariant.1.len ∙ size-len l
@@ -73,8 +73,8 @@ loop-holds : tie.Need-loop-row-init invariant-loop decreases-loop
 loop-holds c =
     let f = c.before.before.before.before.before in
     let e = f.before.before.before.before.before.before.before.before.before in
-    let n = f.fill.auto.slots in
-    (refl, labelled-start (subst (Graph e.args.from.now e.args.to.now) (sym n) e.requires.0.graph) f.fill.new.slots (f.fill.ensures ∙ ap (λ (k : ℕ). replicate k missing) (sym n)))
+    let n = f.fill.auto.self in
+    (refl, labelled-start (subst (Graph e.args.from.now e.args.to.now) (sym n) e.requires.0.graph) f.fill.new.self (f.fill.ensures.1.1.1.1 (λ y e. e) ∙ ap (λ (k : ℕ). replicate k missing) (sym n)))
 
 mul-c : tie.Need-offset_bounds-to-row invariant-loop decreases-loop
 mul-c c = search rules

@@ -1,10 +1,7 @@
 -- What is counted and what is left are all.
-use Rattle.std.proofs.Common.{◌≡◌, ◌+◌, ◌-◌, ◌≤◌, length, drop}
+use Rattle.std.proofs.Common.{◌≡◌, ◌+◌, ◌≤◌, drop}
 use Rattle.lists.specs.Words.{ones}
 use Rattle.lists.proofs.inner.count_marked.Given as goal
 
-abbrev pub invariant-loop-i : goal.invariant-loop-i
-invariant-loop-i l = (l.i ≤ length l.marks) × (l.count ≤ l.i) × (l.count + ones (drop l.i l.marks) ≡ ones l.marks)
-
-abbrev pub decreases-loop-i : goal.decreases-loop-i
-decreases-loop-i l = length l.marks - l.i
+abbrev pub invariant-loop-mark : goal.invariant-loop-mark
+invariant-loop-mark l = (l.count ≤ l.mark-index) × (l.count + ones (drop l.mark-index l.marks) ≡ ones l.marks)

@@ -1,6 +1,6 @@
 -- The columns are copied as far as the row.
 -- Assumes nothing.
-use Rattle.std.proofs.Common.{◌-◌, ◌≡◌, ◌≤◌, length}
+use Rattle.std.proofs.Common.{◌≡◌, ◌≤◌, length}
 use Rattle.record_columns.specs.Rows.{copied, padded, importer_column, kind_column, target_column}
 use Rattle.record_columns.proofs.inner.columns_of.Given as goal
 
@@ -15,6 +15,3 @@ invariant-loop-row l = record {
   kinds : l.kinds ≡ padded l.row (kind_column l.records);
   targets : l.targets ≡ padded l.row (target_column l.records);
 }
-
-abbrev pub decreases-loop-row : goal.decreases-loop-row
-decreases-loop-row l = l.end - l.row

@@ -8,22 +8,16 @@ use Rattle.sensitivity.proofs.Searches.{unfound_excluded, unfound_unused, unfoun
 use Rattle.sensitivity.proofs.inner.search_uses.Goals as goal
 
 pub loop-u-init : goal.loop-u-init
-loop-u-init c = record {
-  unfound = c.search.invariant.unfound;
-  searching = searching-start c.args.use_statement.now c.args.use_record.now c.search.s _ _ (c.requires.uses.threads.first c.search.s (omega (arith, c.requires.uses.statements)));
-}
+loop-u-init c = searching-start c.args.use_statement.now c.args.use_record.now c.loop-s.s _ _ (c.requires.uses.threads.first c.loop-s.s (omega (arith, c.requires.uses.statements)))
 
 pub loop-u-preserved : goal.loop-u-preserved
 loop-u-preserved c =
     let a = c.args in
     let u = c.loop-u.u in
-    record {
-      unfound = c.loop-u.invariant.unfound;
-      searching = searching-next a.use_statement.now a.use_record.now c.search.s (wakes a.normal.now a.wrap.now a.record_kind.now a.record_target.now) u c.loop-u.invariant.searching _ c.loop-u-test.true (sym c.row_wakes.ensures ∙ c.if-row_wakes.false) (c.requires.uses.threads.next u c.loop-u-test.true);
-    }
+    searching-next a.use_statement.now a.use_record.now c.loop-s.s (wakes a.normal.now a.wrap.now a.record_kind.now a.record_target.now) u c.loop-u.invariant _ c.loop-u-test.true (sym c.row_wakes.ensures ∙ c.if-row_wakes.false) (c.requires.uses.threads.next u c.loop-u-test.true)
 
-pub search-preserved : goal.search-preserved
-search-preserved c = search (rules, unfound_unused, unfound_excluded)
+pub loop-s-preserved : goal.loop-s-preserved
+loop-s-preserved c = search (rules, unfound_unused, unfound_excluded)
 
 pub returns-then-row_wakes : goal.returns-then-row_wakes
 returns-then-row_wakes c = grind (arith, common_steps, unfound_hit)

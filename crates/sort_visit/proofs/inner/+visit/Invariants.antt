@@ -1,7 +1,6 @@
 -- The measure is the number of modules that are not met. Between the rows, the visits so far lead from the marked module's state to what
 -- the slices and the counters hold.
 -- Assumes nothing.
-use Rattle.std.proofs.Common.{◌-◌}
 use Rattle.lists.specs.Words.{zeros}
 use Rattle.sort_visit.proofs.Turns.{at, Between}
 use Rattle.sort_visit.proofs.inner.+visit.Given as goal
@@ -13,6 +12,3 @@ abbrev pub invariant-loop-row : goal.invariant-loop-row
 invariant-loop-row l =
     let f = l.fn in
     Between f.normal f.record_module f.record_kind f.record_target f.dynamic (at f.counters f.marks f.numbers f.sorted) f.m f.starts l.row (at l.counters l.marks l.numbers l.sorted)
-
-abbrev pub decreases-loop-row : goal.decreases-loop-row
-decreases-loop-row l = l.end - l.row

@@ -3,8 +3,8 @@
 use Rattle.sort_visit.proofs.Turns.{at, Rooting}
 use Rattle.sort_visit.proofs.inner.visit_roots.Given as goal
 
-abbrev pub invariant-loop-row : goal.invariant-loop-row
-invariant-loop-row l =
+abbrev pub invariant-loop-m : goal.invariant-loop-m
+invariant-loop-m l =
     let f = l.fn in
     let i = l.initial in
-    Rooting f.normal f.record_module f.record_kind f.record_target f.entry f.dynamic (at i.counters i.marks i.numbers i.sorted) l.row (at l.counters l.marks l.numbers l.sorted)
+    Rooting f.normal f.record_module f.record_kind f.record_target f.entry f.dynamic (at i.counters i.marks i.numbers i.sorted) l.m-index (at l.counters l.marks l.numbers l.sorted)

@@ -3,7 +3,8 @@
 use Rattle.std.specs.Prelude.{◌≡◌}
 use Rattle.tables.specs.Project.{missing}
 use Rattle.tables.specs.Refusal.{below, entries_in}
-use Rattle.table.specs.Table.{table}
+use Rattle.table.specs.Table.{table, read}
+use Rattle.table.specs.Lending.{written}
 use Rattle.table.proofs.Cut.{given1, given2}
 use Rattle.value_tests.proofs.Groups.{chunks-joined}
 use borrow.Author.Rules.{rules}
@@ -11,13 +12,13 @@ use Rattle.value_tests.proofs.inner.chunks_in.Statement.{statement}
 use Rattle.value_tests.proofs.inner.chunks_in.Tie as tie
 
 returns : tie.Need-returns
-unfolding table
+unfolding table read
 returns c =
     let a = c.args in
     let orders = c.all_below in
     let entries = c.entries_in in
     let seeds = c.all_below-2 in
-    chunks-joined (table a.runtime a.dynamic a.bounds.now a.columns.now) c.rows-modules.ensures c.rows-chunks.ensures
+    chunks-joined (written a.table.now) c.rows-modules.ensures c.rows-chunks.ensures
     (given1 (λ order. orders.result ≡ below missing order) c.column.ensures orders.ensures)
     c.pair_at.ensures
     c.pair_at-2.ensures

@@ -2,7 +2,8 @@
 -- Assumes nothing.
 use Rattle.std.specs.Prelude.{◌≡◌}
 use Rattle.tables.specs.Refusal.{modules_in}
-use Rattle.table.specs.Table.{table, read, with_records}
+use Rattle.table.specs.Table.{table, read}
+use Rattle.table.specs.Lending.{written}
 use Rattle.table.proofs.Cut.{given7}
 use Rattle.value_tests.proofs.Groups.{code-joined}
 use borrow.Author.Rules.{rules}
@@ -14,7 +15,7 @@ unfolding table read
 returns c =
     let a = c.args in
     let m = c.modules_in in
-    code-joined (with_records (table a.runtime a.dynamic a.bounds.now a.columns.now) a.importers.now a.kinds.now a.targets.now) c.rows-modules.ensures c.rows-chunks.ensures
+    code-joined (written a.table.now) c.rows-modules.ensures c.rows-chunks.ensures
     c.settings_in.ensures
     (given7 (λ normal included sensitive reads exports wrap chunk. m.result ≡ modules_in c.rows-chunks.result normal included sensitive reads exports wrap chunk) c.column.ensures c.column-2.ensures c.column-3.ensures c.column-4.ensures c.column-5.ensures c.column-6.ensures c.column-7.ensures m.ensures)
     c.three_in.ensures

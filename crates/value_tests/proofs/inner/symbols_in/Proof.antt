@@ -1,6 +1,7 @@
 -- `value_tests::inner::symbols_in` meets its contract: list by list.
 -- Assumes nothing.
-use Rattle.table.specs.Table.{table, read, with_records}
+use Rattle.table.specs.Table.{table, read}
+use Rattle.table.specs.Lending.{written}
 use Rattle.value_tests.proofs.Groups.{symbols-joined}
 use borrow.Author.Rules.{rules}
 use Rattle.value_tests.proofs.inner.symbols_in.Statement.{statement}
@@ -10,7 +11,7 @@ returns : tie.Need-returns
 unfolding table read
 returns c =
     let a = c.args in
-    symbols-joined (with_records (table a.runtime a.dynamic a.bounds.now a.columns.now) a.importers.now a.kinds.now a.targets.now) c.rows-modules.ensures c.rows-statements.ensures c.rows-symbols.ensures c.rows-references.ensures
+    symbols-joined (written a.table.now) c.rows-modules.ensures c.rows-statements.ensures c.rows-symbols.ensures c.rows-references.ensures
     c.pair_at.ensures
     c.pair_at-2.ensures
     c.pair_at-3.ensures

@@ -1,11 +1,7 @@
--- The seeds before i are looked at.
+-- The seeds passed are looked at.
 -- Assumes nothing.
-use Rattle.std.proofs.Common.{◌≤◌, length}
 use Rattle.worklist_ends.specs.inner.Ends.{SeededBelow}
 use Rattle.worklist_ends.proofs.inner.list_seeds.Given as goal
 
-abbrev pub invariant-loop-i : goal.invariant-loop-i
-invariant-loop-i l = record {
-  within : l.i ≤ length l.seeds;
-  seeded : SeededBelow l.seeds l.eligible l.i l.initial.placed l.initial.list l.placed l.list l.end;
-}
+abbrev pub invariant-loop-m : goal.invariant-loop-m
+invariant-loop-m l = SeededBelow l.seeds l.eligible l.m-index l.initial.placed l.initial.list l.placed l.list l.end

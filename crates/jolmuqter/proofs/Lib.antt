@@ -1,2 +1,0 @@
--- `OwnRecords`: the test alone, with the table's own records.
-mod OwnRecords

@@ -1,2 +1,0 @@
--- What the record forms share.
-pub mod Forms

@@ -1,2 +1,0 @@
-// No code: what the proofs of the record forms share.
-#![tactic(auto)]

@@ -1,6 +1,0 @@
--- The loop ends: it counts up to its bound.
-use Rattle.std.proofs.Common.{length, ◌-◌}
-use Rattle.replay.proofs.digits.Given as goal
-
-abbrev pub decreases-loop-i : goal.decreases-loop-i
-decreases-loop-i l = length l.text - l.i

@@ -1,0 +1,179 @@
+// Reads a replay list, whose form stands at the head of the program.
+use tables::ModuleIdx;
+
+// The text that is still to be read.
+#[derive(Drop)]
+pub struct Scanner<'a> {
+    text: &'a [u8],
+}
+
+// Values of a list that are still to be taken.
+#[derive(Clone, Copy)]
+struct Run {
+    // How many.
+    left: u32,
+    // The next of them; none where those stay that stand there.
+    value: Option<u32>,
+    // By how much the one behind it differs.
+    step: u32,
+    // How many are equal, and how many of the next one's are left.
+    each: u32,
+    turn: u32,
+}
+
+impl Run {
+    // A run of one value.
+    const ONE: Run = Run {
+        left: 1,
+        value: Some(0),
+        step: 0,
+        each: 1,
+        turn: 1,
+    };
+
+    // The next value, which is then taken.
+    fn take(&mut self) -> Option<u32> {
+        let value = self.value;
+        self.left = self.left.saturating_sub(1);
+        if 1 < self.turn {
+            self.turn -= 1;
+        } else {
+            self.turn = self.each;
+            self.value = value.map(|value| value.wrapping_add(self.step));
+        }
+        value
+    }
+}
+
+impl<'a> Scanner<'a> {
+    // A scanner at the start of a text.
+    pub fn new(text: &'a [u8]) -> Self {
+        Scanner { text }
+    }
+
+    // The line that begins next.
+    pub fn line(&mut self) -> &'a [u8] {
+        let text = self.text.trim_ascii_start();
+        let end = text.iter().position(|byte| *byte == b'\n');
+        let (line, rest) = text.split_at(end.unwrap_or(text.len()));
+        self.text = rest;
+        line
+    }
+
+    // Whether this byte comes next, which is then passed.
+    fn passes(&mut self, byte: u8) -> bool {
+        match self.text.split_first() {
+            Some((first, rest)) if *first == byte => {
+                self.text = rest;
+                true
+            }
+            _ => false,
+        }
+    }
+
+    // The number whose digits come next; 4294967295 where it is too large.
+    fn digits(&mut self) -> u32 {
+        let mut value: u32 = 0;
+        while let Some((digit @ b'0'..=b'9', rest)) = self.text.split_first() {
+            value = value
+                .saturating_mul(10)
+                .saturating_add(u32::from(*digit - b'0'));
+            self.text = rest;
+        }
+        value
+    }
+
+    // The next number; `-` is the missing mark.
+    pub fn number(&mut self) -> u32 {
+        self.text = self.text.trim_ascii_start();
+        if self.passes(b'-') {
+            return ModuleIdx::MISSING;
+        }
+        self.digits()
+    }
+
+    // The number behind this byte where it comes next, else another.
+    fn number_behind(&mut self, byte: u8, other: u32) -> u32 {
+        if self.passes(byte) {
+            return self.number();
+        }
+        other
+    }
+
+    // The next run: `TIMES*..`, `TIMES.`, or a value.
+    fn run(&mut self) -> Run {
+        let first = self.number();
+        if self.passes(b'*') {
+            let value = Some(self.number());
+            let up = self.number_behind(b'+', 0);
+            let down = self.number_behind(b'~', 0);
+            let each = self.number_behind(b'/', 1);
+            return Run {
+                left: first,
+                value,
+                step: up.wrapping_sub(down),
+                each,
+                turn: each,
+            };
+        }
+        if self.passes(b'.') {
+            return Run {
+                left: first,
+                value: None,
+                ..Run::ONE
+            };
+        }
+        Run {
+            value: Some(first),
+            ..Run::ONE
+        }
+    }
+
+    // The next value of a list: of the run at hand, or of the one behind it where none is left.
+    fn value(&mut self, run: &mut Run) -> Option<u32> {
+        if run.left == 0 {
+            *run = self.run();
+        }
+        run.take()
+    }
+
+    // Reads a list, its length first, over what stands in a room, as far as that has places.
+    pub fn list<'b>(&mut self, room: &'b mut [u32]) -> &'b [u32] {
+        let length = room.len().min(self.number() as usize);
+        let list = &mut room[..length];
+        let mut run = Run {
+            left: 0,
+            ..Run::ONE
+        };
+        for place in list.iter_mut() {
+            *place = self.value(&mut run).unwrap_or(*place);
+        }
+        list
+    }
+
+    // The same of bytes, 255 for what is larger.
+    pub fn bytes<'b>(&mut self, room: &'b mut [u8]) -> &'b [u8] {
+        let length = room.len().min(self.number() as usize);
+        let bytes = &mut room[..length];
+        let mut run = Run {
+            left: 0,
+            ..Run::ONE
+        };
+        for place in bytes.iter_mut() {
+            if let Some(value) = self.value(&mut run) {
+                *place = value.min(255) as u8;
+            }
+        }
+        bytes
+    }
+
+    // Where an output differs first from what the list says of it: what is written, and else the filler.
+    pub fn difference(&mut self, output: &[u32; crate::PLACES], filler: u32) -> Option<usize> {
+        let mut said = [filler; crate::PLACES];
+        self.list(&mut said);
+        output
+            .iter()
+            .zip(&said)
+            .position(|(given, said)| given != said)
+    }
+}

@@ -1,0 +1,8 @@
+-- What the rows so far trigger is written.
+-- Assumes nothing.
+use Rattle.std.proofs.Common.{◌≡◌, ℕ, ◌<◌, get_or}
+use Rattle.triggers.specs.inner.Columns.{row_trigger}
+use Rattle.triggers.proofs.inner.write_triggers.Given as goal
+
+abbrev pub invariant-loop-row : goal.invariant-loop-row
+invariant-loop-row l = (k : ℕ) → k < l.row → get_or l.triggers k 0 ≡ row_trigger l.normal l.included l.wrap l.record_kind l.record_target k
