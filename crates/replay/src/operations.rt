@@ -51,7 +51,7 @@ pub enum Operation {
 
 impl Operation {
     // The operation of this number in the list.
-    pub fn numbered(number: u32) -> Option<Self> {
+    pub(crate) fn numbered(number: u32) -> Option<Self> {
         match number {
             0 => Some(Operation::SortModules),
             1 => Some(Operation::ExpectedOrder),
@@ -77,7 +77,7 @@ impl Operation {
     }
 
     // What it gives, none where such a call can't be made.
-    pub fn answer(
+    pub(crate) fn answer(
         self,
         table: &Table,
         argument: u32,

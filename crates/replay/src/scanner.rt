@@ -47,12 +47,12 @@ impl Run {
 
 impl<'a> Scanner<'a> {
     // A scanner at the start of a text.
-    pub fn new(text: &'a [u8]) -> Self {
+    pub(crate) fn new(text: &'a [u8]) -> Self {
         Scanner { text }
     }
 
     // The line that begins next.
-    pub fn line(&mut self) -> &'a [u8] {
+    pub(crate) fn line(&mut self) -> &'a [u8] {
         let text = self.text.trim_ascii_start();
         let end = text.iter().position(|byte| *byte == b'\n');
         let (line, rest) = text.split_at(end.unwrap_or(text.len()));
@@ -84,7 +84,7 @@ impl<'a> Scanner<'a> {
     }
 
     // The next number; `-` is the missing mark.
-    pub fn number(&mut self) -> u32 {
+    pub(crate) fn number(&mut self) -> u32 {
         self.text = self.text.trim_ascii_start();
         if self.passes(b'-') {
             return ModuleIdx::MISSING;
@@ -138,7 +138,7 @@ impl<'a> Scanner<'a> {
     }
 
     // Reads a list, its length first, over what stands in a room, as far as that has places.
-    pub fn list<'b>(&mut self, room: &'b mut [u32]) -> &'b [u32] {
+    pub(crate) fn list<'b>(&mut self, room: &'b mut [u32]) -> &'b [u32] {
         let length = room.len().min(self.number() as usize);
         let list = &mut room[..length];
         let mut run = Run {
@@ -152,7 +152,7 @@ impl<'a> Scanner<'a> {
     }
 
     // The same of bytes, 255 for what is larger.
-    pub fn bytes<'b>(&mut self, room: &'b mut [u8]) -> &'b [u8] {
+    pub(crate) fn bytes<'b>(&mut self, room: &'b mut [u8]) -> &'b [u8] {
         let length = room.len().min(self.number() as usize);
         let bytes = &mut room[..length];
         let mut run = Run {
@@ -168,7 +168,11 @@ impl<'a> Scanner<'a> {
     }
 
     // Where an output differs first from what the list says of it: what is written, and else the filler.
-    pub fn difference(&mut self, output: &[u32; crate::PLACES], filler: u32) -> Option<usize> {
+    pub(crate) fn difference(
+        &mut self,
+        output: &[u32; crate::PLACES],
+        filler: u32,
+    ) -> Option<usize> {
         let mut said = [filler; crate::PLACES];
         self.list(&mut said);
         output
