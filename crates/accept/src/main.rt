@@ -2,14 +2,14 @@
 // whether the plan is accepted or what it breaks first.
 #![tactic(auto)]
 
-use listing::{Reading, read};
-use parts::{first_of, part_of};
+use listing::{TextSpace, read_text};
+use parts::first_of;
 use plan_check::check_plan;
 use plan_conditions::Judgement;
 use std::io;
 use std::rt::Env;
 use streams::read_full;
-use table::{COLUMNS, MODULE_LIMIT, NORMAL, Table};
+use table::{MODULE_LIMIT, NORMAL, Table};
 use tables::Refusal;
 
 // The number with a digit more; the mark where it is too large.
@@ -121,45 +121,12 @@ fn judge_argument(rt: &(impl Env + Print), table: &Table) -> io::Result<()> {
     }
 }
 
-// Judges it for a project that was read, with n values in its columns.
-fn judge_of<'a>(
-    rt: &(impl Env + Print),
-    settings: [u32; 2],
-    bounds: &'a [u32; COLUMNS + 1],
-    columns: &'a [u32; 32768],
-    n: usize,
-    names: &'a [u8],
-) -> io::Result<()> {
-    judge_argument(
-        rt,
-        &Table::new(
-            settings[0],
-            settings[1],
-            bounds,
-            first_of(columns, n),
-            names,
-        ),
-    )
-}
-
 // Judges it for a text.
 fn judge_text(rt: &(impl Env + Print), text: &[u8]) -> io::Result<()> {
-    let mut settings = [0u32; 2];
-    let mut bounds = [0u32; COLUMNS + 1];
-    let mut columns = [0u32; 32768];
-    let answer = read(text, &mut settings, &mut bounds, &mut columns);
-    match answer {
+    let mut space = TextSpace::EMPTY;
+    match read_text(text, &mut space) {
         Err(refusal) => refused(rt, refusal),
-        Ok(Reading { values, from, to }) => {
-            judge_of(
-                rt,
-                settings,
-                &bounds,
-                &columns,
-                values,
-                part_of(text, from, to),
-            )
-        }
+        Ok(table) => judge_argument(rt, &table),
     }
 }
 

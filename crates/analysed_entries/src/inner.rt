@@ -1,68 +1,44 @@
 // For crates above, on tested tables.
-ghost use Rattle.std.specs.Prelude.{◌≡◌, length};
-ghost use Rattle.tables.specs.Project.{Project};
-ghost use Rattle.tables.specs.Readings.{values_of, first_of};
-ghost use Rattle.tables.specs.Accepted.{Accepted};
-ghost use Rattle.table.specs.Table.{table, read};
-ghost use Rattle.analysed_entries.specs.inner.Entries.{analysed_chunk, Found};
+ghost use Rattle.std.specs.Prelude.{◌≡◌, ◌≢◌, ℕ, ◌<◌, true, false, length, slice_index, MatchOption};
+ghost use Rattle.tables.specs.Project.{missing};
+ghost use Rattle.tables.specs.Readings.{flagged, values_of, first_of, is_analysed};
+ghost use Rattle.analysed_entries.specs.inner.Entries.{Entry};
 
-use table::{ENTRY, ENTRY_CHUNK, INCLUDED, column};
+use current_columns::inner::Current;
 use tables::ModuleIdx;
 
-// The entry chunk of an entry, or the mark if there is no such entry or it has none.
-fn entry_chunk_of<'a>(entry: &'a [u32], entry_chunk: &'a [u32], root: u32) -> u32
-    requires { length entry_chunk.now ≡ length entry.now }
-    ensures { result ≡ first_of (values_of entry.now entry_chunk.now root) }
+// Whether a module is included.
+fn is_included(included: &[u32], m: u32) -> bool
+    ensures { result ≡ flagged included.now m }
 {
-    for row in 0..entry.len() {
-        if entry[row] == root {
-            return entry_chunk[row];
-        }
-    }
-    ModuleIdx::MISSING
+    matches!(included.get(m as usize), Some(1))
 }
 
-// The entry chunk of a root that is an analysed entry, or the mark.
-#[tactic(auto, unfolding(crate::specs::inner::Entries::analysed_chunk))]
-fn analysed_chunk<'a>(
-    included: &'a [u32],
-    entry: &'a [u32],
-    entry_chunk: &'a [u32],
-    root: u32,
-) -> u32
-    requires { length entry_chunk.now ≡ length entry.now }
-    ensures { result ≡ analysed_chunk included.now entry.now entry_chunk.now root }
+// The first row of an entry, if it has one.
+fn row_of(entry: &[u32], root: u32) -> Option<usize>
+    ensures { MatchOption result ((k : ℕ) → k < length entry.now → slice_index entry.now k ≢ root) (λ row. (row < length entry.now) × (slice_index entry.now row ≡ root) × ((k : ℕ) → k < row → slice_index entry.now k ≢ root)) }
 {
-    let at = root as usize;
-    if included.len() <= at {
-        return ModuleIdx::MISSING;
-    }
-    if included[at] != 1 {
-        return ModuleIdx::MISSING;
-    }
-    entry_chunk_of(entry, entry_chunk, root)
+    entry.iter().position(|e| *e == root)
 }
 
-// The entry chunk of a root of a table that is an analysed entry, or the mark.
-pub fn find_entry<'a>(
-    runtime: u32,
-    dynamic: u32,
-    bounds: &'a [u32],
-    columns: &'a [u32],
-    importers: &'a [u32],
-    kinds: &'a [u32],
-    targets: &'a [u32],
-    dependencies: &'a [u32],
-    members: &'a [u32],
-    root: u32,
-) -> u32
-    requires accepted { let p : Project = read (table runtime dynamic bounds.now columns.now) importers.now kinds.now targets.now dependencies.now members.now in Accepted p }
-    ensures { let p : Project = read (table runtime dynamic bounds.now columns.now) importers.now kinds.now targets.now dependencies.now members.now in Found p root result }
+// The entry chunk of an entry; none if there is no such entry or it has none.
+fn entry_chunk_of(entry: &[u32], entry_chunk: &[u32], root: u32) -> Option<u32>
+    requires { length entry_chunk.now ≡ length entry.now }
+    ensures { MatchOption result (first_of (values_of entry.now entry_chunk.now root) ≡ missing) (λ chunk. (first_of (values_of entry.now entry_chunk.now root) ≡ chunk) × (chunk ≢ missing)) }
 {
-    analysed_chunk(
-        column(bounds, columns, INCLUDED),
-        column(bounds, columns, ENTRY),
-        column(bounds, columns, ENTRY_CHUNK),
-        root,
-    )
+    let chunk = entry_chunk[row_of(entry, root)?];
+    if chunk == ModuleIdx::MISSING {
+        return None;
+    }
+    Some(chunk)
+}
+
+// The entry chunk of a root that is an analysed entry, none for any other.
+pub fn find_entry(current: &Current, root: u32) -> Option<u32>
+    ensures { MatchOption result (is_analysed current.now root ≡ false) (λ chunk. (is_analysed current.now root ≡ true) × Entry current.now root chunk) }
+{
+    if !is_included(current.included, root) {
+        return None;
+    }
+    entry_chunk_of(current.entry, current.entry_chunk, root)
 }

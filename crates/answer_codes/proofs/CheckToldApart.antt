@@ -36,25 +36,19 @@ record Names (j : Judgement) : Type 0 where
   named : ℕ
   is : j ≡ judgements.Broken condition named
 
-names-or-not : (i : ℕ) (ms : List ℕ) → (first_broken i ms ≡ judgements.Accepted) ⊎ Names (first_broken i ms)
+names-or-not : (i : ℕ) (ms : List (Option ℕ)) → (first_broken i ms ≡ judgements.Accepted) ⊎ Names (first_broken i ms)
 names-or-not i [] = inl refl
-names-or-not i (m ∷ ms) = by (eqb m missing) (names-or-not (suc i) ms)
-  where
-    by : (b : Bool) → (first_broken (suc i) ms ≡ judgements.Accepted) ⊎ Names (first_broken (suc i) ms)
-        → (cond b (first_broken (suc i) ms) (judgements.Broken i m) ≡ judgements.Accepted) ⊎ Names (cond b (first_broken (suc i) ms) (judgements.Broken i m))
-    by true h = h
-    by false h = inr (record { condition = i; named = m; is = refl })
+names-or-not i (None ∷ ms) = names-or-not (suc i) ms
+names-or-not i (Some m ∷ ms) = inr (record { condition = i; named = m; is = refl })
 
 -- its number is 1 to 6, and its module is one of the project's
 module _ (p : Project) (seeds plan : List ℕ) where
-  abbrev first : Condition → ℕ
+  abbrev first : Condition → Option ℕ
   first c = lowest (broken p seeds plan c) (modules p)
 
   placed : (i m : ℕ) → Named first 1 conditions i m → (1 ≤ i) × ((i ≤ 6) × (m < modules p))
-  placed i m n = (omega (arith, n.numbered), (omega (arith, n.numbered, ap length n.place, length-append n.before (n.condition ∷ n.rest)), inside))
-    where
-      inside : m < modules p
-      inside = let l = lowest-found (broken p seeds plan n.condition) (modules p) (λ z. n.there (sym n.module' ∙ z)) in omega (arith, l.inside, n.module')
+  placed i m n =
+      (omega (arith, n.numbered), (omega (arith, n.numbered, ap length n.place, length-append n.before (n.condition ∷ n.rest)), (lowest-found (broken p seeds plan n.condition) (modules p) m n.module').inside))
 
   told-judged : (r : ℕ) → Accepted p → r ≡ coded_judgement (Ok (judged p seeds plan)) → ToldBy (Ok (judged p seeds plan)) r
   unfolding judged

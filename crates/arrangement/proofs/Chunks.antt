@@ -19,7 +19,7 @@ use Rattle.arrangement.specs.Arrangement.{sorted_members, arranged}
 use Rattle.arrangement.specs.inner.Rows.{Members}
 use Rattle.arrangement.proofs.Parts.{flat-more, first-end}
 
-module _ (key : ℕ → List ℕ) (owner old : List ℕ) (n : ℕ) (f : Members owner old n) where
+module _ (key : ℕ → List ℕ) (owner old : List ℕ) where
   abbrev parts : ℕ → List ℕ
   parts = sorted_members key owner old
 
@@ -39,7 +39,7 @@ module _ (key : ℕ → List ℕ) (owner old : List ℕ) (n : ℕ) (f : Members 
     rest = refl;
   }
 
-  module _ (now : List ℕ) (c start : ℕ) (g : Arranging now c start) where
+  module _ (n : ℕ) (f : Members owner old n) (now : List ℕ) (c start : ℕ) (g : Arranging now c start) where
     pub arranging-held : {groups places : List ℕ} → Held groups places old → (k : ℕ) → Held groups places (take k (drop start now))
     arranging-held h k =
         held-part (take k (drop start now))
@@ -87,8 +87,8 @@ module _ (key : ℕ → List ℕ) (owner old : List ℕ) (n : ℕ) (f : Members 
                 let e : start + (end - start) ≡ end = omega arith in
                 ap (λ (k : ℕ). drop k now) (sym e) ∙ sym (drop-drop (end - start) start now) ∙ ap (drop (end - start)) g.rest ∙ drop-drop (end - start) start old ∙ ap (λ (k : ℕ). drop k old) e
 
-  pub arranging-end : (now : List ℕ) (start : ℕ) → Arranging now n start → now ≡ arranged key n owner old
+  pub arranging-end : (n : ℕ) → Members owner old n → (now : List ℕ) (start : ℕ) → Arranging now n start → now ≡ arranged key n owner old
   unfolding arranged
-  arranging-end now start g =
+  arranging-end n f now start g =
       let e : start ≡ length owner = first-end owner old f.rising f.lengths parts (λ c. sort-length (ahead key) (values_of owner old c)) n f.owners start g.first in
       sym (take_all start now (omega (arith, g.size, f.lengths))) ∙ g.done

@@ -1,36 +1,26 @@
 -- The arrangement of an accepted project's members.
 -- Assumes nothing.
-use Rattle.std.specs.Prelude.{◌≡◌, ℕ, zero, suc, ◌≤◌, true, cond, ◌||◌, List, [], ◌++◌, length, take, drop, replicate, None, Ok}
+use Rattle.std.specs.Prelude.{◌≡◌, ℕ, zero, suc, true, cond, ◌||◌, List, [], length, None}
 use mathlib.Core.Path.{refl, sym, ap, ◌∙◌}
 use mathlib.Core.Logic.{⊎_elim}
-use mathlib.Core.List.{append-nil}
 use native.Mathlib.Omega.{arith}
-use lib.ListN.{length-replicate, length-append, drop_of_length-le}
-use lib.Seq.{length-take-le, take_at}
 use Rattle.lists.specs.Words.{is_zero}
 use Rattle.lists.proofs.Laws.{both, length-map-up_to}
 use Rattle.tables.specs.Project.{Project}
-use Rattle.tables.specs.Readings.{modules, chunks, is_analysed}
-use Rattle.tables.specs.Refusal.{row_limit}
+use Rattle.tables.specs.Readings.{modules, chunks}
 use Rattle.tables.specs.Accepted.{Accepted}
-use Rattle.tables.specs.Answers.{tested}
+use Rattle.refusal.specs.Reading.{Read}
 use Rattle.table.specs.declared.Table.{Table}
-use Rattle.table.specs.Table.{column_at, table, read, current, lent_as, lent}
+use Rattle.table.specs.Table.{read, current, lent_as}
 use Rattle.table.specs.Lending.{as_lent, written}
-use Rattle.table.specs.Places.{Places}
-use Rattle.table.proofs.Laws.{read-own, lent_cut, lent-current, lent-names}
-use Rattle.table.proofs.Lending.{current-accepted}
+use Rattle.table.proofs.Laws.{read-own, lent-current, lent-names}
 use Rattle.table.proofs.Reading.{Replacing, accepted-read}
 use Rattle.sort_modules.specs.Sort.{numbers}
 use Rattle.sort_modules.specs.OfProject.{numbers_of}
 use Rattle.names.specs.Names.{names_fit, names_in}
-use Rattle.arrangement.specs.OfProject.{key_in, arranged_of, members_read, named, named_lent, lent_named, lent_named_with, as_named}
+use Rattle.arrangement.specs.OfProject.{key_in, arranged_of, members_read, named, as_named}
 use Rattle.arrangement.specs.inner.Rows.{Members, Fit}
 use Rattle.arrangement.proofs.Laws.{arranged-size, arranged-below}
-
--- a list copied over one as long
-pub copied : (source target : List ℕ) → length target ≡ length source → source ++ drop (length source) target ≡ source
-copied source target e = ap (λ (l : List ℕ). source ++ l) (drop_of_length-le target {i = length source} (omega arith)) ∙ append-nil source
 
 module _ (p : Project) (ok : Accepted p) where
   pub members-fit : Members p.member_chunk p.member (chunks p)
@@ -75,9 +65,21 @@ module _ (p : Project) (ok : Accepted p) where
   named-accepted names = accepted-read p ok (read-replacing names)
 
 -- "a project without the list": it is read as it is
-pub named_none : (p : Project) → named p [] ≡ p
+unnamed : (p : Project) (names : List ℕ) → length names ≡ 0 → named p names ≡ p
 unfolding named members_read
-named_none p = read-own p
+unnamed p names e = rw e (read-own p)
+
+pub named_none : (p : Project) → named p [] ≡ p
+named_none p = unnamed p [] refl
+
+-- "in this arrangement exactly if the project has names"
+arranged-named : (p : Project) (names : List ℕ) → (length names ≡ 0 → ⊥) → record p { member = arranged_of p names } ≡ named p names
+unfolding named members_read read
+arranged-named p names n = some (length names) n
+  where
+    some : (l : ℕ) → (l ≡ 0 → ⊥) → record p { member = arranged_of p names } ≡ record p { member = cond (is_zero l) p.member (arranged_of p names) }
+    some zero n = absurd (n refl)
+    some (suc l) n = refl
 
 -- names that are there are of the form
 pub in-fit : (n : ℕ) (names : List ℕ) → names_in n names ≡ true → (length names ≡ 0 → ⊥) → names_fit n names ≡ true
@@ -88,36 +90,10 @@ in-fit n names h k = some (length names) h k
     some zero h k = absurd (k refl)
     some (suc l) h k = h
 
-pub read_some : (p : Project) (names : List ℕ) → (length names ≡ 0 → ⊥) → arranged_of p names ≡ members_read p names
-unfolding members_read
-read_some p names n = some (length names) n
-  where
-    some : (l : ℕ) → (l ≡ 0 → ⊥) → arranged_of p names ≡ cond (is_zero l) p.member (arranged_of p names)
-    some zero n = absurd (n refl)
-    some (suc l) n = refl
-
--- a table read with the members that were made is the project as it is read
-pub named-cut : (w : Project) (importers kinds targets dependencies members names : List ℕ) {out : List ℕ}
-    → out ≡ members_read (read w importers kinds targets dependencies members) names
-    → read w importers kinds targets dependencies out ≡ named (read w importers kinds targets dependencies members) names
-unfolding named read
-named-cut w importers kinds targets dependencies members names e = rw e
-
 -- there are as many modules
 pub named-modules : (p : Project) (names : List ℕ) → modules (named p names) ≡ modules p
 unfolding named read
 named-modules p names = refl
-
--- and the same entries are analysed
-pub analysed-named : (p : Project) (names : List ℕ) (root : ℕ) → is_analysed (named p names) root ≡ is_analysed p root
-unfolding named read is_analysed
-analysed-named p names root = refl
-
--- a table read with the record columns that were cut from it is the table
-pub lent-named-cut : (runtime dynamic : ℕ) (bounds columns names : List ℕ) {importers kinds targets : List ℕ}
-    → importers ≡ column_at bounds columns 8 → kinds ≡ column_at bounds columns 9 → targets ≡ column_at bounds columns 10
-    → lent_named_with runtime dynamic bounds columns names importers kinds targets ≡ lent_named runtime dynamic bounds columns names
-lent-named-cut runtime dynamic bounds columns names e1 e2 e3 = ap (named_lent names) (lent_cut runtime dynamic bounds columns names e1 e2 e3)
 
 module _ (bounds columns names : List ℕ) (p : Project) (accepts : (lent_as bounds columns names p).refused ≡ None) where
   -- where nothing refuses it, the project as it is read is accepted, and the names are those of its modules, or none at all
@@ -129,59 +105,23 @@ module _ (bounds columns names : List ℕ) (p : Project) (accepts : (lent_as bou
   unfolding current read
   lent-fit = lent-names bounds columns names p accepts
 
--- a table that is the one made of these parts is so with its members as they are read
-pub as-named : (t : Table) (runtime dynamic : ℕ) (bounds columns : List ℕ) {names : List ℕ} → as_lent t ≡ lent runtime dynamic bounds columns names → t.names.now ≡ names
-    → as_named t ≡ lent_named runtime dynamic bounds columns names
-as-named t runtime dynamic bounds columns {names = names} e f = ap (λ (l : List ℕ). named_lent l (as_lent t)) f ∙ ap (named_lent names) e
+-- what a lent table gives, as it is read
 
-module _ (t : Table) where
-  -- a table with its members as they are read is the current one with them arranged, if it has names
-  pub named-project : (as_named t).project ≡ named (current (written t)) t.names.now
-  named-project = refl
+module _ (t : Table) {p : Project} (r : Read (as_lent t) p) where
+  read-accepted : Accepted p
+  read-accepted = rw r.project (lent-current t.bounds.now t.columns.now t.names.now (written t) r.passed)
 
-  pub counts-named : {n : ℕ} → n ≡ length (column_at t.bounds.now t.columns.now 0) → n ≡ modules (as_named t).project
-  unfolding table read current named
-  counts-named e = e
+  -- without names, as it is
+  pub read_unnamed : length t.names.now ≡ 0 → Read (as_named t) p
+  read_unnamed e = record { passed = r.passed; project = r.project ∙ sym (unnamed (current (written t)) t.names.now e) }
 
-  -- and it is accepted where the table passes the tests
-  pub named-passed : Ok tt ≡ tested (as_lent t).refused → Accepted (as_named t).project
-  named-passed passed = named-accepted (current (written t)) (current-accepted t passed) t.names.now
+  module _ (some : length t.names.now ≡ 0 → ⊥) where
+    -- with names, which are of the form, its members arranged
+    pub read-names : names_fit (modules p) t.names.now ≡ true
+    read-names = in-fit (modules p) t.names.now (rw r.project (lent-fit t.bounds.now t.columns.now t.names.now (written t) r.passed)) some
 
--- a function that makes the members in the front of an array with a place for every row that a list can have, and reads the table with them
-module _ (w : Project) (importers kinds targets dependencies members names : List ℕ) (ok : Accepted (read w importers kinds targets dependencies members)) where
-  abbrev p : Project
-  p = read w importers kinds targets dependencies members
+    pub read-arranged : Read (as_named t) (record p { member = arranged_of p t.names.now })
+    read-arranged = record { passed = r.passed; project = arranged-named p t.names.now some ∙ ap (λ (q : Project). named q t.names.now) r.project }
 
-  abbrev space : List ℕ
-  space = replicate row_limit 0
-
-  pub members-room : length members ≤ length space
-  unfolding read
-  members-room = omega (arith, length-replicate {A = ℕ} row_limit 0, ok.sizes.member, ok.sizes.member_chunk)
-
-  pub members-part : length (take (length members) space) ≡ length members
-  members-part = length-take-le (length members) space members-room
-
-  pub members-places : Places p (length p.member) (length (take (length members) space))
-  unfolding read
-  members-places = record { accepted = ok; size = members-part }
-
-  module _ {made : List ℕ} (e : made ≡ members_read p names) where
-    made-length : length made ≡ length members
-    unfolding read
-    made-length = ap length e ∙ read-size p ok names
-
-    abbrev all : List ℕ
-    all = made ++ drop (length members) space
-
-    made-read : take (length members) all ≡ made
-    made-read = take_at made (drop (length members) space) (length members) made-length
-
-    pub made-room : length members ≤ length all
-    made-room = omega (arith, length-append made (drop (length members) space), made-length)
-
-    pub made-part : length members ≡ length (take (length members) all)
-    made-part = sym (ap length made-read ∙ made-length)
-
-    pub made-own : read w importers kinds targets dependencies (take (length members) all) ≡ named p names
-    made-own = named-cut w importers kinds targets dependencies members names (made-read ∙ e)
+    pub read-arranged-accepted : Accepted (record p { member = arranged_of p t.names.now })
+    read-arranged-accepted = rw (arranged-named p t.names.now some) (named-accepted p read-accepted t.names.now)

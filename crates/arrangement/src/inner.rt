@@ -1,30 +1,30 @@
 // For crates above, on tested tables and names.
 ghost use Rattle.std.specs.Prelude.{◌≡◌, ◌≤◌, true, length};
-ghost use Rattle.tables.specs.Project.{Project};
 ghost use Rattle.tables.specs.Readings.{modules};
-ghost use Rattle.table.specs.Table.{table, read};
-ghost use Rattle.table.specs.Places.{Places};
-ghost use Rattle.names.specs.Names.{names_in, names_fit};
+ghost use Rattle.names.specs.Names.{names_fit};
 ghost use Rattle.merge_sort.specs.inner.Held.{held_key, Held};
 ghost use Rattle.module_keys.specs.Keys.{key_of};
 ghost use Rattle.sort_modules.specs.OfProject.{numbers_of};
 ghost use Rattle.arrangement.specs.Arrangement.{arranged};
-ghost use Rattle.arrangement.specs.OfProject.{arranged_of, members_read};
+ghost use Rattle.refusal.specs.Reading.{ReadAs};
+ghost use Rattle.arrangement.specs.OfProject.{arranged_of, as_named};
 ghost use Rattle.arrangement.specs.inner.Rows.{Members, Fit};
 
-use lists::inner::copy_to;
+use current_columns::inner::{Current, ReadSpace};
 use merge_sort::inner::merge_sort;
 use module_keys::inner::find_keys;
+use refusal::read_tested;
 use sort_modules::inner::sort_table;
-use table::{MEMBER_CHUNK, MODULE_LIMIT, NORMAL, ORDER, ROW_LIMIT, SENSITIVE, column, rows};
+use table::{MODULE_LIMIT, ROW_LIMIT, Table};
+use tables::Refusal;
 use tables::inner::first_row;
 
 // Sorts the members of each chunk in place. `work` is working space, a place a member row.
-fn sort_chunks<'a>(
-    groups: &'a [u32],
-    places: &'a [usize],
-    names: &'a [u8],
-    member_chunk: &'a [u32],
+fn sort_chunks(
+    groups: &[u32],
+    places: &[usize],
+    names: &[u8],
+    member_chunk: &[u32],
     members: &mut [u32],
     work: &mut [u32],
     chunks: usize,
@@ -35,6 +35,7 @@ fn sort_chunks<'a>(
     ensures { members.new ≡ arranged (held_key groups.now places.now names.now) chunks member_chunk.now members.old }
 {
     let mut start = 0;
+    // by number: where a chunk's members end is looked up
     for c in 0..chunks {
         let end = first_row(member_chunk, c + 1);
         merge_sort(groups, places, names, &mut members[start..end], work);
@@ -43,13 +44,13 @@ fn sort_chunks<'a>(
 }
 
 // Arranges the members of each chunk in place.
-fn arrange<'a>(
-    names: &'a [u8],
-    normal: &'a [u32],
-    importers: &'a [u32],
-    sensitive: &'a [u32],
-    numbers: &'a [u32],
-    member_chunk: &'a [u32],
+fn arrange(
+    names: &[u8],
+    normal: &[u32],
+    importers: &[u32],
+    sensitive: &[u32],
+    numbers: &[u32],
+    member_chunk: &[u32],
     members: &mut [u32],
     chunks: usize,
 )
@@ -57,149 +58,68 @@ fn arrange<'a>(
     ensures { members.new ≡ arranged (key_of names.now normal.now importers.now sensitive.now numbers.now) chunks member_chunk.now members.old }
 {
     let modules = normal.len();
-    let count = members.len();
     let mut groups = [0u32; MODULE_LIMIT];
+    let groups = &mut groups[..modules];
     let mut places = [0usize; MODULE_LIMIT];
-    find_keys(
-        names,
-        normal,
-        importers,
-        sensitive,
-        numbers,
-        &mut groups[..modules],
-        &mut places[..modules],
-    );
+    let places = &mut places[..modules];
+    find_keys(names, normal, importers, sensitive, numbers, groups, places);
     let mut work = [0u32; ROW_LIMIT];
-    sort_chunks(
-        &groups[..modules],
-        &places[..modules],
-        names,
-        member_chunk,
-        members,
-        &mut work[..count],
-        chunks,
-    );
+    let work = &mut work[..members.len()];
+    sort_chunks(groups, places, names, member_chunk, members, work, chunks);
 }
 
 // The members of a table, arranged by these numbers, a place a member row.
-fn arrange_table<'a>(
-    runtime: u32,
-    dynamic: u32,
-    bounds: &'a [u32],
-    columns: &'a [u32],
-    importers: &'a [u32],
-    kinds: &'a [u32],
-    targets: &'a [u32],
-    dependencies: &'a [u32],
-    members: &'a [u32],
-    names: &'a [u8],
-    numbers: &'a [u32],
-    out: &mut [u32],
-)
-    requires places { let p : Project = read (table runtime dynamic bounds.now columns.now) importers.now kinds.now targets.now dependencies.now members.now in Places p (length p.member) (length out.old) }
-    requires named { let p : Project = read (table runtime dynamic bounds.now columns.now) importers.now kinds.now targets.now dependencies.now members.now in names_fit (modules p) names.now ≡ true }
-    requires numbered { let p : Project = read (table runtime dynamic bounds.now columns.now) importers.now kinds.now targets.now dependencies.now members.now in numbers.now ≡ numbers_of p }
-    ensures { let p : Project = read (table runtime dynamic bounds.now columns.now) importers.now kinds.now targets.now dependencies.now members.now in out.new ≡ arranged_of p names.now }
+fn arrange_table(current: &Current, names: &[u8], numbers: &[u32], out: &mut [u32])
+    requires places { length out.old ≡ length current.now.member }
+    requires named { names_fit (modules current.now) names.now ≡ true }
+    requires numbered { numbers.now ≡ numbers_of current.now }
+    ensures { out.new ≡ arranged_of current.now names.now }
 {
-    copy_to(members, out);
+    out.copy_from_slice(current.member);
     arrange(
         names,
-        column(bounds, columns, NORMAL),
-        importers,
-        column(bounds, columns, SENSITIVE),
+        current.normal,
+        current.record_module,
+        current.sensitive,
         numbers,
-        column(bounds, columns, MEMBER_CHUNK),
+        current.member_chunk,
         out,
-        rows(bounds, columns, ORDER),
+        current.chunks(),
     );
 }
 
 // The members of a table that has names, arranged, a place a member row.
-pub fn arrange_members<'a>(
-    runtime: u32,
-    dynamic: u32,
-    bounds: &'a [u32],
-    columns: &'a [u32],
-    importers: &'a [u32],
-    kinds: &'a [u32],
-    targets: &'a [u32],
-    dependencies: &'a [u32],
-    members: &'a [u32],
-    names: &'a [u8],
-    out: &mut [u32],
-)
-    requires places { let p : Project = read (table runtime dynamic bounds.now columns.now) importers.now kinds.now targets.now dependencies.now members.now in Places p (length p.member) (length out.old) }
-    requires named { let p : Project = read (table runtime dynamic bounds.now columns.now) importers.now kinds.now targets.now dependencies.now members.now in names_fit (modules p) names.now ≡ true }
-    ensures { let p : Project = read (table runtime dynamic bounds.now columns.now) importers.now kinds.now targets.now dependencies.now members.now in out.new ≡ arranged_of p names.now }
+pub fn arrange_members(current: &Current, names: &[u8], out: &mut [u32])
+    requires places { length out.old ≡ length current.now.member }
+    requires named { names_fit (modules current.now) names.now ≡ true }
+    ensures { out.new ≡ arranged_of current.now names.now }
 {
-    let modules = rows(bounds, columns, NORMAL);
+    let modules = current.modules();
     let mut marks = [0u32; MODULE_LIMIT];
+    let marks = &mut marks[..modules];
     let mut numbers = [0u32; MODULE_LIMIT];
+    let numbers = &mut numbers[..modules];
     let mut sorted = [0u32; MODULE_LIMIT];
-    sort_table(
-        runtime,
-        dynamic,
-        bounds,
-        columns,
-        importers,
-        kinds,
-        targets,
-        dependencies,
-        members,
-        &mut marks[..modules],
-        &mut numbers[..modules],
-        &mut sorted[..modules],
-    );
-    arrange_table(
-        runtime,
-        dynamic,
-        bounds,
-        columns,
-        importers,
-        kinds,
-        targets,
-        dependencies,
-        members,
-        names,
-        &numbers[..modules],
-        out,
-    );
+    let sorted = &mut sorted[..modules];
+    sort_table(current, marks, numbers, sorted);
+    arrange_table(current, names, numbers, out);
 }
 
-// The members of a table as they are read: arranged if it has names, a place a member row.
-#[tactic(auto, using(crate::proofs::OfProject::copied), unfolding(table::specs::Table::read, crate::specs::OfProject::members_read, names::specs::Names::names_in))]
-pub fn read_members<'a>(
-    runtime: u32,
-    dynamic: u32,
-    bounds: &'a [u32],
-    columns: &'a [u32],
-    importers: &'a [u32],
-    kinds: &'a [u32],
-    targets: &'a [u32],
-    dependencies: &'a [u32],
-    members: &'a [u32],
-    names: &'a [u8],
-    out: &mut [u32],
-)
-    requires places { let p : Project = read (table runtime dynamic bounds.now columns.now) importers.now kinds.now targets.now dependencies.now members.now in Places p (length p.member) (length out.old) }
-    requires named { let p : Project = read (table runtime dynamic bounds.now columns.now) importers.now kinds.now targets.now dependencies.now members.now in names_in (modules p) names.now ≡ true }
-    ensures { let p : Project = read (table runtime dynamic bounds.now columns.now) importers.now kinds.now targets.now dependencies.now members.now in out.new ≡ members_read p names.now }
+// Tests a table with its names, and gives it as it is read, its members arranged if it has names.
+#[tactic(auto, using(crate::proofs::OfProject::read_unnamed))]
+pub fn read_named<'a, 't: 'a>(
+    table: &Table<'t>,
+    space: &'a mut ReadSpace,
+    arranged: &'a mut [u32; ROW_LIMIT],
+) -> Result<Current<'a>, Refusal>
+    ensures { ReadAs (as_named table.now) result }
 {
-    if names.len() == 0 {
-        copy_to(members, out);
-        return;
+    let current = read_tested(table, space)?;
+    if table.names.len() == 0 {
+        return Ok(current);
     }
-    arrange_members(
-        runtime,
-        dynamic,
-        bounds,
-        columns,
-        importers,
-        kinds,
-        targets,
-        dependencies,
-        members,
-        names,
-        out,
-    );
+    let rows = current.member.len();
+    let members = &mut arranged[..rows];
+    arrange_members(&current, table.names, members);
+    Ok(current.with_members(members))
 }

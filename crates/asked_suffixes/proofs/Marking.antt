@@ -10,7 +10,6 @@ use Rattle.lists.specs.Words.{keep, elem, has}
 use Rattle.lists.proofs.Laws.{and_parts, and-join, any-mem, mem-any, take_more}
 use Rattle.walk.specs.Close.{Within}
 use Rattle.tables.specs.Project.{Project}
-use Rattle.tables.specs.Accepted.{Accepted}
 use Rattle.expected_order.specs.OfProject.{expected_of}
 use Rattle.sensitivity.specs.Marks.{sensitive_marks}
 use Rattle.eligibility.specs.Eligible.{eligible, eligible_marks}
@@ -51,7 +50,7 @@ module _ (p : Project) (root_list sensitive S : List ℕ) where
       more {r} h = subst (Memᴰ r) (take_more root_list k l) h
 
 -- rule (i) asks for what is eligible of them
-module _ (p : Project) (ok : Accepted p) (S : List ℕ) where
+module _ (p : Project) (S : List ℕ) where
   abbrev order : ℕ → List ℕ
   order root = keep (has (sensitive_marks p)) (expected_of p root)
 
@@ -61,7 +60,7 @@ module _ (p : Project) (ok : Accepted p) (S : List ℕ) where
   same : (m : ℕ) → asks_of m ≡ suffix_asks (eligible p) (orders_of p) S m
   same m =
       ap (λ (f : ℕ → Bool). suffix_asks f (sensitive_orders p (sensitive_marks p) (roots p)) S m) (eligible-marks p)
-      ∙ ap (λ (orders : List (List ℕ)). suffix_asks (eligible p) orders S m) (orders-are p ok)
+      ∙ ap (λ (orders : List (List ℕ)). suffix_asks (eligible p) orders S m) (orders-are p)
 
   pub asks-some : (m : ℕ) → suffix_asks (eligible p) (orders_of p) S m ≡ true → InSome p (roots p) (sensitive_marks p) S m × (has (eligible_marks p) m ≡ true)
   unfolding suffix_asks sensitive_orders

@@ -123,25 +123,19 @@ pub fn gather_circles<'a>(
     let n = normal.len();
     let rows = record_module.len();
     let mut starts = [0u32; MODULE_LIMIT + 1];
-    first_rows(record_module, &mut starts[..n + 1]);
+    let starts = &mut starts[..n + 1];
+    first_rows(record_module, starts);
     let mut seen = [0u32; MODULE_LIMIT];
     let mut led = [0u32; ROW_LIMIT];
+    let led = &mut led[..rows];
     lead_rows(
         normal,
         record_module,
         record_kind,
         record_target,
         &mut seen[..n],
-        &mut led[..rows],
+        led,
         dynamic,
     );
-    write_circles(
-        &starts[..n + 1],
-        &led[..rows],
-        entry,
-        paths,
-        lengths,
-        runtime,
-        n,
-    )
+    write_circles(starts, led, entry, paths, lengths, runtime, n)
 }

@@ -9,7 +9,7 @@ use sort_steps::inner::led;
 use tables::ModuleIdx;
 
 // The module that a row leads to, or the mark if there is none or an earlier row of the same module leads there too. `seen` has, for each module, one more
-// than the last one whose row led to it, or 0.
+// than the last one whose row led to it, or 0. The mark, as the column that it is written to holds it.
 #[tactic(auto, using(crate::proofs::Rows::set_same), unfolding(tables::specs::Readings::resolved))]
 fn lead_once<'a>(
     normal: &'a [u32],

@@ -35,7 +35,7 @@ fn close_path(begun: &[u32], paths: &mut [u32], lengths: &mut [u32], m: u32, fou
 
 // Meets a module: one that has a number is passed, one that is begun closes a path, and any other is begun, its rows are followed in order, and it takes
 // its number. `led` has the module that each row leads to or the mark, `starts` each module's first row, `stack` the begun modules, `depth` of them.
-#[tactic(auto, using(crate::proofs::Turns::path_closed, crate::proofs::Turns::number_passed, crate::proofs::Turns::missing_passed, crate::proofs::Turns::numbered_passed))]
+#[tactic(auto, using(crate::proofs::Turns::path_closed, crate::proofs::Turns::number_passed))]
 pub fn meet<'a>(
     starts: &'a [u32],
     led: &'a [u32],
@@ -65,8 +65,7 @@ pub fn meet<'a>(
     let start = starts[at] as usize;
     let end = starts[at + 1] as usize;
     let mut so_far = found;
-    for row in start..end {
-        let t = led[row];
+    for &t in &led[start..end] {
         if t == ModuleIdx::MISSING {
             continue;
         }

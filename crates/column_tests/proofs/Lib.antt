@@ -1,5 +1,4 @@
--- How the loops of the tests answer as their definitions do. `Chain`: tests that are joined, for the crate above too.
-pub mod Chain
+-- How the loops of the tests answer as their definitions do.
 mod Every
 mod Once
 mod Risen

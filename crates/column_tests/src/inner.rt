@@ -66,8 +66,8 @@ pub fn is_rising(column: &[u32]) -> bool
     ensures { result ≡ rises column.now }
 {
     let mut rising = true;
-    for i in 1..column.len() {
-        rising = rising & (column[i - 1] <= column[i]);
+    for pair in column.windows(2) {
+        rising = rising & (pair[0] <= pair[1]);
     }
     rising
 }
@@ -108,10 +108,9 @@ pub fn uses_own<'a>(
 pub fn plain_symbols<'a>(reference_form: &'a [u32], reference_symbol: &'a [u32]) -> bool
     ensures { result ≡ plain_symbols reference_form.now reference_symbol.now }
 {
-    let rows = reference_form.len().min(reference_symbol.len());
     let mut fit = true;
-    for i in 0..rows {
-        fit = fit & ((reference_form[i] == 2) | (reference_symbol[i] != ModuleIdx::MISSING));
+    for (form, symbol) in reference_form.iter().zip(reference_symbol) {
+        fit = fit & ((*form == 2) | (*symbol != ModuleIdx::MISSING));
     }
     fit
 }
@@ -154,9 +153,9 @@ pub fn imports_once<'a>(import_chunk: &'a [u32], imports: &'a [u32]) -> bool
     ensures { result ≡ imports_once import_chunk.now imports.now }
 {
     let mut stamps = [0u32; CHUNK_LIMIT];
-    for i in 0..import_chunk.len() {
-        let stamp = import_chunk[i] + 1;
-        let to = imports[i] as usize;
+    for (chunk, imported) in import_chunk.iter().zip(imports) {
+        let stamp = *chunk + 1;
+        let to = *imported as usize;
         if stamps[to] == stamp {
             return false;
         }

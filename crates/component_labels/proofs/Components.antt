@@ -1,13 +1,12 @@
 -- How labels come about: the component of a chunk by the marks of two walks, and the labels of the components that the edges so far lead into.
 -- Assumes nothing.
-use Rattle.std.specs.Prelude.{◌≡◌, ℕ, ◌+◌, ◌<◌, ◌≤◌, Bool, true, false, cond, ◌&&◌, List, map, length, get_or, replicate}
+use Rattle.std.specs.Prelude.{◌≡◌, ℕ, ◌+◌, ◌<◌, ◌≤◌, Bool, true, false, cond, ◌&&◌, List, map, length, get_or}
 use mathlib.Core.Path.{sym, ap, ◌∙◌}
 use mathlib.Core.Logic.{⊎_elim}
 use mathlib.Core.Bool.{true≢false}
 use mathlib.Core.List.{Memᴰ}
 use native.Mathlib.Decide.{ℕ_discrete}
 use native.Mathlib.Omega.{arith}
-use lib.ListN.{length-replicate, get_or-replicate}
 use lib.Seq.{ext_get_or}
 use Rattle.lists.specs.Words.{up_to, keep, any, elem, has}
 use Rattle.lists.proofs.Laws.{both, and_parts, and-join, iff-eq, any-mem, mem-any, keep-cong, mem-up_to, has_in, has-marks_of, length-marks_of, get_d-map-up_to, length-map-up_to}
@@ -46,12 +45,15 @@ module _ (from to : List ℕ) (n : ℕ) (g : Graph from to n) where
     reach-behind d k p = has-marks_of (λ (x : ℕ). elem x (reached_from n pred c)) n d k ∙ reach-reached n pred (graph-inside (graph-back g)) c d l (reach-back from to g.lengths p)
 
     -- c is cyclic exactly if one of its edges leads to a chunk that leads to c
-    pub cyclic-test : any (has (reach_marks n pred c)) (succ c) ≡ cyclic n succ c
+    cyclic-test : any (has (reach_marks n pred c)) (succ c) ≡ cyclic n succ c
     unfolding Reach⁺
     cyclic-test =
         iff-eq (any (has (reach_marks n pred c)) (succ c)) (cyclic n succ c)
         (λ e. let r = any-mem (has (reach_marks n pred c)) (succ c) e in reach-cyclic n succ inside c l (r.0, r.1, behind-reach r.0 r.2))
         (λ e. let r = cyclic-reach n succ inside c l e in mem-any (has (reach_marks n pred c)) (succ c) r.1 (reach-behind r.0 (inside c r.0 l r.1) r.2))
+
+    pub led-back : {marks : List ℕ} {r : Bool} → marks ≡ reach_marks n pred c → r ≡ any (has marks) (succ c) → r ≡ cyclic n succ c
+    led-back q e = e ∙ rw q cyclic-test
 
     -- c's component is what both walks meet
     both-test : (d : ℕ) → d < n → in_both (reach_marks n succ c) (reach_marks n pred c) d ≡ connected n succ c d
@@ -109,14 +111,6 @@ pub record LabelledBelow (from to numbers labels : List ℕ) (n row : ℕ) : Typ
   pub targets : (i : ℕ) → i < row → get_or numbers (get_or from i 0) 0 ≤ get_or numbers (get_or to i 0) 0 → cyclic n (values_of from to) (get_or to i 0) ≡ true → get_or labels (get_or to i 0) 0 ≡ missing → ⊥
 
 module _ {from to numbers : List ℕ} {n : ℕ} where
-  pub labelled-start : Graph from to n → (labels : List ℕ) → labels ≡ replicate n missing → LabelledBelow from to numbers labels n 0
-  labelled-start g labels q = record {
-    graph = g;
-    len = ap length q ∙ length-replicate n missing;
-    whole = λ c d l e k. absurd (k (ap (λ (xs : List ℕ). get_or xs c 0) q ∙ get_or-replicate n c missing 0 l));
-    targets = λ i l r y e. omega arith;
-  }
-
   module _ {labels : List ℕ} {row : ℕ} (b : LabelledBelow from to numbers labels n row) where
     abbrev edges : ℕ → List ℕ
     edges = values_of from to
@@ -126,14 +120,6 @@ module _ {from to numbers : List ℕ} {n : ℕ} where
 
     abbrev v : ℕ
     v = get_or to row 0
-
-    -- a row whose target needn't be looked at, or has its label
-    pub labelled-pass : (get_or numbers (get_or from row 0) 0 ≤ get_or numbers v 0 → get_or labels v 0 ≡ missing → ⊥) → LabelledBelow from to numbers labels n (row + 1)
-    labelled-pass k = record { graph = b.graph; len = b.len; whole = b.whole; targets = λ i l. pick i l (ℕ_discrete i row) }
-      where
-        pick : (i : ℕ) → i < row + 1 → Dec (i ≡ row) → get_or numbers (get_or from i 0) 0 ≤ get_or numbers (get_or to i 0) 0 → cyclic n edges (get_or to i 0) ≡ true → get_or labels (get_or to i 0) 0 ≡ missing → ⊥
-        pick i l (yes q) r y e = k (rw q at r) (rw q at e)
-        pick i l (no q) r y e = b.targets i (omega arith) r y e
 
     -- a row whose target's component is labelled, if it is cyclic
     module _ (labels' : List ℕ) (l : row < length from) (q : labels' ≡ component_labelled n edges v labels) where

@@ -22,12 +22,6 @@ zeros-set (suc x ∷ xs) zero (suc y) k = omega arith
 zeros-set (zero ∷ xs) (suc m) (suc y) k = omega (arith, zeros-set xs m (suc y) k)
 zeros-set (suc x ∷ xs) (suc m) (suc y) k = zeros-set xs m (suc y) k
 
-pub numbered-none : (last : ℕ) (numbers : List ℕ) → Numbered last numbers last numbers
-numbered-none last numbers = record { on = omega arith; few = omega arith }
-
-pub numbered-then : {a b c : ℕ} {xs ys zs : List ℕ} → Numbered a xs b ys → Numbered b ys c zs → Numbered a xs c zs
-numbered-then v w = record { on = omega (arith, v.on, w.on); few = omega (arith, v.few, w.few) }
-
 -- m is entered, what it leads to is numbered, and then m
 pub numbered-left : (last count m : ℕ) (old numbers : List ℕ) → is_zero (get_or old m 1) ≡ true → Numbered last (set old m 1) count numbers → Numbered last old (count + 1) (set numbers m (count + 1))
 numbered-left last count m old numbers e v =

@@ -18,14 +18,15 @@ fn first_both(ahead: &[u32], behind: &[u32]) -> u32
     requires behind { length behind.now ≡ length ahead.now }
     ensures { result ≡ first_of (keep (in_both ahead.now behind.now) (up_to (length ahead.now))) }
 {
-    for d in 0..ahead.len() {
-        if ahead[d] == 0 {
+    for (d, &mark) in ahead.iter().enumerate() {
+        if mark == 0 {
             continue;
         }
         if behind[d] != 0 {
             return d as u32;
         }
     }
+    // the mark, as the column that it is written to holds it
     ModuleIdx::MISSING
 }
 
@@ -35,14 +36,14 @@ fn label_both(ahead: &[u32], behind: &[u32], c: u32, labels: &mut [u32])
     requires behind { length behind.now ≡ length labels.old }
     ensures { labels.new ≡ relabelled (in_both ahead.now behind.now) c labels.old }
 {
-    for d in 0..labels.len() {
+    for (d, label) in labels.iter_mut().enumerate() {
         if ahead[d] == 0 {
             continue;
         }
         if behind[d] == 0 {
             continue;
         }
-        labels[d] = c;
+        *label = c;
     }
 }
 
@@ -64,14 +65,16 @@ fn label_component(
 {
     let n = labels.len();
     let mut behind = [0u32; CHUNK_LIMIT];
-    reach(to, from, back_heads, back_nexts, c, &mut behind[..n]);
-    if !leads(from, to, heads, nexts, c, &behind[..n]) {
+    let behind = &mut behind[..n];
+    reach(to, from, back_heads, back_nexts, c, behind);
+    if !leads(from, to, heads, nexts, c, behind) {
         return;
     }
     let mut ahead = [0u32; CHUNK_LIMIT];
-    reach(from, to, heads, nexts, c, &mut ahead[..n]);
-    let lowest = first_both(&ahead[..n], &behind[..n]);
-    label_both(&ahead[..n], &behind[..n], lowest, labels);
+    let ahead = &mut ahead[..n];
+    reach(from, to, heads, nexts, c, ahead);
+    let lowest = first_both(ahead, behind);
+    label_both(ahead, behind, lowest, labels);
 }
 
 // Numbers m and what it leads to, each chunk after those that it leads to, on from `last`; the last number given.
@@ -97,6 +100,7 @@ fn number(
     numbers[at] = 1;
     let mut count = last;
     let mut row = heads[at] as usize;
+    // a thread: each row names the next
     while row < from.len() {
         count = number(from, to, heads, nexts, to[row], count, numbers);
         row = nexts[row] as usize;
@@ -110,6 +114,7 @@ fn number_all(from: &[u32], to: &[u32], heads: &[u32], nexts: &[u32], numbers: &
     requires rows { Threaded from.now to.now heads.now nexts.now (length numbers.old) }
 {
     let mut last = 0;
+    // by number: each call writes into `numbers`
     for c in 0..numbers.len() {
         last = number(from, to, heads, nexts, c as u32, last, numbers);
     }
@@ -132,10 +137,10 @@ fn label_rows(
     let n = labels.len();
     labels.fill(ModuleIdx::MISSING);
     let mut numbers = [0u32; CHUNK_LIMIT];
-    number_all(from, to, heads, nexts, &mut numbers[..n]);
-    for row in 0..from.len() {
-        let c = to[row];
-        if numbers[c as usize] < numbers[from[row] as usize] {
+    let numbers = &mut numbers[..n];
+    number_all(from, to, heads, nexts, numbers);
+    for (&source, &c) in from.iter().zip(to) {
+        if numbers[c as usize] < numbers[source as usize] {
             continue;
         }
         if labels[c as usize] != ModuleIdx::MISSING {

@@ -1,15 +1,15 @@
 // For crates above, on tested tables.
 ghost use Rattle.std.specs.Prelude.{◌≡◌, true, length};
 ghost use Rattle.lists.specs.Words.{has};
-ghost use Rattle.tables.specs.Project.{Project, missing};
+ghost use Rattle.tables.specs.Project.{missing};
 ghost use Rattle.marks.specs.Steps.{looked, Owners, Added};
 ghost use Rattle.component_rule.specs.inner.Members.{Together, Members, ComponentSets, ComponentPassed};
-ghost use Rattle.table.specs.Table.{table, read};
 ghost use Rattle.wrap_rules.specs.inner.Passes.{Marked};
 
+use current_columns::inner::Current;
 use lists::inner::count_marked;
 use marks::inner::{add, look_up, mark_owners, raise, value_at};
-use table::{CHUNK, CHUNK_LIMIT, MEMBER_CHUNK, MODULE_LIMIT, column};
+use table::{CHUNK_LIMIT, MODULE_LIMIT};
 use tables::ModuleIdx;
 
 // Marks the labels of the planned modules' chunks, where they have a place.
@@ -39,45 +39,38 @@ pub fn close_cyclic_chunk_members(
     requires { Members chunk.now member_chunk.now member.now labels.now sensitive.now eligible.now (length plan.old) }
     ensures { Added (λ m. Together chunk.now member_chunk.now member.now labels.now plan.old m × (has sensitive.now m ≡ true) × (has eligible.now m ≡ true)) plan.old plan.new result }
 {
-    let n = plan.len();
-    let c = labels.len();
     let mut hits = [0u32; CHUNK_LIMIT];
-    mark_labels(chunk, labels, plan, &mut hits[..c]);
-    if count_marked(&hits[..c]) == 0 {
+    let mut chunks = [0u32; CHUNK_LIMIT];
+    let mut marks = [0u32; MODULE_LIMIT];
+    let hits = &mut hits[..labels.len()];
+    let chunks = &mut chunks[..labels.len()];
+    let marks = &mut marks[..plan.len()];
+    mark_labels(chunk, labels, plan, hits);
+    if count_marked(hits) == 0 {
         return false;
     }
     // the chunks that have these labels, and then their members
-    let mut chunks = [0u32; CHUNK_LIMIT];
-    look_up(labels, &hits[..c], &mut chunks[..c], 0);
-    let mut marks = [0u32; MODULE_LIMIT];
-    mark_owners(member, member_chunk, &chunks[..c], &mut marks[..n]);
-    add(&marks[..n], sensitive, eligible, plan)
+    look_up(labels, hits, chunks, 0);
+    mark_owners(member, member_chunk, chunks, marks);
+    add(marks, sensitive, eligible, plan)
 }
 
 // The pass over a table. Whether any module was added.
-pub fn pass_members<'a>(
-    runtime: u32,
-    dynamic: u32,
-    bounds: &'a [u32],
-    columns: &'a [u32],
-    importers: &'a [u32],
-    kinds: &'a [u32],
-    targets: &'a [u32],
-    dependencies: &'a [u32],
-    members: &'a [u32],
+pub fn pass_members(
+    current: &Current,
     labels: &[u32],
     sensitive: &[u32],
     eligible: &[u32],
     plan: &mut [u32],
 ) -> bool
-    requires sets { let p : Project = read (table runtime dynamic bounds.now columns.now) importers.now kinds.now targets.now dependencies.now members.now in ComponentSets p labels.now sensitive.now eligible.now }
-    requires plan { let p : Project = read (table runtime dynamic bounds.now columns.now) importers.now kinds.now targets.now dependencies.now members.now in Marked p plan.old }
-    ensures { let p : Project = read (table runtime dynamic bounds.now columns.now) importers.now kinds.now targets.now dependencies.now members.now in ComponentPassed p plan.old plan.new result }
+    requires sets { ComponentSets current.now labels.now sensitive.now eligible.now }
+    requires plan { Marked current.now plan.old }
+    ensures { ComponentPassed current.now plan.old plan.new result }
 {
     close_cyclic_chunk_members(
-        column(bounds, columns, CHUNK),
-        column(bounds, columns, MEMBER_CHUNK),
-        members,
+        current.chunk,
+        current.member_chunk,
+        current.member,
         labels,
         sensitive,
         eligible,

@@ -1,2 +1,2 @@
--- Columns as they are read.
-pub mod inner
+-- A tested table, as it is read.
+pub mod AsProject

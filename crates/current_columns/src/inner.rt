@@ -1,48 +1,192 @@
-// For crates above, on tested tables.
-ghost use Rattle.std.specs.Prelude.{◌≡◌, ◌≤◌, true, length};
-ghost use Rattle.tables.specs.Refusal.{module_limit, row_limit, newer_fits};
+// For crates above: a tested table, as it is read.
+ghost use Rattle.std.specs.Prelude.{◌≡◌, ◌≤◌, map, length};
+ghost use Rattle.tables.specs.Readings.{modules, chunks};
+ghost use Rattle.tables.specs.Refusal.{module_limit, chunk_limit, row_limit};
 ghost use Rattle.tables.specs.Accepted.{Accepted};
-ghost use Rattle.table.specs.Table.{column_at};
+ghost use Rattle.lists.specs.Words.{up_to};
+ghost use Rattle.replacement.specs.Replacement.{latest, as_read};
+ghost use Rattle.table.specs.Table.{current};
 ghost use Rattle.table.specs.Lending.{written};
-ghost use Rattle.current_columns.specs.inner.Columns.{Columns};
 
 use replacement::inner::{find_latest, read_through};
-use table::{DEPENDENCY, MODULE_LIMIT, NEWER, Table};
+use std::marker::Model;
+use table::{
+    CANONICAL, CHAIN_LINK, CHAIN_SYMBOL, CHUNK, DEPENDED, DEPENDED_REFERENCE, DEPENDENCY,
+    DEPENDENCY_MODULE, ENTRY, ENTRY_CHUNK, EXPORTS, IMPORT_CHUNK, IMPORTS, INCLUDED, MEMBER,
+    MEMBER_CHUNK, MODULE_LIMIT, NEWER, NORMAL, ORDER, OWNER, READS, REFERENCE_FORM,
+    REFERENCE_STATEMENT, REFERENCE_SYMBOL, ROW_LIMIT, SEED, SENSITIVE, STATEMENT_INCLUDED,
+    STATEMENT_MODULE, Table, USE_RECORD, USE_STATEMENT, WRAP,
+};
 
-// Makes the columns of targets and of dependencies as they are read, from place 0.
-fn read_columns<'a>(
-    newer: &'a [u32],
-    targets: &'a [u32],
-    dependencies: &'a [u32],
-    read_targets: &mut [u32],
-    read_dependencies: &mut [u32],
-)
-    requires fits { newer_fits newer.now ≡ true }
-    requires rows { (length newer.now ≤ module_limit) × (length targets.now ≤ row_limit) × (length dependencies.now ≤ row_limit) }
-    requires room { (length read_targets.old ≡ row_limit) × (length read_dependencies.old ≡ row_limit) }
-    ensures { Columns newer.now targets.now dependencies.now read_targets.new read_dependencies.new }
-{
-    let n = newer.len();
-    let records = targets.len();
-    let rows = dependencies.len();
-    let mut found = [0u32; MODULE_LIMIT];
-    find_latest(newer, &mut found[..n]);
-    read_through(&found[..n], targets, &mut read_targets[..records]);
-    read_through(&found[..n], dependencies, &mut read_dependencies[..rows]);
+// Room for the columns that aren't read as they were lent: record targets and dependencies.
+#[derive(Drop)]
+pub struct ReadSpace {
+    pub targets: [u32; ROW_LIMIT],
+    pub dependencies: [u32; ROW_LIMIT],
 }
 
-// Makes the columns of targets and of dependencies of a table as they are read, from place 0.
-#[tactic(auto, unfolding(table::specs::Table::table, table::specs::Table::read))]
-pub fn read_current(table: &Table, read_targets: &mut [u32], read_dependencies: &mut [u32])
-    requires accepted { Accepted (written table.now) }
-    requires room { (length read_targets.old ≡ row_limit) × (length read_dependencies.old ≡ row_limit) }
-    ensures { Columns (column_at table.now.bounds.now table.now.columns.now 7) table.now.targets.now (column_at table.now.bounds.now table.now.columns.now 12) read_targets.new read_dependencies.new }
+impl ReadSpace {
+    pub const EMPTY: ReadSpace = ReadSpace {
+        targets: [0; ROW_LIMIT],
+        dependencies: [0; ROW_LIMIT],
+    };
+}
+
+// A table that passed the tests, as it is read: record targets and dependencies through `newer`, all else as it was lent. Contracts see the project that it is.
+#[derive(Drop)]
+pub struct Current<'a> {
+    pub runtime: u32,
+    pub dynamic: u32,
+    pub normal: &'a [u32],
+    pub included: &'a [u32],
+    pub sensitive: &'a [u32],
+    pub reads: &'a [u32],
+    pub exports: &'a [u32],
+    pub wrap: &'a [u32],
+    pub chunk: &'a [u32],
+    pub newer: &'a [u32],
+    pub record_module: &'a [u32],
+    pub record_kind: &'a [u32],
+    pub record_target: &'a [u32],
+    pub dependency_module: &'a [u32],
+    pub dependency: &'a [u32],
+    pub statement_module: &'a [u32],
+    pub statement_included: &'a [u32],
+    pub use_statement: &'a [u32],
+    pub use_record: &'a [u32],
+    pub owner: &'a [u32],
+    pub canonical: &'a [u32],
+    pub chain_symbol: &'a [u32],
+    pub chain_link: &'a [u32],
+    pub reference_statement: &'a [u32],
+    pub reference_form: &'a [u32],
+    pub reference_symbol: &'a [u32],
+    pub depended_reference: &'a [u32],
+    pub depended: &'a [u32],
+    pub order: &'a [u32],
+    pub member_chunk: &'a [u32],
+    pub member: &'a [u32],
+    pub import_chunk: &'a [u32],
+    pub imports: &'a [u32],
+    pub entry: &'a [u32],
+    pub entry_chunk: &'a [u32],
+    pub seed: &'a [u32],
+}
+
+impl<'a> Model for Current<'a> {
+    ghost use Rattle.tables.specs.Project.{Project};
+
+    ghost Value = { Project };
+
+    ghost use Rattle.tables.specs.Accepted.{Accepted};
+    ghost use Rattle.current_columns.specs.AsProject.{project};
+
+    ghost view = { project };
+
+    ghost invariant = { λ c. Accepted (project c) };
+}
+
+impl<'a> Current<'a> {
+    // How many modules there are.
+    #[tactic(auto, unfolding(crate::specs::AsProject::project))]
+    pub fn modules(&self) -> usize
+        ensures count { result ≡ modules self.now }
+        ensures few { result ≤ module_limit }
+        ensures accepted { Accepted self.now }
+    {
+        self.normal.len()
+    }
+
+    // How many chunks there are.
+    #[tactic(auto, unfolding(crate::specs::AsProject::project))]
+    pub fn chunks(&self) -> usize
+        ensures count { result ≡ chunks self.now }
+        ensures few { result ≤ chunk_limit }
+        ensures accepted { Accepted self.now }
+    {
+        self.order.len()
+    }
+
+    // The same with other members.
+    pub fn with_members<'b>(&self, member: &'b [u32]) -> Current<'b>
+    where
+        'a: 'b,
+        requires { Accepted (record self.now { member = member.now }) }
+        ensures { result ≡ record self.now { member = member.now } }
+    {
+        Current { member, ..*self }
+    }
+}
+
+// A column as it is read, at the front of an array; `found` has the module that is read for each.
+fn read_column<'a>(
+    newer: &[u32],
+    found: &[u32],
+    column: &[u32],
+    out: &'a mut [u32; ROW_LIMIT],
+) -> &'a [u32]
+    requires found { found.now ≡ map (latest newer.now) (up_to (length newer.now)) }
+    requires rows { length column.now ≤ row_limit }
+    ensures { result.now ≡ as_read newer.now column.now }
 {
-    read_columns(
-        table.column(NEWER),
-        table.targets,
-        table.column(DEPENDENCY),
-        read_targets,
-        read_dependencies,
-    );
+    let part = &mut out[..column.len()];
+    read_through(found, column, part);
+    part
+}
+
+// The table as it is read.
+#[tactic(auto, unfolding(table::specs::Table::table, table::specs::Table::read, table::specs::Table::current, crate::specs::AsProject::project))]
+pub fn read_table<'a, 't: 'a>(table: &Table<'t>, space: &'a mut ReadSpace) -> Current<'a>
+    requires written { Accepted (written table.now) }
+    requires read { Accepted (current (written table.now)) }
+    ensures { result ≡ current (written table.now) }
+{
+    let newer = table.column(NEWER);
+    let mut found = [0u32; MODULE_LIMIT];
+    let found = &mut found[..newer.len()];
+    find_latest(newer, found);
+    let ReadSpace {
+        targets,
+        dependencies,
+    } = space;
+    let record_target = read_column(newer, found, table.targets, targets);
+    let dependency = read_column(newer, found, table.column(DEPENDENCY), dependencies);
+    Current {
+        runtime: table.runtime,
+        dynamic: table.dynamic,
+        normal: table.column(NORMAL),
+        included: table.column(INCLUDED),
+        sensitive: table.column(SENSITIVE),
+        reads: table.column(READS),
+        exports: table.column(EXPORTS),
+        wrap: table.column(WRAP),
+        chunk: table.column(CHUNK),
+        newer,
+        record_module: table.importers,
+        record_kind: table.kinds,
+        record_target,
+        dependency_module: table.column(DEPENDENCY_MODULE),
+        dependency,
+        statement_module: table.column(STATEMENT_MODULE),
+        statement_included: table.column(STATEMENT_INCLUDED),
+        use_statement: table.column(USE_STATEMENT),
+        use_record: table.column(USE_RECORD),
+        owner: table.column(OWNER),
+        canonical: table.column(CANONICAL),
+        chain_symbol: table.column(CHAIN_SYMBOL),
+        chain_link: table.column(CHAIN_LINK),
+        reference_statement: table.column(REFERENCE_STATEMENT),
+        reference_form: table.column(REFERENCE_FORM),
+        reference_symbol: table.column(REFERENCE_SYMBOL),
+        depended_reference: table.column(DEPENDED_REFERENCE),
+        depended: table.column(DEPENDED),
+        order: table.column(ORDER),
+        member_chunk: table.column(MEMBER_CHUNK),
+        member: table.column(MEMBER),
+        import_chunk: table.column(IMPORT_CHUNK),
+        imports: table.column(IMPORTS),
+        entry: table.column(ENTRY),
+        entry_chunk: table.column(ENTRY_CHUNK),
+        seed: table.column(SEED),
+    }
 }

@@ -1,4 +1,4 @@
-// Record targets and dependencies as they are read, made once a call.
+// A tested table as it is read: record targets and dependencies are read through `newer`, once a call.
 #![tactic(auto)]
 
 pub mod inner;

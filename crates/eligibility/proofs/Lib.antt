@@ -1,4 +1,3 @@
--- `Eligible`: eligible modules have a row. `Facts`: facts as numbers, and their product. `OfTable`: the marks of a project.
+-- `Eligible`: eligible modules have a row. `OfTable`: the marks of a project, and what making them asks.
 pub mod Eligible
-pub mod Facts
 pub mod OfTable

@@ -2,19 +2,18 @@
 ghost use Rattle.std.specs.Prelude.{◌≡◌, ◌<◌, ◌≤◌, length};
 ghost use Rattle.lists.specs.Words.{keep, zeros};
 ghost use Rattle.walk.specs.Walk.{Visits, place, everywhere};
-ghost use Rattle.tables.specs.Project.{Project};
 ghost use Rattle.tables.specs.Accepted.{Below};
 ghost use Rattle.tables.specs.Lookups.{FirstRows};
 ghost use Rattle.tables.specs.Readings.{flagged};
-ghost use Rattle.table.specs.Table.{table, read};
 ghost use Rattle.expected_visit.specs.Visit.{Fit, held};
 ghost use Rattle.expected_order.specs.Expected.{normal_imports_of};
 ghost use Rattle.entries_order.specs.Entries.{is_walked, entries_order};
 ghost use Rattle.entries_order.specs.OfEntries.{expected_of_entries};
 ghost use Rattle.entries_order.specs.inner.Walked.{Written, Entered};
 
+use current_columns::inner::Current;
 use expected_visit::inner::visit;
-use table::{INCLUDED, MODULE_LIMIT, NORMAL, column};
+use table::MODULE_LIMIT;
 use tables::inner::first_rows;
 
 // Visits the entries in turn, the marks kept between them; one that isn't included, or is external, is passed over. How many are listed then.
@@ -38,8 +37,7 @@ fn visit_entries<'a>(
     ensures { Visits (normal_imports_of normal.now record_module.now record_kind.now record_target.now) everywhere (place (flagged included.now)) (held marks.old order.old 0) (keep (is_walked normal.now included.now) entries.now) (held marks.new order.new result) }
 {
     let mut count = 0;
-    for k in 0..entries.len() {
-        let e = entries[k];
+    for &e in entries {
         let at = e as usize;
         if included[at] != 1 {
             continue;
@@ -80,44 +78,34 @@ fn expected_order_for_entries<'a>(
 {
     let n = normal.len();
     let mut starts = [0u32; MODULE_LIMIT + 1];
-    first_rows(record_module, &mut starts[..n + 1]);
+    let starts = &mut starts[..n + 1];
+    first_rows(record_module, starts);
     let mut marks = [0u32; MODULE_LIMIT];
+    let marks = &mut marks[..n];
     visit_entries(
         normal,
         included,
         record_module,
         record_kind,
         record_target,
-        &starts[..n + 1],
+        starts,
         entries,
-        &mut marks[..n],
+        marks,
         order,
     )
 }
 
 // The expected order of rows of an accepted project, walked together.
-pub fn list_entries<'a>(
-    runtime: u32,
-    dynamic: u32,
-    bounds: &'a [u32],
-    columns: &'a [u32],
-    importers: &'a [u32],
-    kinds: &'a [u32],
-    targets: &'a [u32],
-    dependencies: &'a [u32],
-    members: &'a [u32],
-    entries: &[u32],
-    order: &mut [u32],
-) -> usize
-    requires entered { let p : Project = read (table runtime dynamic bounds.now columns.now) importers.now kinds.now targets.now dependencies.now members.now in Entered p entries.now (length order.old) }
-    ensures { let p : Project = read (table runtime dynamic bounds.now columns.now) importers.now kinds.now targets.now dependencies.now members.now in Written (expected_of_entries p entries.now) order.old order.new result }
+pub fn list_entries(current: &Current, entries: &[u32], order: &mut [u32]) -> usize
+    requires entered { Entered current.now entries.now (length order.old) }
+    ensures { Written (expected_of_entries current.now entries.now) order.old order.new result }
 {
     expected_order_for_entries(
-        column(bounds, columns, NORMAL),
-        column(bounds, columns, INCLUDED),
-        importers,
-        kinds,
-        targets,
+        current.normal,
+        current.included,
+        current.record_module,
+        current.record_kind,
+        current.record_target,
         entries,
         order,
     )

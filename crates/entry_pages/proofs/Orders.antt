@@ -1,7 +1,7 @@
 -- The members of an order that pass a test are an order; what was listed, as an array holds it.
 -- Assumes nothing.
 use Rattle.std.specs.Prelude.{◌≡◌, ℕ, ◌≤◌, Bool, List, length, take, drop}
-use mathlib.Core.Path.{sym, ap, subst, ◌∙◌}
+use mathlib.Core.Path.{sym, ap, ◌∙◌}
 use native.Mathlib.Omega.{arith}
 use lib.ListN.{length-append}
 use lib.Seq.{take_at, length-take-le}
@@ -12,7 +12,6 @@ use Rattle.lists.proofs.Distinct.{few-distinct}
 use Rattle.tables.proofs.Accepted.{below-mem}
 use Rattle.risk_of_orders.specs.inner.Steps.{Order}
 use Rattle.page_rows.specs.inner.Steps.{Members, Listed}
-use Rattle.page_text.specs.inner.Sheets.{Orders}
 
 module _ (f : ℕ → Bool) (xs : List ℕ) (n : ℕ) (o : Order xs n) where
   pub keep-order : Order (keep f xs) n
@@ -37,12 +36,3 @@ module _ {list old new : List ℕ} {r : ℕ} (w : Listed list old new r) where
 
   pub held-part : r ≡ length (take r new)
   held-part = sym (length-take-le r new held-room)
-
--- two lists that were kept, as the arrays hold them
-pub held-orders : (f : ℕ → Bool) (xs ys : List ℕ) (n : ℕ) → n ≤ 4096 → Order xs n → Order ys n → {old old' new new' : List ℕ} {r r' : ℕ}
-    → Listed (keep f xs) old new r → Listed (keep f ys) old' new' r' → Orders (take r new) (take r' new') n
-held-orders f xs ys n few o q w v = record {
-  few = few;
-  expected_order = subst (λ (l : List ℕ). Order l n) (sym (held-is w)) (keep-order f xs n o);
-  actual_order = subst (λ (l : List ℕ). Order l n) (sym (held-is v)) (keep-order f ys n q);
-}

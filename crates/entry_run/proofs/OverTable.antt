@@ -24,10 +24,7 @@ use Rattle.entry_run.proofs.Columns.{spans, named_by, leads-named, triggers-insi
 use Rattle.entry_run.proofs.Hosting.{turns-kept, turns-written}
 use Rattle.entry_run.proofs.Chunks.{run-in-turn}
 
-module _ (p : Project) (wraps prepared : List ℕ) (k : PreparedAs p wraps prepared) (root chunk : ℕ) (order hosts : List ℕ) (l : Listing p root chunk (length order) (length hosts)) where
-  abbrev ok : Accepted p
-  ok = l.accepted
-
+module _ (p : Project) (ok : Accepted p) (wraps prepared : List ℕ) (k : PreparedAs p wraps prepared) (root chunk : ℕ) (order hosts : List ℕ) (l : Listing p root chunk (length order) (length hosts)) where
   abbrev n : ℕ
   n = modules p
 
@@ -76,44 +73,31 @@ module _ (p : Project) (wraps prepared : List ℕ) (k : PreparedAs p wraps prepa
       ∙ ap (λ (f : ℕ → List ℕ). keep (executes p.normal p.included) (hosts_in_turn wraps p.member_chunk p.member f (chunks p) root chunk)) k.same
       ∙ ap (λ (c : ℕ). keep (executes p.normal p.included) (hosts_in_turn wraps p.member_chunk p.member load (chunks p) root c)) l.entry.from
 
-  -- with counts that are the project's, the visits may begin
-  module _ (n' chunks' imports' : ℕ) (e : n' ≡ n) (f : chunks' ≡ chunks p) (g : imports' ≡ imports) where
-    pub runnable : Runnable (ways_in n' prepared) (starts_in n' prepared) (triggers_in records prepared) p.member (member_starts_in chunks' prepared) (load_starts_in chunks' prepared) (loads_in imports' prepared) order hosts chunks' root chunk
-    runnable =
-        subst (λ (i : ℕ). Runnable (ways_in i prepared) (starts_in i prepared) (triggers_in records prepared) p.member (member_starts_in chunks' prepared) (load_starts_in chunks' prepared) (loads_in imports' prepared) order hosts chunks' root chunk) (sym e)
-        (subst (λ (i : ℕ). Runnable (ways_in n prepared) (starts_in n prepared) (triggers_in records prepared) p.member (member_starts_in i prepared) (load_starts_in i prepared) (loads_in imports' prepared) order hosts i root chunk) (sym f)
-        (subst (λ (i : ℕ). Runnable (ways_in n prepared) (starts_in n prepared) (triggers_in records prepared) p.member (member_starts_in (chunks p) prepared) (load_starts_in (chunks p) prepared) (loads_in i prepared) order hosts (chunks p) root chunk) (sym g)
-        (record {
-          each = ways-length ∙ sym l.size;
-          spans = subst (Spans (starts_in n prepared) (length (triggers_in records prepared))) (sym l.size) (spans k.parts.starts n (length (triggers_in records prepared)) (omega (arith, starts-length)) triggers-length);
-          triggered = subst (λ (i : ℕ). BelowOrMissing i (triggers_in records prepared)) (sym l.size) triggers-in;
-          members = subst (λ (i : ℕ). Below i p.member) (sym l.size) ok.values.member;
-          parts = spans k.parts.member_starts (chunks p) (length p.member) (omega (arith, member-length)) ok.sizes.member;
-          loading = spans k.parts.load_starts (chunks p) (length (loads_in imports prepared)) (omega (arith, load-length)) k.parts.loading.lengths;
-          loaded = λ i h. inl (k.parts.loading.inside i h);
-          modules = omega (arith, l.size, ok.sizes.normal);
-          places = ok.sizes.order;
-          root_in = omega (arith, l.size, l.entry.within);
-          chunk_in = l.entry.inside;
-          room = omega (arith, l.size, l.room);
-        })))
+  -- the visits may begin
+  pub runnable : Runnable (ways_in n prepared) (starts_in n prepared) (triggers_in records prepared) p.member (member_starts_in (chunks p) prepared) (load_starts_in (chunks p) prepared) (loads_in imports prepared) order hosts (chunks p) root chunk
+  runnable = record {
+    each = ways-length ∙ sym l.size;
+    spans = subst (Spans (starts_in n prepared) (length (triggers_in records prepared))) (sym l.size) (spans k.parts.starts n (length (triggers_in records prepared)) (omega (arith, starts-length)) triggers-length);
+    triggered = subst (λ (i : ℕ). BelowOrMissing i (triggers_in records prepared)) (sym l.size) triggers-in;
+    members = subst (λ (i : ℕ). Below i p.member) (sym l.size) ok.values.member;
+    parts = spans k.parts.member_starts (chunks p) (length p.member) (omega (arith, member-length)) ok.sizes.member;
+    loading = spans k.parts.load_starts (chunks p) (length (loads_in imports prepared)) (omega (arith, load-length)) k.parts.loading.lengths;
+    loaded = λ i h. inl (k.parts.loading.inside i h);
+    modules = omega (arith, l.size, ok.sizes.normal);
+    places = ok.sizes.order;
+    root_in = omega (arith, l.size, l.entry.within);
+    chunk_in = l.entry.inside;
+    room = omega (arith, l.size, l.room);
+  }
 
-    -- and what they make is the run
-    pub made-listed : (order' hosts' : List ℕ) (r : ℕ)
-        → (foldl (hosted (leads (starts_in n' prepared) (triggers_in records prepared))) (executing (replicate (length hosts) 0) order (replicate (length hosts) missing) 0)
-        (turns (ways_in n' prepared) p.member (member_starts_in chunks' prepared) (load_starts_in chunks' prepared) (loads_in imports' prepared) chunks' root chunk)).made ≡ filling order' hosts' r
-        → Listed (run_of p wraps root) order order' hosts' r
-    made-listed order' hosts' r made =
-        let run : ℕ → ℕ → ℕ → ℕ → Filling = λ i j c d.
-        (foldl (hosted (leads (starts_in j prepared) (triggers_in records prepared))) (executing (replicate i 0) order (replicate i missing) 0)
-        (turns (ways_in j prepared) p.member (member_starts_in c prepared) (load_starts_in c prepared) (loads_in d prepared) c root chunk)).made in
-        let in-turn : List ℕ = hosts_in_turn wraps p.member_chunk p.member load (chunks p) root (entry_chunk_of p root) in
-        subst (λ (x : Executed). Listed x order order' hosts' r) (sym (run-in-turn p wraps root))
-        (turns-written p.normal p.included wraps p.record_module p.record_kind p.record_target n refl (leads (starts_in n prepared) (triggers_in records prepared)) triggers-are in-turn order order' hosts' r l.room
-        (sym
-        (ap (λ (i : ℕ). run i n' chunks' imports') l.size
-        ∙ ap (λ (j : ℕ). run n j chunks' imports') e
-        ∙ ap (λ (c : ℕ). run n n c imports') f
-        ∙ ap (λ (d : ℕ). run n n (chunks p) d) g
-        ∙ ap (λ (h : List ℕ). (foldl (hosted (leads (starts_in n prepared) (triggers_in records prepared))) (executing (replicate n 0) order (replicate n missing) 0) h).made) turns-are)
-        ∙ made))
+  -- and what they make is the run
+  pub made-listed : (order' hosts' : List ℕ) (r : ℕ)
+      → (foldl (hosted (leads (starts_in n prepared) (triggers_in records prepared))) (executing (replicate (length hosts) 0) order (replicate (length hosts) missing) 0)
+      (turns (ways_in n prepared) p.member (member_starts_in (chunks p) prepared) (load_starts_in (chunks p) prepared) (loads_in imports prepared) (chunks p) root chunk)).made ≡ filling order' hosts' r
+      → Listed (run_of p wraps root) order order' hosts' r
+  made-listed order' hosts' r made =
+      let run : ℕ → List ℕ → Filling = λ i hosts-in-turn. (foldl (hosted (leads (starts_in n prepared) (triggers_in records prepared))) (executing (replicate i 0) order (replicate i missing) 0) hosts-in-turn).made in
+      let in-turn : List ℕ = hosts_in_turn wraps p.member_chunk p.member load (chunks p) root (entry_chunk_of p root) in
+      subst (λ (x : Executed). Listed x order order' hosts' r) (sym (run-in-turn p wraps root))
+      (turns-written p.normal p.included wraps p.record_module p.record_kind p.record_target n refl (leads (starts_in n prepared) (triggers_in records prepared)) triggers-are in-turn order order' hosts' r l.room
+      (sym (ap (λ (i : ℕ). run i (turns (ways_in n prepared) p.member (member_starts_in (chunks p) prepared) (load_starts_in (chunks p) prepared) (loads_in imports prepared) (chunks p) root chunk)) l.size ∙ ap (run n) turns-are) ∙ made))

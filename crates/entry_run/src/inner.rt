@@ -1,11 +1,8 @@
 // For crates above, on tested tables.
-ghost use Rattle.std.specs.Prelude.{◌≡◌, true, length, replicate};
+ghost use Rattle.std.specs.Prelude.{◌≡◌, length, replicate};
 ghost use mathlib.Core.List.{foldl};
-ghost use Rattle.tables.specs.Project.{Project, missing};
+ghost use Rattle.tables.specs.Project.{missing};
 ghost use Rattle.tables.specs.Readings.{modules};
-ghost use Rattle.names.specs.Names.{names_in};
-ghost use Rattle.table.specs.Table.{table, read};
-ghost use Rattle.arrangement.specs.OfProject.{named};
 ghost use Rattle.visit_columns.specs.inner.OverTable.{Prepared};
 ghost use Rattle.visit_steps.specs.inner.Steps.{leads, filling};
 ghost use Rattle.module_visits.specs.inner.Visits.{executing, hosted};
@@ -13,10 +10,10 @@ ghost use Rattle.entry_run.specs.Actual.{run_of};
 ghost use Rattle.entry_run.specs.inner.Cores.{turns, Runnable, Listed};
 ghost use Rattle.entry_run.specs.inner.OverTable.{Listing, PreparedSome, ListedAs};
 
-use arrangement::inner::read_members;
 use chunk_visits::inner::visit_and_execute;
+use current_columns::inner::Current;
 use lists::inner::fill;
-use table::{CHUNK_LIMIT, IMPORT_CHUNK, MODULE_LIMIT, ORDER, ROW_LIMIT, rows};
+use table::{CHUNK_LIMIT, MODULE_LIMIT};
 use tables::ModuleIdx;
 use visit_columns::inner::{
     LOAD_STARTS, LOADS, MEMBER_STARTS, PREPARED, STARTS, TRIGGERS, prepare_table,
@@ -41,9 +38,10 @@ fn actual_order_for_root<'a>(
     requires { Runnable ways.now starts.now triggers.now member.now member_starts.now load_starts.now loads.now order.old hosts.old chunks root chunk }
     ensures { (foldl (hosted (leads starts.now triggers.now)) (executing (replicate (length hosts.old) 0) order.old (replicate (length hosts.old) missing) 0) (turns ways.now member.now member_starts.now load_starts.now loads.now chunks root chunk)).made ≡ filling order.new hosts.new result }
 {
-    let n = hosts.len();
     let mut marks = [0u32; MODULE_LIMIT];
+    let marks = &mut marks[..hosts.len()];
     let mut chunk_marks = [0u32; CHUNK_LIMIT];
+    let chunk_marks = &mut chunk_marks[..chunks];
     fill(hosts, ModuleIdx::MISSING);
     let none = ActualOrderTraversal { placed: 0, next: 0 };
     let last = [root; 1];
@@ -56,8 +54,8 @@ fn actual_order_for_root<'a>(
         load_starts,
         loads,
         &last,
-        &mut chunk_marks[..chunks],
-        &mut marks[..n],
+        chunk_marks,
+        marks,
         order,
         hosts,
         chunk,
@@ -68,43 +66,36 @@ fn actual_order_for_root<'a>(
 
 // The run of an entry of a table, a root with its entry chunk, with the wraps that `prepared` was made with: its list written to `order` from place 0, and
 // its hosts, a place a module. How many are listed.
+#[tactic(auto, unfolding(current_columns::specs::AsProject::project))]
 pub fn list_prepared<'a>(
-    runtime: u32,
-    dynamic: u32,
-    bounds: &'a [u32],
-    columns: &'a [u32],
-    importers: &'a [u32],
-    kinds: &'a [u32],
-    targets: &'a [u32],
-    dependencies: &'a [u32],
-    members: &'a [u32],
+    current: &Current,
     prepared: &'a [u32],
     order: &mut [u32],
     hosts: &mut [u32],
     root: u32,
     chunk: u32,
 ) -> usize
-    requires prepared { let p : Project = read (table runtime dynamic bounds.now columns.now) importers.now kinds.now targets.now dependencies.now members.now in PreparedSome p prepared.now }
-    requires places { let p : Project = read (table runtime dynamic bounds.now columns.now) importers.now kinds.now targets.now dependencies.now members.now in Listing p root chunk (length order.old) (length hosts.old) }
-    ensures { let p : Project = read (table runtime dynamic bounds.now columns.now) importers.now kinds.now targets.now dependencies.now members.now in ListedAs p prepared.now root order.old order.new hosts.new result }
+    requires prepared { PreparedSome current.now prepared.now }
+    requires places { Listing current.now root chunk (length order.old) (length hosts.old) }
+    ensures { ListedAs current.now prepared.now root order.old order.new hosts.new result }
 {
-    let modules = hosts.len();
-    let chunks = rows(bounds, columns, ORDER);
+    let modules = current.normal.len();
+    let chunks = current.order.len();
     let starts = STARTS;
     let starts_end = STARTS + modules + 1;
     let triggers = TRIGGERS;
-    let triggers_end = TRIGGERS + importers.len();
+    let triggers_end = TRIGGERS + current.record_module.len();
     let member_starts = MEMBER_STARTS;
     let member_end = MEMBER_STARTS + chunks + 1;
     let load_starts = LOAD_STARTS;
     let load_end = LOAD_STARTS + chunks + 1;
     let loads = LOADS;
-    let loads_end = LOADS + rows(bounds, columns, IMPORT_CHUNK);
+    let loads_end = LOADS + current.import_chunk.len();
     actual_order_for_root(
         &prepared[..modules],
         &prepared[starts..starts_end],
         &prepared[triggers..triggers_end],
-        members,
+        current.member,
         &prepared[member_starts..member_end],
         &prepared[load_starts..load_end],
         &prepared[loads..loads_end],
@@ -119,142 +110,32 @@ pub fn list_prepared<'a>(
 // The actual order of an entry of a table, a root with its entry chunk, written to `order` from place 0, and its hosts, a place a module. `prepared` has
 // the columns that the visits read with the table's wraps. How many are listed.
 pub fn list_actual<'a>(
-    runtime: u32,
-    dynamic: u32,
-    bounds: &'a [u32],
-    columns: &'a [u32],
-    importers: &'a [u32],
-    kinds: &'a [u32],
-    targets: &'a [u32],
-    dependencies: &'a [u32],
-    members: &'a [u32],
+    current: &Current,
     prepared: &'a [u32],
     order: &mut [u32],
     hosts: &mut [u32],
     root: u32,
     chunk: u32,
 ) -> usize
-    requires prepared { let p : Project = read (table runtime dynamic bounds.now columns.now) importers.now kinds.now targets.now dependencies.now members.now in Prepared p prepared.now }
-    requires places { let p : Project = read (table runtime dynamic bounds.now columns.now) importers.now kinds.now targets.now dependencies.now members.now in Listing p root chunk (length order.old) (length hosts.old) }
-    ensures { let p : Project = read (table runtime dynamic bounds.now columns.now) importers.now kinds.now targets.now dependencies.now members.now in Listed (run_of p p.wrap root) order.old order.new hosts.new result }
+    requires prepared { Prepared current.now prepared.now }
+    requires places { Listing current.now root chunk (length order.old) (length hosts.old) }
+    ensures { Listed (run_of current.now current.now.wrap root) order.old order.new hosts.new result }
 {
-    list_prepared(
-        runtime,
-        dynamic,
-        bounds,
-        columns,
-        importers,
-        kinds,
-        targets,
-        dependencies,
-        members,
-        prepared,
-        order,
-        hosts,
-        root,
-        chunk,
-    )
+    list_prepared(current, prepared, order, hosts, root, chunk)
 }
 
 // The actual order of an entry of a table, and its hosts. How many are listed.
-pub fn prepare_and_list<'a>(
-    runtime: u32,
-    dynamic: u32,
-    bounds: &'a [u32],
-    columns: &'a [u32],
-    importers: &'a [u32],
-    kinds: &'a [u32],
-    targets: &'a [u32],
-    dependencies: &'a [u32],
-    members: &'a [u32],
+pub fn prepare_and_list(
+    current: &Current,
     order: &mut [u32],
     hosts: &mut [u32],
     root: u32,
     chunk: u32,
 ) -> usize
-    requires places { let p : Project = read (table runtime dynamic bounds.now columns.now) importers.now kinds.now targets.now dependencies.now members.now in Listing p root chunk (length order.old) (length hosts.old) }
-    ensures { let p : Project = read (table runtime dynamic bounds.now columns.now) importers.now kinds.now targets.now dependencies.now members.now in Listed (run_of p p.wrap root) order.old order.new hosts.new result }
+    requires places { Listing current.now root chunk (length order.old) (length hosts.old) }
+    ensures { Listed (run_of current.now current.now.wrap root) order.old order.new hosts.new result }
 {
     let mut prepared = [0u32; PREPARED];
-    prepare_table(
-        runtime,
-        dynamic,
-        bounds,
-        columns,
-        importers,
-        kinds,
-        targets,
-        dependencies,
-        members,
-        &mut prepared,
-    );
-    list_actual(
-        runtime,
-        dynamic,
-        bounds,
-        columns,
-        importers,
-        kinds,
-        targets,
-        dependencies,
-        members,
-        &prepared,
-        order,
-        hosts,
-        root,
-        chunk,
-    )
-}
-
-// The same with the members as they are read.
-pub fn arrange_and_list<'a>(
-    runtime: u32,
-    dynamic: u32,
-    bounds: &'a [u32],
-    columns: &'a [u32],
-    names: &'a [u8],
-    importers: &'a [u32],
-    kinds: &'a [u32],
-    targets: &'a [u32],
-    dependencies: &'a [u32],
-    members: &'a [u32],
-    order: &mut [u32],
-    hosts: &mut [u32],
-    root: u32,
-    chunk: u32,
-) -> usize
-    requires names { let p : Project = read (table runtime dynamic bounds.now columns.now) importers.now kinds.now targets.now dependencies.now members.now in names_in (modules p) names.now ≡ true }
-    requires places { let p : Project = read (table runtime dynamic bounds.now columns.now) importers.now kinds.now targets.now dependencies.now members.now in Listing p root chunk (length order.old) (length hosts.old) }
-    ensures { let p : Project = read (table runtime dynamic bounds.now columns.now) importers.now kinds.now targets.now dependencies.now members.now in Listed (run_of (named p names.now) (named p names.now).wrap root) order.old order.new hosts.new result }
-{
-    let rows = members.len();
-    let mut arranged = [0u32; ROW_LIMIT];
-    read_members(
-        runtime,
-        dynamic,
-        bounds,
-        columns,
-        importers,
-        kinds,
-        targets,
-        dependencies,
-        members,
-        names,
-        &mut arranged[..rows],
-    );
-    prepare_and_list(
-        runtime,
-        dynamic,
-        bounds,
-        columns,
-        importers,
-        kinds,
-        targets,
-        dependencies,
-        &arranged[..rows],
-        order,
-        hosts,
-        root,
-        chunk,
-    )
+    prepare_table(current, &mut prepared);
+    list_actual(current, &prepared, order, hosts, root, chunk)
 }

@@ -8,13 +8,16 @@ use mathlib.Core.List.{Memᴰ}
 use native.Mathlib.Omega.{arith}
 use Rattle.lists.specs.Words.{keep, Distinct}
 use Rattle.lists.proofs.Laws.{both, mem-keep, keep-mem, distinct-keep, length-keep}
-use Rattle.lists.proofs.Members.{mem-flat}
+use Rattle.lists.proofs.Members.{mem-flat, get_d-mem}
 use Rattle.walk.specs.Walk.{everywhere}
 use Rattle.walk.specs.Reach.{Reach, ReachAny}
 use Rattle.walk.proofs.Orders.{order-met, order-distinct, order-length, all-reach, reach-all}
-use Rattle.tables.specs.Readings.{is_normal, flagged, is_import, normal_target, resolved, row_targets, rows_of, targets_of}
+use Rattle.tables.specs.Project.{Project}
+use Rattle.tables.specs.Accepted.{Below}
+use Rattle.tables.specs.Readings.{modules, is_normal, flagged, is_import, normal_target, resolved, row_targets, rows_of, targets_of}
 use Rattle.tables.specs.declared.Target.{Target}
 use Rattle.tables.specs.declared.Target.TheVariants.{Missing, External, Normal}
+use Rattle.expected_order.specs.OfProject.{expected_of}
 use Rattle.expected_order.specs.Expected.{normal_imports_of, walked_from, expected}
 use Rattle.tables.proofs.Targets.{normal-in, target-in}
 
@@ -109,3 +112,8 @@ module _ (normal included record_module record_kind record_target : List ℕ) (r
   member-expected x m =
       subst (Memᴰ x) (sym (expected-normal m.rooted))
       (keep-mem (flagged included) (walked_from normal record_module record_kind record_target root) (path-reached normal record_module record_kind record_target root m.rooted x m.path) m.listed)
+
+-- the same at a project
+pub expected-below : (p : Project) (root : ℕ) → Below (modules p) (expected_of p root)
+unfolding expected_of
+expected-below p root i l = expected-in p.normal p.included p.record_module p.record_kind p.record_target root (get_or (expected_of p root) i 0) (get_d-mem (expected_of p root) i l)

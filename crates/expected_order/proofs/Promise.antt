@@ -1,13 +1,12 @@
 -- What the operation promises, in each of its cases.
 -- Assumes nothing.
-use Rattle.std.specs.Prelude.{◌≡◌, ℕ, List, length, Err}
+use Rattle.std.specs.Prelude.{◌≡◌, ℕ, List, length, Some, Err}
 use mathlib.Core.Path.{refl}
 use Rattle.tables.specs.Project.{Project}
 use Rattle.tables.specs.Readings.{modules}
 use Rattle.tables.specs.Accepted.{Accepted}
 use Rattle.tables.specs.declared.Refusal.{Refusal}
-use Rattle.tables.specs.Answers.{tested}
-use Rattle.tables.proofs.Answering.{verdict-project, answer-refused, after-refused, tested-refused}
+use Rattle.tables.proofs.Answering.{verdict-project, answer-refused, after-refused}
 use Rattle.table.specs.Table.{Lent}
 use Rattle.expected_visit.specs.Visit.{Fit}
 use Rattle.expected_order.specs.OfProject.{expected_of}
@@ -26,7 +25,7 @@ accepted-fit p a = record {
 }
 
 -- a refused project changes nothing
-pub project-refused : (t : Lent) (root : ℕ) (order : List ℕ) {e : Refusal} → Err e ≡ tested t.refused → ExpectedOrder t root order (Err e) order
+pub project-refused : (t : Lent) (root : ℕ) (order : List ℕ) {e : Refusal} → t.refused ≡ Some e → ExpectedOrder t root order (Err e) order
 project-refused t root order h =
-    let r = verdict-project _ _ (tested-refused t.refused h) in
+    let r = verdict-project _ _ h in
     record { answered = answer-refused (length (expected_of t.project root)) r; written = after-refused order (expected_of t.project root) r }

@@ -1,15 +1,17 @@
 // For crates above, on tested tables.
 ghost use Rattle.std.specs.Prelude.{◌≡◌, ◌<◌, ◌≤◌, length};
-ghost use Rattle.tables.specs.Project.{Project};
-ghost use Rattle.table.specs.Table.{table, read};
+ghost use Rattle.tables.specs.Readings.{modules};
+ghost use Rattle.tables.specs.Refusal.{module_limit};
+ghost use Rattle.tables.specs.Accepted.{Below};
 ghost use Rattle.expected_visit.specs.Visit.{Fit};
 ghost use Rattle.expected_order.specs.Expected.{expected};
 ghost use Rattle.expected_order.specs.OfProject.{expected_of};
 ghost use Rattle.expected_order.specs.Visit.{Listed, Rooted};
 
+use current_columns::inner::Current;
 use expected_visit::inner::visit;
 use lists::inner::fill;
-use table::{INCLUDED, MODULE_LIMIT, NORMAL, column};
+use table::MODULE_LIMIT;
 use tables::inner::first_rows;
 
 // The expected order of an entry. `marks` is working space, a place a module.
@@ -34,14 +36,15 @@ fn expected_order_for_root<'a>(
     }
     let n = normal.len();
     let mut starts = [0u32; MODULE_LIMIT + 1];
-    first_rows(record_module, &mut starts[..n + 1]);
+    let starts = &mut starts[..n + 1];
+    first_rows(record_module, starts);
     let count = visit(
         normal,
         included,
         record_module,
         record_kind,
         record_target,
-        &starts[..n + 1],
+        starts,
         marks,
         order,
         root,
@@ -52,31 +55,35 @@ fn expected_order_for_root<'a>(
 }
 
 // The expected order of a row of an accepted project. `marks` is working space, a place a module.
-pub fn list_expected<'a>(
-    runtime: u32,
-    dynamic: u32,
-    bounds: &'a [u32],
-    columns: &'a [u32],
-    importers: &'a [u32],
-    kinds: &'a [u32],
-    targets: &'a [u32],
-    dependencies: &'a [u32],
-    members: &'a [u32],
-    marks: &mut [u32],
-    order: &mut [u32],
-    root: u32,
-) -> usize
-    requires rooted { let p : Project = read (table runtime dynamic bounds.now columns.now) importers.now kinds.now targets.now dependencies.now members.now in Rooted p root (length marks.old) (length order.old) }
-    ensures { let p : Project = read (table runtime dynamic bounds.now columns.now) importers.now kinds.now targets.now dependencies.now members.now in Listed (expected_of p root) marks.old order.old marks.new order.new result }
+pub fn list_expected(current: &Current, marks: &mut [u32], order: &mut [u32], root: u32) -> usize
+    requires rooted { Rooted current.now root (length marks.old) (length order.old) }
+    ensures { Listed (expected_of current.now root) marks.old order.old marks.new order.new result }
 {
     expected_order_for_root(
-        column(bounds, columns, NORMAL),
-        column(bounds, columns, INCLUDED),
-        importers,
-        kinds,
-        targets,
+        current.normal,
+        current.included,
+        current.record_module,
+        current.record_kind,
+        current.record_target,
         marks,
         order,
         root,
     )
+}
+
+// The expected order of a row, at the front of an array.
+pub fn find_expected<'a>(
+    current: &Current,
+    order: &'a mut [u32; MODULE_LIMIT],
+    root: u32,
+) -> &'a [u32]
+    requires { root < modules current.now }
+    ensures order { result.now ≡ expected_of current.now root }
+    ensures members { Below (modules current.now) result.now }
+    ensures few { modules current.now ≤ module_limit }
+{
+    let n = current.modules();
+    let mut marks = [0u32; MODULE_LIMIT];
+    let count = list_expected(current, &mut marks[..n], order, root);
+    &order[..count]
 }

@@ -38,6 +38,7 @@ pub fn visit<'a>(
     let start = starts[at] as usize;
     let end = starts[at + 1] as usize;
     let mut count = placed;
+    // by number: each row is read in two columns
     for row in start..end {
         if record_kind[row] != 0 {
             continue;

@@ -23,6 +23,7 @@ pub struct Names {
 }
 
 // What a byte, or the end of the input, makes due: nothing, the file whose name is that many of the bytes kept, or a refusal.
+// No Option or Result: a refusal is one of three things that can be due, and no call has failed.
 #[derive(Clone, Copy)]
 pub enum Turn {
     Nothing,

@@ -1,13 +1,10 @@
 // For crates above, on tested tables.
 ghost use Rattle.std.specs.Prelude.{◌≡◌, ◌≤◌, length};
 ghost use Rattle.import_edges.specs.inner.Spread.{Spreads, Spreadable, Edges, import_targets, EdgesOf};
-ghost use Rattle.tables.specs.Project.{Project};
-ghost use Rattle.table.specs.Table.{table, read};
 ghost use Rattle.tables.specs.Refusal.{row_limit};
-ghost use Rattle.table.specs.Places.{Room};
 
+use current_columns::inner::Current;
 use strong_connection::inner::visit;
-use table::{NORMAL, column};
 use tables::Target;
 use tables::inner::resolve;
 
@@ -27,7 +24,7 @@ pub fn import_edges(
     ensures { Edges record_module.now (import_targets record_kind.now record_target.now) importers.new targets.new result }
 {
     let mut count = 0;
-    for row in 0..record_module.len() {
+    for (row, &importer) in record_module.iter().enumerate() {
         if record_kind[row] != 0 {
             continue;
         }
@@ -35,7 +32,7 @@ pub fn import_edges(
         let (Target::External(target) | Target::Normal(target)) = found else {
             continue;
         };
-        importers[count] = record_module[row];
+        importers[count] = importer;
         targets[count] = target;
         count += 1;
     }
@@ -66,28 +63,16 @@ pub fn spread(
 }
 
 // The edges of the import records of a table. How many there are.
-pub fn list_edges<'a>(
-    runtime: u32,
-    dynamic: u32,
-    bounds: &'a [u32],
-    columns: &'a [u32],
-    importers: &'a [u32],
-    kinds: &'a [u32],
-    targets: &'a [u32],
-    dependencies: &'a [u32],
-    members: &'a [u32],
-    from: &mut [u32],
-    to: &mut [u32],
-) -> usize
-    requires from { let p : Project = read (table runtime dynamic bounds.now columns.now) importers.now kinds.now targets.now dependencies.now members.now in Room p row_limit (length from.old) }
-    requires to { let p : Project = read (table runtime dynamic bounds.now columns.now) importers.now kinds.now targets.now dependencies.now members.now in Room p row_limit (length to.old) }
-    ensures { let p : Project = read (table runtime dynamic bounds.now columns.now) importers.now kinds.now targets.now dependencies.now members.now in EdgesOf p from.new to.new result }
+pub fn list_edges(current: &Current, from: &mut [u32], to: &mut [u32]) -> usize
+    requires from { row_limit ≤ length from.old }
+    requires to { row_limit ≤ length to.old }
+    ensures { EdgesOf current.now from.new to.new result }
 {
     import_edges(
-        column(bounds, columns, NORMAL),
-        importers,
-        kinds,
-        targets,
+        current.normal,
+        current.record_module,
+        current.record_kind,
+        current.record_target,
         from,
         to,
     )

@@ -1,12 +1,11 @@
 -- Rule (iii) by marks: the modules with a target that leads to the plan, and those with a planned dependency.
 -- Assumes nothing.
 use Rattle.std.specs.Prelude.{◌≡◌, ℕ, ◌<◌, ◌≤◌, Bool, true, List, length, take, replicate}
-use mathlib.Core.Path.{subst}
 use native.Mathlib.Omega.{arith}
 use Rattle.lists.specs.Words.{has}
 use Rattle.marks.specs.Steps.{looked, Owners, Added, InAll}
 use Rattle.marks.proofs.Steps.{owners-row, row-owners, added-cong}
-use Rattle.marks.proofs.Parts.{Lent, view, part_none, part_length, view-is}
+use Rattle.marks.proofs.Parts.{part_none, part_length}
 use Rattle.import_rule.specs.inner.Imports.{Importer}
 
 module _ (record_module targets dependency_module dependency candidates S leads importers₀ importers dependents₀ dependents : List ℕ)
@@ -28,20 +27,18 @@ module _ (record_module targets dependency_module dependency candidates S leads 
     e.candidate,
   )
 
--- the pass, with K places for the marks
-pub importers_added : (K : ℕ) (importers targets dependency_module dependency candidates plan leads leading dependents t : List ℕ) (r : Bool)
+-- the pass, from marks of nothing in K places
+pub importers_added : (K : ℕ) {importers targets dependency_module dependency candidates plan leads leading dependents t : List ℕ} {r : Bool}
     → length plan ≤ K → length targets ≡ length importers → length dependency ≡ length dependency_module
     → Owners importers (looked 0 leads targets) (length importers) (take (length plan) (replicate K 0)) leading
     → Owners dependency_module (looked 0 plan dependency) (length dependency_module) (take (length plan) (replicate K 0)) dependents
-    → Added (InAll (view K (length plan) leading) (view K (length plan) dependents) candidates) plan t r
+    → Added (InAll leading dependents candidates) plan t r
     → Added (Importer importers targets dependency_module dependency candidates plan leads) plan t r
-importers_added K importers targets dependency_module dependency candidates plan leads leading dependents t r fits rows depends i d o =
+importers_added K {importers} {targets} {dependency_module} {dependency} {candidates} {plan} {leads} {leading} {dependents} {t} {r} fits rows depends i d o =
     let zeroed : List ℕ = take (length plan) (replicate K 0) in
     let n : length zeroed ≡ length plan = part_length K (length plan) fits in
-    let leading_lent : Lent K (length plan) leading = record { fits = fits; kept = i.len } in
-    let dependents_lent : Lent K (length plan) dependents = record { fits = fits; kept = d.len } in
+    let none : (m : ℕ) → has zeroed m ≡ true → ⊥ = part_none K (length plan) in
     added-cong (InAll leading dependents candidates) (Importer importers targets dependency_module dependency candidates plan leads)
-    (λ m l. importer-marked importers targets dependency_module dependency candidates plan leads zeroed leading zeroed dependents (part_none K (length plan)) (part_none K (length plan)) rows depends i d m (omega (arith, n)) (omega (arith, n)))
-    (marked-importer importers targets dependency_module dependency candidates plan leads zeroed leading zeroed dependents (part_none K (length plan)) (part_none K (length plan)) rows depends i d)
-    (subst (λ (x : List ℕ). Added (InAll x dependents candidates) plan t r) (view-is leading_lent)
-    (subst (λ (x : List ℕ). Added (InAll (view K (length plan) leading) x candidates) plan t r) (view-is dependents_lent) o))
+    (λ m l. importer-marked importers targets dependency_module dependency candidates plan leads zeroed leading zeroed dependents none none rows depends i d m (omega (arith, n)) (omega (arith, n)))
+    (marked-importer importers targets dependency_module dependency candidates plan leads zeroed leading zeroed dependents none none rows depends i d)
+    o

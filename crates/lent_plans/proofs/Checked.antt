@@ -1,10 +1,10 @@
 -- The promises of specs/Checked, inhabited.
 -- Assumes nothing.
-use Rattle.std.specs.Prelude.{None}
-use mathlib.Core.Path.{◌≡◌, refl, sym, ap, subst, ◌∙◌}
+use Rattle.std.specs.Prelude.{Option}
+use mathlib.Core.Path.{◌≡◌, refl, sym, ap}
 use mathlib.Core.Bool.{Bool, true, false, not, ◌&&◌, true≢false}
 use mathlib.Core.List.{List}
-use Prim.Native.Nat.{ℕ, ◌≤◌, ◌<◌}
+use Prim.Native.Nat.{ℕ, ◌<◌}
 use native.Mathlib.Omega.{arith}
 use lib.ListN.{length}
 use lib.Dec.{eqb, leb}
@@ -12,10 +12,8 @@ use borrow.Author.Tests.{eq-eqb, le-leb}
 use Rattle.lists.specs.Words.{every, elem, has}
 use Rattle.lists.proofs.Laws.{and_parts, and-join, has_in, mem-every}
 use Rattle.lists.proofs.Members.{mem-at}
-use Rattle.tables.specs.Project.{Project, missing}
+use Rattle.tables.specs.Project.{Project}
 use Rattle.tables.specs.Readings.{modules}
-use Rattle.tables.specs.Refusal.{refusal}
-use Rattle.tables.proofs.Accepted.{accepted}
 use Rattle.chunk_cycles.specs.Cycles.{labels_of}
 use Rattle.eligibility.specs.Eligible.{eligible}
 use Rattle.eligibility.proofs.Eligible.{eligible-in}
@@ -44,18 +42,15 @@ both-not : (a b : Bool) → (a ≡ true → b ≡ true) → (a && not b) ≡ fal
 both-not true b h = ap not (h refl)
 both-not false b h = refl
 
-few : (p : Project) → refusal p ≡ None → modules p ≤ missing
-few p ok = omega (arith, (accepted p ok).sizes.normal)
-
-module _ (p : Project) (seeds plan : List ℕ) (ok : refusal p ≡ None) where
-  -- the lowest module that breaks a condition
-  abbrev found : Condition → ℕ
+module _ (p : Project) (seeds plan : List ℕ) where
+  -- the lowest module that breaks a condition, if one does
+  abbrev found : Condition → Option ℕ
   found c = lowest (broken p seeds plan c) (modules p)
 
   -- no module breaks a condition of an accepted plan
   none-breaks : judged p seeds plan ≡ Accepted → (c : Condition) (m : ℕ) → m < modules p → broken p seeds plan c m ≡ false
   unfolding judged
-  none-breaks e c m l = lowest-missing (broken p seeds plan c) (modules p) m (few p ok) (accepted-each found 1 conditions e c (judged-all c)) l
+  none-breaks e c m l = lowest-missing (broken p seeds plan c) (modules p) m (accepted-each found 1 conditions e c (judged-all c)) l
 
   acceptable : plan_fits (modules p) plan ≡ true → judged p seeds plan ≡ Accepted → AcceptablePlan p seeds plan
   acceptable fits e =
@@ -81,11 +76,11 @@ module _ (p : Project) (seeds plan : List ℕ) (ok : refusal p ≡ None) where
 
 pub accepted_exactly_if_closed : AcceptedExactlyIfClosed
 unfolding AcceptedExactlyIfClosed
-accepted_exactly_if_closed p seeds plan ok fits = (acceptable p seeds plan ok fits, accepting p seeds plan ok)
+accepted_exactly_if_closed p seeds plan ok fits = (acceptable p seeds plan fits, accepting p seeds plan)
 
 pub accepted_holds_the_plan : AcceptedHoldsThePlan
 unfolding AcceptedHoldsThePlan PlanIsLeast
-accepted_holds_the_plan p seeds plan ok fits e m h = (plan_is_least p seeds).least plan (acceptable p seeds plan ok fits e).holds m h
+accepted_holds_the_plan p seeds plan ok fits e m h = (plan_is_least p seeds).least plan (acceptable p seeds plan fits e).holds m h
 
 pub the_plan_is_accepted : ThePlanIsAccepted
 unfolding ThePlanIsAccepted PlanIsLeast
@@ -93,24 +88,24 @@ the_plan_is_accepted p seeds ok =
     let l : LeastPlan p seeds (plan_of p seeds) = plan_is_least p seeds in (
       and-join (eqb (length (plan_of p seeds)) (modules p)) (every (λ (mark : ℕ). leb mark 1) (plan_of p seeds)) (eq-eqb (length (plan_of p seeds)) (modules p) l.holds.marks)
           (mem-every (λ (mark : ℕ). leb mark 1) (plan_of p seeds) (λ x h. let q = mem-at (plan_of p seeds) h in le-leb x 1 (rw (sym q.2) (l.bits q.0)))),
-      accepting p seeds (plan_of p seeds) ok (record { members = l.members; holds = l.holds }),
+      accepting p seeds (plan_of p seeds) (record { members = l.members; holds = l.holds }),
     )
 
 pub broken_names_the_first : BrokenNamesTheFirst
 unfolding BrokenNamesTheFirst judged
 broken_names_the_first p seeds plan i m ok e =
-    let n = broken-named (found p seeds plan ok) 1 conditions i m e in
-    let q = lowest-found (broken p seeds plan n.condition) (modules p) (λ z. n.there (sym n.module' ∙ z)) in
+    let n = broken-named (found p seeds plan) 1 conditions i m e in
+    let q = lowest-found (broken p seeds plan n.condition) (modules p) m n.module' in
     record {
       before = n.before;
       condition = n.condition;
       rest = n.rest;
       place = n.place;
       numbered = omega (arith, n.numbered);
-      inside = subst (λ (x : ℕ). x < modules p) n.module' q.inside;
-      fails = subst (λ (x : ℕ). broken p seeds plan n.condition x ≡ true) n.module' q.holds;
-      lowest = λ k l. q.first k (subst (λ (x : ℕ). k < x) (sym n.module') l);
-      earlier = λ c h k l. lowest-missing (broken p seeds plan c) (modules p) k (few p ok) (n.earlier c h) l;
+      inside = q.inside;
+      fails = q.holds;
+      lowest = q.first;
+      earlier = λ c h k l. lowest-missing (broken p seeds plan c) (modules p) k (n.earlier c h) l;
     }
 
 pub check_call_judges : CheckCallJudges

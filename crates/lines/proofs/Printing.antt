@@ -49,6 +49,12 @@ pub field-other : (v : ℕ) → (v ≡ missing → ⊥) → field v ≡ number v
 unfolding field
 field-other v n = simp (ne_eqb v missing n)
 
+-- how many digits a number has
+pub ruleset sizes = (long-length, short-length, number-length)
+
+-- a field is the mark or a number
+pub ruleset field_cases = (field-mark, field-other)
+
 -- one digit, stored
 pub put-short : (d : List ℕ) (at n b : ℕ) → n < 10 → b ≡ 48 + n → PutAt d at (number n) (set d at b) (at + 1)
 put-short d at n b h e =

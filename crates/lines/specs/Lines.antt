@@ -1,6 +1,6 @@
 -- What the line writer and the list of a set's members leave.
 -- Assumes nothing.
-use Rattle.std.specs.Prelude.{◌≡◌, Bool, cond, List, ◌++◌, ℕ, ◌+◌, ◌<◌, length, leb, Option, Some, None, true}
+use Rattle.std.specs.Prelude.{◌≡◌, cond, List, ◌++◌, ℕ, ◌+◌, ◌<◌, length, leb, Option, Some, None, true}
 use Rattle.std.proofs.lemmas.List.Edits.{sets}
 use Rattle.lists.specs.Words.{up_to, keep, has}
 use Rattle.tables.specs.declared.Refusal.{Refusal}

@@ -6,11 +6,13 @@ ghost use Rattle.lines.specs.Lines.{RoomIs, PutAt};
 use tables::ModuleIdx;
 
 // How many digits n has.
+#[tactic(auto, using(crate::proofs::Printing::sizes))]
 pub fn number_len(n: u32) -> usize
     ensures { result ≡ length (number n) }
 {
     let mut left = n;
     let mut k = 1;
+    // digits: each division leaves one fewer
     while 10 <= left {
         left /= 10;
         k += 1;
@@ -19,6 +21,7 @@ pub fn number_len(n: u32) -> usize
 }
 
 // How many bytes the field of v has.
+#[tactic(auto, using(crate::proofs::Printing::field_cases))]
 fn field_len(v: u32) -> usize
     ensures { result ≡ length (field v) }
 {
@@ -50,7 +53,7 @@ fn digit(d: u32) -> u8
     48 + d as u8
 }
 
-// Writes n in decimal from `at` on, and answers the position behind it.
+// Writes n in decimal from `at` on, and answers the position behind it. By hand, since `Display` makes a `String`, and there is no heap here.
 pub fn put_number(out: &mut [u8], at: usize, n: u32) -> usize
     requires { at + length (number n) ≤ length out.old }
     ensures { PutAt out.old at (number n) out.new result }
@@ -73,6 +76,7 @@ pub fn put_byte(out: &mut [u8], at: usize, b: u8) -> usize
 }
 
 // Writes v as a field: `-` for the missing mark.
+#[tactic(auto, using(crate::proofs::Printing::field_cases))]
 fn put_field(out: &mut [u8], at: usize, v: u32) -> usize
     requires { at + length (field v) ≤ length out.old }
     ensures { PutAt out.old at (field v) out.new result }

@@ -1,3 +1,4 @@
 -- What the reader promises.
 pub mod Reading
+pub mod AsTable
 pub mod inner

@@ -30,6 +30,7 @@ fn copy_column(
     requires { ((r : ℕ) → r < n → first + r * w < 32768) × (w < 9) × (to + n ≤ 32768) × (length columns.old ≡ 32768) }
     ensures { columns.new ≡ sets columns.old to (stripe w first n rows.now) }
 {
+    // columns lie apart in rows: the place is computed
     for r in 0..n {
         columns[to + r] = rows[first + r * w];
     }
@@ -53,6 +54,7 @@ fn spread_list(
     ensures bounds_after { bounds.new ≡ sets bounds.old (j + 1) (tails to (stripes w first n rows.now (up_to w))) }
 {
     let mut at = to;
+    // by number: each column's places are computed
     for k in 0..w {
         copy_column(rows, first + k, w, n, columns, at);
         at += n;
@@ -71,6 +73,7 @@ pub fn spread(rows: &[u32; 32768], ends: &[usize; 15], bounds: &mut [u32], colum
     let mut first = 2;
     let mut to = 0;
     let mut j = 0;
+    // by number: a list's width is looked up by it, and the settings are left out
     for l in 1..15 {
         let w = width(l);
         let end = ends[l];

@@ -2,12 +2,13 @@
 #![tactic(auto)]
 
 ghost use Rattle.listing.specs.Reading.{Reads};
+ghost use Rattle.listing.specs.AsTable.{ReadText};
 
 mod columns;
 
 use columns::{settle, spread};
 use name_list::find_names;
-use table::COLUMNS;
+use table::{COLUMNS, Table};
 use tables::Refusal;
 use text_rows::inner::read_lists;
 
@@ -50,4 +51,37 @@ pub fn read(
         from: from,
         to: to,
     })
+}
+
+// Room for the table of a text.
+#[derive(Drop)]
+pub struct TextSpace {
+    settings: [u32; 2],
+    bounds: [u32; COLUMNS + 1],
+    columns: [u32; 32768],
+}
+
+impl TextSpace {
+    pub const EMPTY: TextSpace = TextSpace {
+        settings: [0; 2],
+        bounds: [0; COLUMNS + 1],
+        columns: [0; 32768],
+    };
+}
+
+// Reads a project's text, with its names where it has them, as a table.
+pub fn read_text<'a>(text: &'a [u8], space: &'a mut TextSpace) -> Result<Table<'a>, Refusal>
+    ensures { ReadText text.entry.now result }
+{
+    let settings = &mut space.settings;
+    let bounds = &mut space.bounds;
+    let columns = &mut space.columns;
+    let Reading { values, from, to } = read(text, settings, bounds, columns)?;
+    Ok(Table::new(
+        settings[0],
+        settings[1],
+        bounds,
+        &columns[..values],
+        &text[from..to],
+    ))
 }

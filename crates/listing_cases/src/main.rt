@@ -75,6 +75,7 @@ fn put(text: &mut [u8], at: usize, bytes: &[u8]) -> usize {
 // Puts bytes as often as is said.
 fn put_rows(text: &mut [u8], at: usize, row: &[u8], times: u32) -> usize {
     let mut p = at;
+    // a row is put as often as is said
     for _ in 0..times {
         p = put(text, p, row);
     }
@@ -185,6 +186,7 @@ fn put_piece(text: &mut [u8], at: usize, list: &mut List) -> usize {
 // Puts the pieces of a text. How many bytes it has.
 fn put_pieces(text: &mut [u8], list: &mut List, pieces: u32) -> usize {
     let mut at = 0;
+    // pieces are read as they come, and counted
     for _ in 0..pieces {
         at = put_piece(text, at, list);
     }
@@ -204,6 +206,7 @@ fn run_case(rt: &impl Print, list: &mut List) -> io::Result<()> {
 
 // Runs all texts of the list.
 fn run_cases(rt: &impl Print, list: &mut List) -> io::Result<()> {
+    // texts are read as they come, and counted
     for _ in 0..list.number() {
         run_case(rt, list)?;
     }

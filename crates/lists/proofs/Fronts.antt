@@ -1,17 +1,9 @@
--- The front of an array, written and read back, and arrays of zeros.
+-- A run at the front of an array, and arrays of zeros.
 -- Assumes nothing.
 use Rattle.std.specs.Prelude.{◌≡◌, ℕ, zero, suc, ◌+◌, ◌≤◌, List, ◌∷◌, ◌++◌, length, get_or, take, drop, replicate}
 use mathlib.Core.Path.{refl, ap, ◌∙◌}
 use native.Mathlib.Omega.{arith}
-use lib.ListN.{length-append}
-use lib.Seq.{take_at, sets, sets-eq}
-
-module _ (xs ys : List ℕ) (n : ℕ) (e : length xs ≡ n) where
-  pub front-room : n ≤ length (xs ++ ys)
-  front-room = omega (arith, length-append xs ys)
-
-  pub front_length : length (take n (xs ++ ys)) ≡ n
-  front_length = ap length (take_at xs ys n e) ∙ e
+use lib.Seq.{sets, sets-eq}
 
 -- a run from place 0
 pub sets-front : (l xs : List ℕ) → length xs ≤ length l → sets l 0 xs ≡ xs ++ drop (length xs) l

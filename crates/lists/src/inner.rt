@@ -1,5 +1,5 @@
 // Loops over one slice, for crates above.
-ghost use Rattle.std.specs.Prelude.{◌≡◌, ◌≤◌, ◌++◌, length, drop, replicate};
+ghost use Rattle.std.specs.Prelude.{◌≡◌, length, replicate};
 ghost use Rattle.lists.specs.Words.{ones};
 
 // Fills a slice with a value.
@@ -7,14 +7,6 @@ pub fn fill(slots: &mut [u32], value: u32)
     ensures { slots.new ≡ replicate (length slots.old) value }
 {
     slots.fill(value);
-}
-
-// Copies a slice to the front of another.
-pub fn copy_to(source: &[u32], target: &mut [u32])
-    requires { length source.now ≤ length target.old }
-    ensures { target.new ≡ source.now ++ drop (length source.now) target.old }
-{
-    target[..source.len()].copy_from_slice(source);
 }
 
 // How many marks are not 0. Tried, slower: a chain that ends in `count`.

@@ -6,16 +6,16 @@ ghost use Rattle.arrangement.specs.OfProject.{as_named};
 ghost use Rattle.load_trial.specs.Promise.{load_step, LoadRun};
 
 use analysed_entries::inner::find_entry;
-use current_columns::inner::read_current;
+use arrangement::inner::read_named;
+use current_columns::inner::ReadSpace;
 use plan_conditions::inner::plan_fits;
 use planned_load::LoadStep;
 use planned_load::inner::{run_planned, step_planned};
-use refusal::test;
-use table::{DEPENDENCY, MEMBER, NORMAL, ROW_LIMIT, Table};
-use tables::{ModuleIdx, Refusal};
+use table::{ROW_LIMIT, Table};
+use tables::Refusal;
 
 // A step of an analysed entry's load with a plan, 0 or 1 for each module, by its number from 0; none past the last.
-#[tactic(auto, unfolding(table::specs::Table::table, table::specs::Table::read, table::specs::Table::current, arrangement::specs::OfProject::named, tables::specs::Readings::is_analysed, crate::specs::Promise::load_step))]
+#[tactic(auto, unfolding(crate::specs::Promise::load_step))]
 pub fn load_step(
     table: &Table,
     root: u32,
@@ -24,54 +24,21 @@ pub fn load_step(
 ) -> Result<Option<LoadStep>, Refusal>
     ensures { result ≡ load_step (as_named table.now) root plan.now number }
 {
-    test(table)?;
-    let modules = table.rows(NORMAL);
-    let dependencies = table.column(DEPENDENCY);
-    let members = table.column(MEMBER);
-    let chunk = find_entry(
-        table.runtime,
-        table.dynamic,
-        table.bounds,
-        table.columns,
-        table.importers,
-        table.kinds,
-        table.targets,
-        dependencies,
-        members,
-        root,
-    );
-    if chunk == ModuleIdx::MISSING {
+    let mut space = ReadSpace::EMPTY;
+    let mut arranged = [0u32; ROW_LIMIT];
+    let current = read_named(table, &mut space, &mut arranged)?;
+    let modules = current.modules();
+    let Some(chunk) = find_entry(&current, root) else {
         return Err(Refusal::Argument);
-    }
+    };
     if !plan_fits(plan, modules) {
         return Err(Refusal::PlanForm);
     }
-    let mut read_targets = [0u32; ROW_LIMIT];
-    let mut read_dependencies = [0u32; ROW_LIMIT];
-    read_current(table, &mut read_targets, &mut read_dependencies);
-    let records = table.targets.len();
-    let dependency_rows = table.rows(DEPENDENCY);
-    let step = step_planned(
-        table.runtime,
-        table.dynamic,
-        table.bounds,
-        table.columns,
-        table.names,
-        table.importers,
-        table.kinds,
-        &read_targets[..records],
-        &read_dependencies[..dependency_rows],
-        members,
-        plan,
-        root,
-        chunk,
-        number,
-    );
+    let step = step_planned(&current, plan, root, chunk, number);
     Ok(step)
 }
 
 // All steps of an analysed entry's load with a plan: place n of `steps` is step n's module, and place n of `hosts` its host. The count is that of the steps.
-#[tactic(auto, unfolding(table::specs::Table::table, table::specs::Table::read, table::specs::Table::current, arrangement::specs::OfProject::named, tables::specs::Readings::is_analysed))]
 pub fn load_run(
     table: &Table,
     root: u32,
@@ -81,25 +48,13 @@ pub fn load_run(
 ) -> Result<usize, Refusal>
     ensures { LoadRun (as_named table.now) root plan.now steps.old hosts.old result steps.new hosts.new }
 {
-    test(table)?;
-    let places = table.rows(NORMAL);
-    let dependencies = table.column(DEPENDENCY);
-    let members = table.column(MEMBER);
-    let start = find_entry(
-        table.runtime,
-        table.dynamic,
-        table.bounds,
-        table.columns,
-        table.importers,
-        table.kinds,
-        table.targets,
-        dependencies,
-        members,
-        root,
-    );
-    if start == ModuleIdx::MISSING {
+    let mut space = ReadSpace::EMPTY;
+    let mut arranged = [0u32; ROW_LIMIT];
+    let current = read_named(table, &mut space, &mut arranged)?;
+    let places = current.modules();
+    let Some(start) = find_entry(&current, root) else {
         return Err(Refusal::Argument);
-    }
+    };
     if !plan_fits(plan, places) {
         return Err(Refusal::PlanForm);
     }
@@ -109,27 +64,6 @@ pub fn load_run(
     if hosts.len() < places {
         return Err(Refusal::ShortSlice);
     }
-    let mut read_targets = [0u32; ROW_LIMIT];
-    let mut read_dependencies = [0u32; ROW_LIMIT];
-    read_current(table, &mut read_targets, &mut read_dependencies);
-    let records = table.targets.len();
-    let dependency_rows = table.rows(DEPENDENCY);
-    let count = run_planned(
-        table.runtime,
-        table.dynamic,
-        table.bounds,
-        table.columns,
-        table.names,
-        table.importers,
-        table.kinds,
-        &read_targets[..records],
-        &read_dependencies[..dependency_rows],
-        members,
-        plan,
-        steps,
-        hosts,
-        root,
-        start,
-    );
+    let count = run_planned(&current, plan, steps, hosts, root, start);
     Ok(count)
 }

@@ -40,9 +40,8 @@ pub fn mark_rows(value: &[u32], owner: &[u32], rows: &[u32], marks: &mut [u32])
     requires owners { Below (length marks.old) owner.now }
     ensures { Owners (looked missing owner.now value.now) rows.now (length value.now) marks.old marks.new }
 {
-    for row in 0..value.len() {
-        let m = owner[value[row] as usize];
-        raise(marks, m, rows[row]);
+    for (at, mark) in value.iter().zip(rows) {
+        raise(marks, owner[*at as usize], *mark);
     }
 }
 
@@ -53,9 +52,8 @@ pub fn mark_owners(owner: &[u32], value: &[u32], set: &[u32], marks: &mut [u32])
     requires owners { Below (length marks.old) owner.now }
     ensures { Owners owner.now (looked 0 set.now value.now) (length owner.now) marks.old marks.new }
 {
-    for row in 0..owner.len() {
-        let mark = set[value[row] as usize];
-        raise(marks, owner[row], mark);
+    for (m, at) in owner.iter().zip(value) {
+        raise(marks, *m, set[*at as usize]);
     }
 }
 
@@ -68,7 +66,7 @@ pub fn add(first: &[u32], second: &[u32], third: &[u32], set: &mut [u32]) -> boo
     ensures { Added (InAll first.now second.now third.now) set.old set.new result }
 {
     let mut changed = false;
-    for m in 0..set.len() {
+    for (m, mark) in set.iter_mut().enumerate() {
         if first[m] == 0 {
             continue;
         }
@@ -78,10 +76,10 @@ pub fn add(first: &[u32], second: &[u32], third: &[u32], set: &mut [u32]) -> boo
         if third[m] == 0 {
             continue;
         }
-        if set[m] != 0 {
+        if *mark != 0 {
             continue;
         }
-        set[m] = 1;
+        *mark = 1;
         changed = true;
     }
     changed
@@ -94,8 +92,8 @@ pub fn any_open(first: &[u32], second: &[u32], set: &[u32]) -> bool
     requires two { length second.now ≡ length set.now }
     ensures { result ≡ false → (m : ℕ) → m < length set.now → has first.now m ≡ true → has second.now m ≡ true → has set.now m ≡ true }
 {
-    for m in 0..set.len() {
-        if second[m] != 0 && set[m] == 0 && first[m] != 0 {
+    for (m, &mark) in set.iter().enumerate() {
+        if second[m] != 0 && mark == 0 && first[m] != 0 {
             return true;
         }
     }

@@ -62,8 +62,8 @@ fn fill_groups(
     requires room { (length groups.old ≡ length normal.now) × (length starts.now ≡ length normal.now) }
     ensures { Filled (λ (m : ℕ). group_by (turned (line_at names.now (slice_index starts.now m))) normal.now importers.now sensitive.now m) groups.new }
 {
-    for m in 0..groups.len() {
-        groups[m] = group_of(names, normal, importers, sensitive, starts[m], m);
+    for (m, group) in groups.iter_mut().enumerate() {
+        *group = group_of(names, normal, importers, sensitive, starts[m], m);
     }
 }
 
@@ -72,9 +72,9 @@ fn put_numbers(groups: &[u32], numbers: &[u32], places: &mut [usize])
     requires { (length places.old ≡ length groups.now) × (length numbers.now ≡ length groups.now) }
     ensures { Filled (place_by groups.now numbers.now places.old) places.new }
 {
-    for m in 0..places.len() {
+    for (m, place) in places.iter_mut().enumerate() {
         if groups[m] != 1 {
-            places[m] = numbers[m] as usize;
+            *place = numbers[m] as usize;
         }
     }
 }

@@ -1,6 +1,6 @@
 -- The risks of all analysed entries and the seed rows, as the start of the plan.
 -- Assumes nothing.
-use Rattle.std.specs.Prelude.{◌≡◌, ℕ, ◌<◌, true, ◌&&◌, List, length, get_or}
+use Rattle.std.specs.Prelude.{◌≡◌, ℕ, ◌<◌, true, ◌&&◌, List, length, get_or, replicate}
 use mathlib.Core.Path.{sym, ap, subst, ◌∙◌}
 use mathlib.Core.Logic.{⊎_elim}
 use native.Mathlib.Omega.{arith}
@@ -16,6 +16,8 @@ use Rattle.entry_run.specs.Actual.{actual_of, hosts_of}
 use Rattle.chunk_cycles.specs.Cycles.{labels_of, reaches_cycle_of}
 use Rattle.sensitivity.specs.Marks.{sensitive}
 use Rattle.eligibility.specs.Eligible.{eligible, eligible_marks}
+use Rattle.risk_of_orders.specs.inner.Steps.{join}
+use Rattle.risk_of_orders.proofs.Joins.{join-zero}
 use Rattle.risk_of_orders.proofs.Risks.{risk-eligible as of-orders}
 use Rattle.at_risk.specs.Promise.{risk_of_entry}
 use Rattle.marks.specs.Steps.{looked, Owners}
@@ -34,8 +36,12 @@ risk-eligible : (p : Project) (root m : ℕ) → has (risk_of_entry p root) m �
 unfolding risk_of_entry
 risk-eligible p root m e = of-orders (sensitive p) (eligible p) (expected_of p root) (actual_of p root) (hosts_of p root) (reaches_cycle_of p (entry_chunk_of p root)) (modules p) m e
 
+-- the risks, added to an empty set
+pub risks-marked : (p : Project) (plan : List ℕ) {zeroed risked : List ℕ} → length plan ≡ modules p → zeroed ≡ replicate (length plan) 0 → risked ≡ join zeroed (risks_of p) → risked ≡ marks_of (risks_of p) (modules p)
+risks-marked p plan size z e = e ∙ ap (λ (s : List ℕ). join s (risks_of p)) z ∙ join-zero (length plan) (risks_of p) ∙ ap (marks_of (risks_of p)) size
+
 -- the start: the risks, then the eligible seed rows
-module _ (p : Project) (eligibles : List ℕ) (k : eligibles ≡ eligible_marks p) (risked plan : List ℕ)
+module _ (p : Project) {eligibles risked plan : List ℕ} (k : eligibles ≡ eligible_marks p)
     (risked-is : risked ≡ marks_of (risks_of p) (modules p)) (o : Owners p.seed (looked 0 eligibles p.seed) (length p.seed) risked plan) where
   risked-has : (m : ℕ) → m < modules p → has risked m ≡ risks_of p m
   risked-has m l = ap (λ (s : List ℕ). has s m) risked-is ∙ has-marks_of (risks_of p) (modules p) m l
@@ -85,6 +91,6 @@ module _ (p : Project) (eligibles : List ℕ) (k : eligibles ≡ eligible_marks 
   pub whole-marked : Marked p plan
   whole-marked = record { size = plan-size; bits = plan-bits }
 
-  pub whole-planned : (plan' : List ℕ) → plan' ≡ closed p plan → plan' ≡ whole_plan p
+  pub whole-planned : {plan' : List ℕ} → plan' ≡ closed p plan → plan' ≡ whole_plan p
   unfolding whole_plan plan_of plan_from
-  whole-planned plan' e = e ∙ ap (close (asked (orders_of p) (labels_of p) p)) whole-start
+  whole-planned e = e ∙ ap (close (asked (orders_of p) (labels_of p) p)) whole-start

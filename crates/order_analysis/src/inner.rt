@@ -1,135 +1,80 @@
 // For crates above, on tested tables.
-ghost use Rattle.std.specs.Prelude.{◌≡◌, true, length};
+ghost use Rattle.std.specs.Prelude.{◌≡◌, length};
 ghost use Rattle.lists.specs.Words.{ones, marks_of};
-ghost use Rattle.tables.specs.Project.{Project};
 ghost use Rattle.tables.specs.Readings.{modules};
-ghost use Rattle.names.specs.Names.{names_in};
-ghost use Rattle.table.specs.Table.{table, read};
-ghost use Rattle.arrangement.specs.OfProject.{named};
-ghost use Rattle.table.specs.Places.{Places};
 ghost use Rattle.risk_of_orders.specs.inner.Steps.{join};
-ghost use Rattle.wrap_rules.specs.Plan.{roots as roots_of};
 ghost use Rattle.order_analysis.specs.Promise.{whole_plan};
-ghost use Rattle.order_analysis.specs.inner.Analysis.{risks_of, Made};
+ghost use Rattle.visit_columns.specs.inner.OverTable.{Prepared};
+ghost use Rattle.chunk_cycles.specs.Cycles.{labels_of};
+ghost use Rattle.at_risk.specs.inner.OverTable.{Sets};
+ghost use Rattle.wrap_rules.specs.Plan.{roots as roots_of};
+ghost use Rattle.order_analysis.specs.inner.Analysis.{risks_of};
 
 use analysed_entries::inner::find_entry;
-use arrangement::inner::read_members;
 use at_risk::inner::add_entry_risk;
 use chunk_cycles::inner::label_table;
+use current_columns::inner::Current;
 use eligibility::of_table::mark_table_eligible;
 use lists::inner::{count_marked, fill};
 use plan_rounds::inner::build_order_wrap_plan;
 use reached_modules::inner::list_table_roots;
+use rule_sets::inner::{RuleSpace, read_sets};
 use seeds::inner::mark_table_seeds;
 use sensitivity::inner::mark_table_sensitive;
-use table::{CHUNK_LIMIT, MODULE_LIMIT, ORDER, ROW_LIMIT, rows};
+use table::{CHUNK_LIMIT, MODULE_LIMIT};
 use visit_columns::inner::{PREPARED, prepare_table};
 
-// Adds the risk of each root to a set. `prepared` has the columns that the visits read, `labels` the chunks' labels, `sensitives` and `eligibles`
-// the marks of those modules.
-fn add_risks<'a>(
-    runtime: u32,
-    dynamic: u32,
-    bounds: &'a [u32],
-    columns: &'a [u32],
-    importers: &'a [u32],
-    kinds: &'a [u32],
-    targets: &'a [u32],
-    dependencies: &'a [u32],
-    members: &'a [u32],
-    roots: &'a [u32],
-    prepared: &'a [u32],
-    labels: &'a [u32],
-    sensitives: &'a [u32],
-    eligibles: &'a [u32],
+// Adds the risk of each root to a set. `prepared` has the columns that the visits read, `labels` the chunks' labels.
+fn add_risks(
+    current: &Current,
+    roots: &[u32],
+    prepared: &[u32],
+    labels: &[u32],
+    sensitives: &[u32],
+    eligibles: &[u32],
     out: &mut [u32],
 )
-    requires roots { let p : Project = read (table runtime dynamic bounds.now columns.now) importers.now kinds.now targets.now dependencies.now members.now in roots.now ≡ roots_of p }
-    requires made { let p : Project = read (table runtime dynamic bounds.now columns.now) importers.now kinds.now targets.now dependencies.now members.now in Made p labels.now prepared.now sensitives.now eligibles.now (length out.old) }
-    ensures { let p : Project = read (table runtime dynamic bounds.now columns.now) importers.now kinds.now targets.now dependencies.now members.now in out.new ≡ join out.old (risks_of p) }
+    requires roots { roots.now ≡ roots_of current.now }
+    requires prepared { Prepared current.now prepared.now }
+    requires labels { labels.now ≡ labels_of current.now }
+    requires sets { Sets current.now sensitives.now eligibles.now }
+    requires places { length out.old ≡ modules current.now }
+    ensures { out.new ≡ join out.old (risks_of current.now) }
 {
-    let count = roots.len();
-    for k in 0..count {
-        let root = roots[k];
-        let chunk = find_entry(
-            runtime,
-            dynamic,
-            bounds,
-            columns,
-            importers,
-            kinds,
-            targets,
-            dependencies,
-            members,
-            root,
-        );
-        add_entry_risk(
-            runtime,
-            dynamic,
-            bounds,
-            columns,
-            importers,
-            kinds,
-            targets,
-            dependencies,
-            members,
-            prepared,
-            labels,
-            sensitives,
-            eligibles,
-            out,
-            root,
-            chunk,
-        );
+    for root in roots {
+        if let Some(chunk) = find_entry(current, *root) {
+            add_entry_risk(
+                current, prepared, labels, sensitives, eligibles, out, *root, chunk,
+            );
+        }
     }
 }
 
-// Marks the risks of the analysed entries, and nothing else.
-fn mark_risks<'a>(
-    runtime: u32,
-    dynamic: u32,
-    bounds: &'a [u32],
-    columns: &'a [u32],
-    importers: &'a [u32],
-    kinds: &'a [u32],
-    targets: &'a [u32],
-    dependencies: &'a [u32],
-    members: &'a [u32],
-    prepared: &'a [u32],
-    labels: &'a [u32],
-    sensitives: &'a [u32],
-    eligibles: &'a [u32],
-    out: &mut [u32],
-)
-    requires made { let p : Project = read (table runtime dynamic bounds.now columns.now) importers.now kinds.now targets.now dependencies.now members.now in Made p labels.now prepared.now sensitives.now eligibles.now (length out.old) }
-    ensures { let p : Project = read (table runtime dynamic bounds.now columns.now) importers.now kinds.now targets.now dependencies.now members.now in out.new ≡ marks_of (risks_of p) (modules p) }
+// Marks the risks of the analysed entries, and nothing else. Its arrays are gone before the rules' are made, so that the stack is that of one of the two.
+#[inline(never)]
+fn mark_risks(current: &Current, out: &mut [u32])
+    requires { length out.old ≡ modules current.now }
+    ensures { out.new ≡ marks_of (risks_of current.now) (modules current.now) }
 {
+    let n = current.modules();
+    let mut labels = [0u32; CHUNK_LIMIT];
+    let labels = &mut labels[..current.chunks()];
+    label_table(current, labels);
+    let mut sensitives = [0u32; MODULE_LIMIT];
+    let sensitives = &mut sensitives[..n];
+    mark_table_sensitive(current, sensitives);
+    let mut eligibles = [0u32; MODULE_LIMIT];
+    let eligibles = &mut eligibles[..n];
+    mark_table_eligible(current, eligibles);
+    let mut prepared = [0u32; PREPARED];
+    prepare_table(current, &mut prepared);
     let mut roots = [0u32; MODULE_LIMIT];
-    let count = list_table_roots(
-        runtime,
-        dynamic,
-        bounds,
-        columns,
-        importers,
-        kinds,
-        targets,
-        dependencies,
-        members,
-        &mut roots,
-    );
+    let count = list_table_roots(current, &mut roots);
     fill(out, 0);
     add_risks(
-        runtime,
-        dynamic,
-        bounds,
-        columns,
-        importers,
-        kinds,
-        targets,
-        dependencies,
-        members,
+        current,
         &roots[..count],
-        prepared,
+        &prepared,
         labels,
         sensitives,
         eligibles,
@@ -137,206 +82,25 @@ fn mark_risks<'a>(
     );
 }
 
-// The plan of the whole analysis, by the chunks' labels and load order and the marks of the sensitive and of the eligible modules.
-fn plan_risks<'a>(
-    runtime: u32,
-    dynamic: u32,
-    bounds: &'a [u32],
-    columns: &'a [u32],
-    importers: &'a [u32],
-    kinds: &'a [u32],
-    targets: &'a [u32],
-    dependencies: &'a [u32],
-    members: &'a [u32],
-    prepared: &'a [u32],
-    labels: &'a [u32],
-    sensitives: &'a [u32],
-    eligibles: &'a [u32],
-    plan: &mut [u32],
-)
-    requires made { let p : Project = read (table runtime dynamic bounds.now columns.now) importers.now kinds.now targets.now dependencies.now members.now in Made p labels.now prepared.now sensitives.now eligibles.now (length plan.old) }
-    ensures { let p : Project = read (table runtime dynamic bounds.now columns.now) importers.now kinds.now targets.now dependencies.now members.now in plan.new ≡ whole_plan p }
+// Adds the eligible seed rows to the marked risks, and closes them under the rules.
+#[inline(never)]
+fn plan_risks(current: &Current, plan: &mut [u32])
+    requires { plan.old ≡ marks_of (risks_of current.now) (modules current.now) }
+    ensures { plan.new ≡ whole_plan current.now }
 {
-    mark_risks(
-        runtime,
-        dynamic,
-        bounds,
-        columns,
-        importers,
-        kinds,
-        targets,
-        dependencies,
-        members,
-        prepared,
-        labels,
-        sensitives,
-        eligibles,
-        plan,
-    );
-    mark_table_seeds(
-        runtime,
-        dynamic,
-        bounds,
-        columns,
-        importers,
-        kinds,
-        targets,
-        dependencies,
-        members,
-        eligibles,
-        plan,
-    );
-    build_order_wrap_plan(
-        runtime,
-        dynamic,
-        bounds,
-        columns,
-        importers,
-        kinds,
-        targets,
-        dependencies,
-        members,
-        labels,
-        sensitives,
-        eligibles,
-        plan,
-    );
+    let mut space = RuleSpace::EMPTY;
+    let sets = read_sets(current, &mut space);
+    mark_table_seeds(current, sets.eligible, plan);
+    build_order_wrap_plan(&sets, plan);
 }
 
 // The plan of the whole analysis, as marks. How many are marked.
-pub fn analyze<'a>(
-    runtime: u32,
-    dynamic: u32,
-    bounds: &'a [u32],
-    columns: &'a [u32],
-    importers: &'a [u32],
-    kinds: &'a [u32],
-    targets: &'a [u32],
-    dependencies: &'a [u32],
-    members: &'a [u32],
-    plan: &mut [u32],
-) -> usize
-    requires places { let p : Project = read (table runtime dynamic bounds.now columns.now) importers.now kinds.now targets.now dependencies.now members.now in Places p (modules p) (length plan.old) }
-    ensures plan { let p : Project = read (table runtime dynamic bounds.now columns.now) importers.now kinds.now targets.now dependencies.now members.now in plan.new ≡ whole_plan p }
-    ensures count { let p : Project = read (table runtime dynamic bounds.now columns.now) importers.now kinds.now targets.now dependencies.now members.now in result ≡ ones (whole_plan p) }
+pub fn analyze(current: &Current, plan: &mut [u32]) -> usize
+    requires places { length plan.old ≡ modules current.now }
+    ensures plan { plan.new ≡ whole_plan current.now }
+    ensures count { result ≡ ones (whole_plan current.now) }
 {
-    let n = plan.len();
-    let chunks = rows(bounds, columns, ORDER);
-    let mut labels = [0u32; CHUNK_LIMIT];
-    label_table(
-        runtime,
-        dynamic,
-        bounds,
-        columns,
-        importers,
-        kinds,
-        targets,
-        dependencies,
-        members,
-        &mut labels[..chunks],
-    );
-    let mut prepared = [0u32; PREPARED];
-    prepare_table(
-        runtime,
-        dynamic,
-        bounds,
-        columns,
-        importers,
-        kinds,
-        targets,
-        dependencies,
-        members,
-        &mut prepared,
-    );
-    let mut sensitives = [0u32; MODULE_LIMIT];
-    mark_table_sensitive(
-        runtime,
-        dynamic,
-        bounds,
-        columns,
-        importers,
-        kinds,
-        targets,
-        dependencies,
-        members,
-        &mut sensitives[..n],
-    );
-    let mut eligibles = [0u32; MODULE_LIMIT];
-    mark_table_eligible(
-        runtime,
-        dynamic,
-        bounds,
-        columns,
-        importers,
-        kinds,
-        targets,
-        dependencies,
-        members,
-        &mut eligibles[..n],
-    );
-    plan_risks(
-        runtime,
-        dynamic,
-        bounds,
-        columns,
-        importers,
-        kinds,
-        targets,
-        dependencies,
-        members,
-        &prepared,
-        &labels[..chunks],
-        &sensitives[..n],
-        &eligibles[..n],
-        plan,
-    );
+    mark_risks(current, plan);
+    plan_risks(current, plan);
     count_marked(plan)
-}
-
-// The same with the members as they are read.
-pub fn analyze_named<'a>(
-    runtime: u32,
-    dynamic: u32,
-    bounds: &'a [u32],
-    columns: &'a [u32],
-    names: &'a [u8],
-    importers: &'a [u32],
-    kinds: &'a [u32],
-    targets: &'a [u32],
-    dependencies: &'a [u32],
-    members: &'a [u32],
-    plan: &mut [u32],
-) -> usize
-    requires names { let p : Project = read (table runtime dynamic bounds.now columns.now) importers.now kinds.now targets.now dependencies.now members.now in names_in (modules p) names.now ≡ true }
-    requires places { let p : Project = read (table runtime dynamic bounds.now columns.now) importers.now kinds.now targets.now dependencies.now members.now in Places p (modules p) (length plan.old) }
-    ensures plan { let p : Project = read (table runtime dynamic bounds.now columns.now) importers.now kinds.now targets.now dependencies.now members.now in plan.new ≡ whole_plan (named p names.now) }
-    ensures count { let p : Project = read (table runtime dynamic bounds.now columns.now) importers.now kinds.now targets.now dependencies.now members.now in result ≡ ones (whole_plan (named p names.now)) }
-{
-    let rows = members.len();
-    let mut arranged = [0u32; ROW_LIMIT];
-    read_members(
-        runtime,
-        dynamic,
-        bounds,
-        columns,
-        importers,
-        kinds,
-        targets,
-        dependencies,
-        members,
-        names,
-        &mut arranged[..rows],
-    );
-    analyze(
-        runtime,
-        dynamic,
-        bounds,
-        columns,
-        importers,
-        kinds,
-        targets,
-        dependencies,
-        &arranged[..rows],
-        plan,
-    )
 }

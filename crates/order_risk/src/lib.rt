@@ -5,58 +5,26 @@ ghost use Rattle.arrangement.specs.OfProject.{as_named};
 ghost use Rattle.at_risk.specs.Promise.{EntryOrderRisk};
 
 use analysed_entries::inner::find_entry;
-use current_columns::inner::read_current;
-use order_risk_marks::inner::mark_named_order_risk;
-use refusal::test;
-use table::{DEPENDENCY, MEMBER, NORMAL, ROW_LIMIT, Table};
-use tables::{ModuleIdx, Refusal};
+use arrangement::inner::read_named;
+use current_columns::inner::ReadSpace;
+use order_risk_marks::inner::mark_order_risk;
+use table::{ROW_LIMIT, Table};
+use tables::Refusal;
 
 // The order risk of an analysed entry: 0 or 1 for each module, written to `marks` from place 0. The count is that of the ones.
-#[tactic(auto, unfolding(table::specs::Table::table, table::specs::Table::read, table::specs::Table::current, arrangement::specs::OfProject::named, tables::specs::Readings::is_analysed))]
 pub fn order_risk(table: &Table, root: u32, marks: &mut [u32]) -> Result<usize, Refusal>
     ensures { EntryOrderRisk (as_named table.now) root marks.old result marks.new }
 {
-    test(table)?;
-    let dependencies = table.column(DEPENDENCY);
-    let members = table.column(MEMBER);
-    let chunk = find_entry(
-        table.runtime,
-        table.dynamic,
-        table.bounds,
-        table.columns,
-        table.importers,
-        table.kinds,
-        table.targets,
-        dependencies,
-        members,
-        root,
-    );
-    if chunk == ModuleIdx::MISSING {
+    let mut space = ReadSpace::EMPTY;
+    let mut arranged = [0u32; ROW_LIMIT];
+    let current = read_named(table, &mut space, &mut arranged)?;
+    let Some(chunk) = find_entry(&current, root) else {
         return Err(Refusal::Argument);
-    }
-    let modules = table.rows(NORMAL);
+    };
+    let modules = current.modules();
     if marks.len() < modules {
         return Err(Refusal::ShortSlice);
     }
-    let mut read_targets = [0u32; ROW_LIMIT];
-    let mut read_dependencies = [0u32; ROW_LIMIT];
-    read_current(table, &mut read_targets, &mut read_dependencies);
-    let records = table.targets.len();
-    let dependency_rows = table.rows(DEPENDENCY);
-    let count = mark_named_order_risk(
-        table.runtime,
-        table.dynamic,
-        table.bounds,
-        table.columns,
-        table.names,
-        table.importers,
-        table.kinds,
-        &read_targets[..records],
-        &read_dependencies[..dependency_rows],
-        members,
-        &mut marks[..modules],
-        root,
-        chunk,
-    );
+    let count = mark_order_risk(&current, &mut marks[..modules], root, chunk);
     Ok(count)
 }

@@ -4,12 +4,11 @@
 
 use grounds::grounds;
 use lines::put_line;
-use listing::{Reading, read};
+use listing::{TextSpace, read_text};
 use order_analysis::analyze_execution_order;
-use parts::{first_of, part_of};
 use std::io;
 use streams::read_full;
-use table::{COLUMNS, ENTRY, MODULE_LIMIT, Table};
+use table::{ENTRY, MODULE_LIMIT, Table};
 use tables::Refusal;
 use wall_page::entry_page;
 
@@ -81,45 +80,12 @@ fn pages(rt: &impl Print, table: &Table) -> io::Result<()> {
     }
 }
 
-// Prints the pages of a project that was read, with n values in its columns.
-fn pages_of<'a>(
-    rt: &impl Print,
-    settings: [u32; 2],
-    bounds: &'a [u32; COLUMNS + 1],
-    columns: &'a [u32; 32768],
-    n: usize,
-    names: &'a [u8],
-) -> io::Result<()> {
-    pages(
-        rt,
-        &Table::new(
-            settings[0],
-            settings[1],
-            bounds,
-            first_of(columns, n),
-            names,
-        ),
-    )
-}
-
 // Prints the pages of a text.
 fn pages_of_text(rt: &impl Print, text: &[u8]) -> io::Result<()> {
-    let mut settings = [0u32; 2];
-    let mut bounds = [0u32; COLUMNS + 1];
-    let mut columns = [0u32; 32768];
-    let answer = read(text, &mut settings, &mut bounds, &mut columns);
-    match answer {
+    let mut space = TextSpace::EMPTY;
+    match read_text(text, &mut space) {
         Err(refusal) => refused(rt, refusal),
-        Ok(Reading { values, from, to }) => {
-            pages_of(
-                rt,
-                settings,
-                &bounds,
-                &columns,
-                values,
-                part_of(text, from, to),
-            )
-        }
+        Ok(table) => pages(rt, &table),
     }
 }
 

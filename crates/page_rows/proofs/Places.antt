@@ -20,8 +20,11 @@ unranked order m = ⊎_elim (λ e. rw e) (λ e. rw e) (both (elem m order))
 
 module _ (order : List ℕ) (n : ℕ) (rows : Below n order) where
   -- members that are marked as without a place
-  pub keep-unplaced : (places : List ℕ) → keep (has (marks_of (unplaced places) n)) order ≡ keep (unplaced places) order
+  keep-unplaced : (places : List ℕ) → keep (has (marks_of (unplaced places) n)) order ≡ keep (unplaced places) order
   keep-unplaced places = keep-cong (has (marks_of (unplaced places) n)) (unplaced places) order (λ x h. has-marks_of (unplaced places) n x (below-mem order rows h))
+
+  pub keep-marked : (places : List ℕ) {marks : List ℕ} {m : ℕ} → marks ≡ marks_of (unplaced places) m → m ≡ n → keep (has marks) order ≡ keep (unplaced places) order
+  keep-marked places e l = rw (e, l) (keep-unplaced places)
 
   -- members without a place are the others
   pub unplaced-others : (expected places : List ℕ) → length places ≡ n → Ranked expected places → keep (unplaced places) order ≡ others_of expected order

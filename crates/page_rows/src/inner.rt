@@ -53,8 +53,9 @@ fn list_unplaced(order: &[u32], places: &[u32], kept: &mut [u32]) -> usize
 {
     let n = places.len();
     let mut left = [0u32; MODULE_LIMIT];
-    mark_unplaced(places, &mut left[..n]);
-    keep_marked(order, &left[..n], kept)
+    let left = &mut left[..n];
+    mark_unplaced(places, left);
+    keep_marked(order, left, kept)
 }
 
 // Writes the places in both sensitive orders of an entry, and lists the members of the actual one that have no expected place. How many there are.

@@ -7,7 +7,7 @@ use mathlib.Core.List.Memᴰ
 use mathlib.Core.List.{flat_map, Memᴰ}
 use native.Mathlib.Omega.{arith}
 use lib.ListN.{get_or-eq_default, length-append}
-use lib.Seq.{length-take-le, take_at}
+use lib.Seq.{length-take-le}
 use Rattle.lists.specs.Words.{has, elem}
 use Rattle.lists.proofs.Laws.{both, mem-keep}
 use Rattle.lists.proofs.Members.{get_d-mem}
@@ -104,55 +104,30 @@ module _ (expected actual plan expected_places actual_places : List ℕ) (o : Or
         ∙ ap (λ (ls : List (List ℕ)). get_or ls number []) (map-cong (line_with expected_places actual_places plan) (line_of expected actual (has plan)) (expected ++ others_of expected actual) (λ x h. line_same x (row_in x h)))
 
 -- the places are written to fresh arrays
-abbrev pub fresh : List ℕ
-fresh = replicate module_limit 0
+module _ (n : ℕ) (few : n ≤ module_limit) where
+  pub fresh-length : length {A = ℕ} (take n (replicate module_limit 0)) ≡ n
+  fresh-length = length-take-le n (replicate module_limit 0) few
 
-module _ (expected actual : List ℕ) (n : ℕ) (o : Orders expected actual n) where
-  pub fresh-length : length (take n fresh) ≡ n
-  fresh-length = length-take-le n fresh o.few
+  pub fresh-zeros : take {A = ℕ} n (replicate module_limit 0) ≡ replicate (length {A = ℕ} (take n (replicate module_limit 0))) 0
+  fresh-zeros = take-zeros n module_limit few ∙ ap (λ (k : ℕ). replicate k 0) (sym fresh-length)
 
-  fresh-zeros : take n fresh ≡ replicate (length (take n fresh)) 0
-  fresh-zeros = take-zeros n module_limit o.few ∙ ap (λ (k : ℕ). replicate k 0) (sym fresh-length)
-
-  pub lay-ready : (Order expected (length (take n fresh)) × Order actual (length (take n fresh)))
-      × (((take n fresh ≡ replicate (length (take n fresh)) 0) × (take n fresh ≡ replicate (length (take n fresh)) 0))
-      × ((length (take n fresh) ≤ module_limit) × (length actual ≤ length fresh)))
-  lay-ready = (
-    (subst (Order expected) (sym fresh-length) o.expected_order, subst (Order actual) (sym fresh-length) o.actual_order),
-    ((fresh-zeros, fresh-zeros), (omega (arith, fresh-length, o.few), o.actual_order.few)),
-  )
-
--- what was laid out, as the arrays hold it
-module _ (expected actual plan expected_places actual_places held : List ℕ) (count : ℕ) (o : Orders expected actual (length plan))
-    (e : length expected_places ≡ length plan) (a : length actual_places ≡ length plan)
-    (w : Laid expected actual expected_places actual_places held count) (rest_e rest_a : List ℕ) where
-  abbrev n : ℕ
-  n = length plan
-
-  same-e : take n (expected_places ++ rest_e) ≡ expected_places
-  same-e = take_at expected_places rest_e n e
-
-  same-a : take n (actual_places ++ rest_a) ≡ actual_places
-  same-a = take_at actual_places rest_a n a
-
-  pub laid-ready : Sheet (take n (expected_places ++ rest_e)) (take n (actual_places ++ rest_a)) plan × (Below n expected × Below n (take count held))
+-- what was laid out
+module _ (expected actual plan : List ℕ) {expected_places actual_places held : List ℕ} {count : ℕ} (o : Orders expected actual (length plan))
+    (e : length expected_places ≡ length plan) (a : length actual_places ≡ length plan) (w : Laid expected actual expected_places actual_places held count) where
+  pub laid-ready : Sheet expected_places actual_places plan × (Below (length plan) expected × Below (length plan) (take count held))
   laid-ready = (
-    rw (same-e, same-a) (laid-sheet expected actual plan expected_places actual_places o e a w.expected_ranks w.actual_ranks),
+    laid-sheet expected actual plan expected_places actual_places o e a w.expected_ranks w.actual_ranks,
     (o.expected_order.members, other-rows expected actual plan expected_places actual_places o e a w.expected_ranks w.actual_ranks (take count held) w.rest),
   )
 
-  pub laid-room : length expected + length (take count held) ≤ n
+  pub laid-room : length expected + length (take count held) ≤ length plan
   laid-room = lines_fit expected actual plan expected_places actual_places o e a w.expected_ranks w.actual_ranks (take count held) w.rest
 
-  pub laid-page : page_with (take n (expected_places ++ rest_e)) (take n (actual_places ++ rest_a)) plan expected (take count held) ≡ page_by expected actual (has plan)
-  laid-page =
-      ap₂ (λ (x y : List ℕ). page_with x y plan expected (take count held)) same-e same-a
-      ∙ page-same expected actual plan expected_places actual_places o e a w.expected_ranks w.actual_ranks (take count held) w.rest
+  pub laid-page : page_with expected_places actual_places plan expected (take count held) ≡ page_by expected actual (has plan)
+  laid-page = page-same expected actual plan expected_places actual_places o e a w.expected_ranks w.actual_ranks (take count held) w.rest
 
-  pub laid-line : (number : ℕ) → numbered_with (take n (expected_places ++ rest_e)) (take n (actual_places ++ rest_a)) plan expected (take count held) number ≡ line_at expected actual (has plan) number
-  laid-line number =
-      ap₂ (λ (x y : List ℕ). numbered_with x y plan expected (take count held) number) same-e same-a
-      ∙ numbered-same expected actual plan expected_places actual_places o e a w.expected_ranks w.actual_ranks (take count held) w.rest number
+  pub laid-line : (number : ℕ) → numbered_with expected_places actual_places plan expected (take count held) number ≡ line_at expected actual (has plan) number
+  laid-line = numbered-same expected actual plan expected_places actual_places o e a w.expected_ranks w.actual_ranks (take count held) w.rest
 
 -- room for the page or for one line
 pub either_room : (whole : Bool) (x y z : ℕ) → x ≤ y → cond whole (41 * y) 41 ≤ z → cond whole (41 * x) 41 ≤ z

@@ -149,20 +149,22 @@ fn put_text(
 {
     let n = plan.len();
     let mut expected_places = [0u32; MODULE_LIMIT];
+    let expected_places = &mut expected_places[..n];
     let mut actual_places = [0u32; MODULE_LIMIT];
+    let actual_places = &mut actual_places[..n];
     let mut others = [0u32; MODULE_LIMIT];
     let count = lay_out(
         expected,
         actual,
-        &mut expected_places[..n],
-        &mut actual_places[..n],
+        expected_places,
+        actual_places,
         &mut others,
     );
     put_laid(
         expected,
         &others[..count],
-        &expected_places[..n],
-        &actual_places[..n],
+        expected_places,
+        actual_places,
         plan,
         out,
         whole,

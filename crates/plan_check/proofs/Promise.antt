@@ -1,6 +1,6 @@
 -- What the operation answers where the project is refused, and where the call is accepted.
 -- Assumes nothing.
-use Rattle.std.specs.Prelude.{◌≡◌, ℕ, ◌<◌, ◌≤◌, true, eqb, ltb, leb, List, length, get_or, None, Ok, Err}
+use Rattle.std.specs.Prelude.{◌≡◌, ℕ, ◌<◌, ◌≤◌, true, eqb, ltb, leb, List, length, get_or, None, Some, Ok, Err}
 use mathlib.Core.Path.{refl}
 use native.Mathlib.Omega.{arith}
 use lib.ListN.{get_or-eq_default}
@@ -15,8 +15,7 @@ use Rattle.tables.specs.Readings.{modules}
 use Rattle.tables.specs.Refusal.{row_limit, below}
 use Rattle.tables.specs.Accepted.{Below}
 use Rattle.tables.specs.declared.Refusal.{Refusal}
-use Rattle.tables.specs.Answers.{tested}
-use Rattle.tables.proofs.Answering.{answer-refused, answer-accepted, tested-refused}
+use Rattle.tables.proofs.Answering.{answer-refused, answer-accepted}
 use Rattle.table.specs.Table.{Lent}
 use Rattle.wrap_rules.specs.inner.Passes.{Marked}
 use Rattle.seeds.specs.Seeds.{seeds_fit}
@@ -44,9 +43,9 @@ seeds-below n seeds fits i l =
     ltb-true (get_or seeds i 0) n (every-mem (λ (x : ℕ). ltb x n) seeds all (get_d-mem seeds i l))
 
 module _ (t : Lent) (seeds plan : List ℕ) where
-  pub project-refused : {e : Refusal} → Err e ≡ tested t.refused → Err e ≡ judgement t seeds plan
+  pub project-refused : {e : Refusal} → t.refused ≡ Some e → Err e ≡ judgement t seeds plan
   unfolding judgement
-  project-refused h = answer-refused {v = check_verdict t seeds plan} (judged t.project seeds plan) (rw (tested-refused t.refused h) refl)
+  project-refused h = answer-refused {v = check_verdict t seeds plan} (judged t.project seeds plan) (rw h refl)
 
   pub plan-judged : t.refused ≡ None → seeds_fit (modules t.project) seeds ≡ true → plan_fits (modules t.project) plan ≡ true → Ok (judged t.project seeds plan) ≡ judgement t seeds plan
   unfolding judgement

@@ -1,9 +1,9 @@
 -- "only eligible modules, holds the eligible seeds and is closed under the four rules": the six conditions of a plan, and what is said of one.
 -- Assumes nothing.
-use Rattle.std.specs.Prelude.{ℕ, suc, Bool, cond, not, ◌&&◌, List, [], ◌∷◌, map, ◌==◌}
+use Rattle.std.specs.Prelude.{ℕ, suc, Bool, not, ◌&&◌, List, [], ◌∷◌, map, Option, None, Some}
 use Rattle.lists.specs.Words.{up_to, keep, elem, has}
-use Rattle.tables.specs.Project.{Project, missing}
-use Rattle.tables.specs.Readings.{modules, first_of}
+use Rattle.tables.specs.Project.{Project}
+use Rattle.tables.specs.Readings.{modules}
 use Rattle.chunk_cycles.specs.Cycles.{labels_of}
 use Rattle.eligibility.specs.Eligible.{eligible}
 use Rattle.wrap_rules.specs.Plan.{Rule, suffix_rule, component_rule, import_rule, read_rule, asks, orders_of}
@@ -25,14 +25,20 @@ broken p seeds plan only_eligible m = has plan m && not (eligible p m)
 broken p seeds plan holds_seeds m = (eligible p m && elem m seeds) && not (has plan m)
 broken p seeds plan (closed_under rule) m = asks (orders_of p) (labels_of p) p rule plan m && not (has plan m)
 
--- "the lowest module" below n that passes a test, the mark where there is none
-abbrev pub lowest : (ℕ → Bool) → ℕ → ℕ
-lowest test n = first_of (keep test (up_to n))
+-- the first of a list, if there is one
+abbrev pub first : List ℕ → Option ℕ
+first [] = None
+first (m ∷ ms) = Some m
 
--- "the first broken condition": the first module of a list that isn't the mark, with its number from i on
-abbrev pub first_broken : ℕ → List ℕ → Judgement
+-- "the lowest module" below n that passes a test, if there is one
+abbrev pub lowest : (ℕ → Bool) → ℕ → Option ℕ
+lowest test n = first (keep test (up_to n))
+
+-- "the first broken condition": the first of these for which there is a module, with its number from i on
+abbrev pub first_broken : ℕ → List (Option ℕ) → Judgement
 first_broken i [] = Accepted
-first_broken i (m ∷ ms) = cond (m == missing) (first_broken (suc i) ms) (Broken i m)
+first_broken i (None ∷ ms) = first_broken (suc i) ms
+first_broken i (Some m ∷ ms) = Broken i m
 
 -- what is said of a plan: accepted, or the number of the first broken condition, from 1 on, and the lowest module that breaks it
 unfoldable pub judged : Project → List ℕ → List ℕ → Judgement

@@ -6,7 +6,6 @@ ghost use Rattle.plan_conditions.specs.Form.{plan_fits};
 ghost use Rattle.plan_conditions.specs.Conditions.{lowest, first_broken};
 
 use crate::Judgement;
-use tables::ModuleIdx;
 
 // Whether a plan is one mark, 0 or 1, for each of n modules.
 pub fn plan_fits(plan: &[u32], n: usize) -> bool
@@ -15,48 +14,48 @@ pub fn plan_fits(plan: &[u32], n: usize) -> bool
     plan.len() == n && plan.iter().all(|&mark| mark <= 1)
 }
 
-// The lowest member of one set that is out of another, the mark where there is none.
-pub fn lowest_lacking(asked: &[u32], held: &[u32]) -> u32
+// The lowest member of one set that is out of another, if there is one.
+pub fn lowest_lacking(asked: &[u32], held: &[u32]) -> Option<u32>
     requires rows { length held.now ≡ length asked.now }
     requires few { length asked.now ≤ module_limit }
     ensures { result ≡ lowest (λ (m : ℕ). has asked.now m && not (has held.now m)) (length asked.now) }
 {
     for (m, &mark) in asked.iter().enumerate() {
         if mark != 0 && held[m] == 0 {
-            return m as u32;
+            return Some(m as u32);
         }
     }
-    ModuleIdx::MISSING
+    None
 }
 
-// The first of six modules that isn't the mark, with its number.
+// The first of six modules that there is, with its number.
 pub fn name_first(
-    eligible: u32,
-    seed: u32,
-    suffix: u32,
-    member: u32,
-    importer: u32,
-    reader: u32,
+    eligible: Option<u32>,
+    seed: Option<u32>,
+    suffix: Option<u32>,
+    member: Option<u32>,
+    importer: Option<u32>,
+    reader: Option<u32>,
 ) -> Judgement
     ensures { result ≡ first_broken 1 (eligible ∷ seed ∷ suffix ∷ member ∷ importer ∷ reader ∷ []) }
 {
-    if eligible != ModuleIdx::MISSING {
-        return Judgement::Broken(1, eligible);
+    if let Some(m) = eligible {
+        return Judgement::Broken(1, m);
     }
-    if seed != ModuleIdx::MISSING {
-        return Judgement::Broken(2, seed);
+    if let Some(m) = seed {
+        return Judgement::Broken(2, m);
     }
-    if suffix != ModuleIdx::MISSING {
-        return Judgement::Broken(3, suffix);
+    if let Some(m) = suffix {
+        return Judgement::Broken(3, m);
     }
-    if member != ModuleIdx::MISSING {
-        return Judgement::Broken(4, member);
+    if let Some(m) = member {
+        return Judgement::Broken(4, m);
     }
-    if importer != ModuleIdx::MISSING {
-        return Judgement::Broken(5, importer);
+    if let Some(m) = importer {
+        return Judgement::Broken(5, m);
     }
-    if reader != ModuleIdx::MISSING {
-        return Judgement::Broken(6, reader);
+    if let Some(m) = reader {
+        return Judgement::Broken(6, m);
     }
     Judgement::Accepted
 }

@@ -1,3 +1,3 @@
--- `Seeding`: the seeds that a plan lacks. `Judging`: the six conditions.
+-- `Seeding`: the seeds that a plan lacks. `Judging`: the conditions on eligible modules and on seeds.
 mod Seeding
 mod Judging

@@ -3,11 +3,12 @@
 use Rattle.std.specs.Prelude.{◌≡◌, ℕ, zero, suc, ◌<◌, ◌≤◌, List, [], ◌∷◌, ◌++◌, map, length, get_or, take, drop, None, Some}
 use mathlib.Core.Path.{refl, sym, ap, subst, ◌∙◌}
 use native.Mathlib.Omega.{arith}
-use lib.ListN.{length-append, length-map, get_or-append}
-use lib.Seq.{take_at}
+use lib.ListN.{replicate, length-append, length-map, get_or-append}
+use lib.Seq.{take_at, length-take-le}
 use Rattle.lists.proofs.Members.{get_d-mem}
 use Rattle.tables.specs.Project.{Project}
 use Rattle.tables.specs.Readings.{modules}
+use Rattle.tables.specs.Refusal.{module_limit}
 use Rattle.tables.specs.Accepted.{Below}
 use Rattle.entry_run.specs.Actual.{read_as_two}
 use Rattle.entry_run.specs.inner.Cores.{Listed}
@@ -16,6 +17,10 @@ use Rattle.wraps_and_hosts.specs.Hosts.{host_by}
 use Rattle.planned_load.specs.declared.LoadStep.{LoadStep}
 use Rattle.planned_load.specs.Steps.{planned_run, step_at, step_of, step_modules, step_hosts}
 use Rattle.planned_load.specs.inner.Stepping.{Stepped}
+
+-- a place a module at the front of an array
+pub room-length : {n : ℕ} → n ≤ module_limit → length {A = ℕ} (take n (replicate module_limit 0)) ≡ n
+room-length {n = n} few = length-take-le n (replicate module_limit 0) few
 
 -- a step that lists a module with its host
 abbrev pub step : ℕ → ℕ → LoadStep

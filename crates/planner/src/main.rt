@@ -8,14 +8,14 @@ use expected_order::expected_order;
 use grounds::grounds;
 use import_circles::import_circles;
 use lines::{put_line, rising};
-use listing::{Reading, read};
+use listing::{TextSpace, read_text};
 use order_analysis::analyze_execution_order;
 use order_risk::order_risk;
-use parts::{first_of, part_of};
+use parts::first_of;
 use sort_modules::sort_modules;
 use std::io;
 use streams::read_full;
-use table::{COLUMNS, ENTRY, MODULE_LIMIT, ROW_LIMIT, Table};
+use table::{ENTRY, MODULE_LIMIT, ROW_LIMIT, Table};
 use tables::Refusal;
 
 // Writes as many bytes as were counted.
@@ -220,45 +220,12 @@ fn lines(rt: &impl Print, table: &Table) -> io::Result<()> {
     sorted_lines(rt, table, &sorted, answer)
 }
 
-// Prints the lines of a project that was read, with n values in its columns.
-fn lines_of<'a>(
-    rt: &impl Print,
-    settings: [u32; 2],
-    bounds: &'a [u32; COLUMNS + 1],
-    columns: &'a [u32; 32768],
-    n: usize,
-    names: &'a [u8],
-) -> io::Result<()> {
-    lines(
-        rt,
-        &Table::new(
-            settings[0],
-            settings[1],
-            bounds,
-            first_of(columns, n),
-            names,
-        ),
-    )
-}
-
 // Prints the lines of a text.
 fn lines_of_text(rt: &impl Print, text: &[u8]) -> io::Result<()> {
-    let mut settings = [0u32; 2];
-    let mut bounds = [0u32; COLUMNS + 1];
-    let mut columns = [0u32; 32768];
-    let answer = read(text, &mut settings, &mut bounds, &mut columns);
-    match answer {
+    let mut space = TextSpace::EMPTY;
+    match read_text(text, &mut space) {
         Err(refusal) => print(rt, b"refused", &[], &[refusal.number()]),
-        Ok(Reading { values, from, to }) => {
-            lines_of(
-                rt,
-                settings,
-                &bounds,
-                &columns,
-                values,
-                part_of(text, from, to),
-            )
-        }
+        Ok(table) => lines(rt, &table),
     }
 }
 

@@ -3,7 +3,6 @@
 use Rattle.std.specs.Prelude.{◌≡◌, ℕ, ◌≤◌, List, length, take, drop}
 use mathlib.Core.Path.{sym, ap, subst, ◌∙◌}
 use native.Mathlib.Omega.{arith}
-use lib.ListN.{length-append}
 use lib.Seq.{take_at}
 use Rattle.tables.specs.Project.{Project, missing}
 use Rattle.tables.specs.Readings.{modules}
@@ -28,21 +27,19 @@ few-roots p ok =
 pub written_read : {list old new : List ℕ} {r : ℕ} → Written list old new r → take r new ≡ list
 written_read {list} {old} {new} {r} w = ap (take r) w.written ∙ take_at list (drop (length list) old) r (sym w.count)
 
-pub written-room : {list old new : List ℕ} {r : ℕ} → Written list old new r → r ≤ length new
-written-room {list} {old} {new} {r} w = omega (arith, w.count, ap length w.written, length-append list (drop (length list) old))
+module _ (p : Project) (ok : Accepted p) (importers targets root_list eligibles old : List ℕ) (g : Choosing p importers targets root_list eligibles old) where
+  -- the candidates that are chosen
+  pub candidates-made : (candidates : List ℕ) → Chosen p.included root_list importers targets eligibles old candidates → candidates ≡ candidate_marks p
+  candidates-made candidates h =
+      let few : modules p ≤ missing = omega (arith, ok.sizes.normal) in
+      chosen-candidates p ok old candidates g.size g.bits
+      (subst (λ (s : List ℕ). Chosen p.included (roots p) p.record_module (record_targets p) s old candidates) g.eligible_set
+      (subst (λ (s : List ℕ). Chosen p.included s p.record_module (record_targets p) eligibles old candidates) g.root
+      (chosen-rows p.included root_list p.record_module (record_targets p) importers targets eligibles old candidates (modules p) g.size
+      (rows-edges p.record_module (record_targets p) importers targets (modules p) few g.edges)
+      (edges-rows p.record_module (record_targets p) importers targets (modules p) few g.edges)
+      h)))
 
--- the candidates that are chosen
-pub candidates-made : (p : Project) (importers targets root_list eligibles old candidates : List ℕ) → Choosing p importers targets root_list eligibles old → Chosen p.included root_list importers targets eligibles old candidates → candidates ≡ candidate_marks p
-candidates-made p importers targets root_list eligibles old candidates g h =
-    let few : modules p ≤ missing = omega (arith, g.accepted.sizes.normal) in
-    chosen-candidates p g.accepted old candidates g.size g.bits
-    (subst (λ (s : List ℕ). Chosen p.included (roots p) p.record_module (record_targets p) s old candidates) g.eligible_set
-    (subst (λ (s : List ℕ). Chosen p.included s p.record_module (record_targets p) eligibles old candidates) g.root
-    (chosen-rows p.included root_list p.record_module (record_targets p) importers targets eligibles old candidates (modules p) g.size
-    (rows-edges p.record_module (record_targets p) importers targets (modules p) few g.edges)
-    (edges-rows p.record_module (record_targets p) importers targets (modules p) few g.edges)
-    h)))
-
--- the graph that they are chosen by
-pub choosing-graph : (p : Project) (importers targets root_list eligibles old : List ℕ) → Choosing p importers targets root_list eligibles old → ModuleGraph importers targets (modules p)
-choosing-graph p importers targets root_list eligibles old g = edges-graph p g.accepted importers targets g.lengths g.edges
+  -- the graph that they are chosen by
+  pub choosing-graph : ModuleGraph importers targets (length old)
+  choosing-graph = rw g.size (edges-graph p ok importers targets g.lengths g.edges)

@@ -4,15 +4,11 @@ ghost use Rattle.lists.specs.Words.{has};
 ghost use Rattle.tables.specs.Accepted.{Below};
 ghost use Rattle.marks.specs.Steps.{Added, Marks};
 ghost use Rattle.read_rule.specs.inner.Reads.{ChainTouch, SymbolTouch, ReferenceTouch, Touching, Reader, Linking, Symbols, Depending, Reading, TopLevelRead, ReadPassed};
-ghost use Rattle.tables.specs.Project.{Project};
-ghost use Rattle.table.specs.Table.{table, read};
 ghost use Rattle.wrap_rules.specs.inner.Passes.{Marked, CandidateSet};
 
+use current_columns::inner::Current;
 use marks::inner::{add, any_open, look_up, mark_owners, mark_rows};
-use table::{
-    CANONICAL, CHAIN_LINK, CHAIN_SYMBOL, DEPENDED, DEPENDED_REFERENCE, MODULE_LIMIT, OWNER, READS,
-    REFERENCE_STATEMENT, REFERENCE_SYMBOL, ROW_LIMIT, STATEMENT_MODULE, column,
-};
+use table::{MODULE_LIMIT, ROW_LIMIT};
 
 // Marks the symbols whose owner is planned, or a link owner in whose chain. `owners` is working space: the symbols whose owner is planned.
 fn mark_chains(
@@ -58,17 +54,10 @@ fn mark_symbols(
     requires rows { length symbols.old ≡ length owner.now }
     ensures { Marks (SymbolTouch owner.now canonical.now chain_symbol.now chain_link.now plan.now) symbols.new }
 {
-    let n = owner.len();
     let mut chains = [0u32; ROW_LIMIT];
-    mark_chains(
-        owner,
-        chain_symbol,
-        chain_link,
-        plan,
-        symbols,
-        &mut chains[..n],
-    );
-    mark_canonicals(canonical, &chains[..n], symbols);
+    let chains = &mut chains[..owner.len()];
+    mark_chains(owner, chain_symbol, chain_link, plan, symbols, chains);
+    mark_canonicals(canonical, chains, symbols);
 }
 
 // Marks the references to a symbol that touches the plan, or with a depended one.
@@ -120,21 +109,14 @@ fn mark_touching(
     requires depends { Depending depended_reference.now depended.now (length references.old) (length owner.now) }
     ensures { Marks (Touching owner.now canonical.now chain_symbol.now chain_link.now reference_symbol.now depended_reference.now depended.now plan.now) references.new }
 {
-    let n = owner.len();
     let mut symbols = [0u32; ROW_LIMIT];
-    mark_symbols(
-        owner,
-        canonical,
-        chain_symbol,
-        chain_link,
-        plan,
-        &mut symbols[..n],
-    );
+    let symbols = &mut symbols[..owner.len()];
+    mark_symbols(owner, canonical, chain_symbol, chain_link, plan, symbols);
     mark_references(
         reference_symbol,
         depended_reference,
         depended,
-        &symbols[..n],
+        symbols,
         references,
     );
 }
@@ -161,8 +143,10 @@ pub fn close_top_level_readers(
     if !any_open(reads, candidates, plan) {
         return false;
     }
-    let rows = reference_statement.len();
     let mut references = [0u32; ROW_LIMIT];
+    let mut readers = [0u32; MODULE_LIMIT];
+    let references = &mut references[..reference_statement.len()];
+    let readers = &mut readers[..plan.len()];
     mark_touching(
         owner,
         canonical,
@@ -172,48 +156,29 @@ pub fn close_top_level_readers(
         depended_reference,
         depended,
         plan,
-        &mut references[..rows],
+        references,
     );
-    let n = plan.len();
-    let mut readers = [0u32; MODULE_LIMIT];
-    mark_readers(
-        statement_module,
-        reference_statement,
-        &references[..rows],
-        &mut readers[..n],
-    );
-    add(&readers[..n], reads, candidates, plan)
+    mark_readers(statement_module, reference_statement, references, readers);
+    add(readers, reads, candidates, plan)
 }
 
 // The pass over a table. Whether any module was added.
-pub fn pass_readers<'a>(
-    runtime: u32,
-    dynamic: u32,
-    bounds: &'a [u32],
-    columns: &'a [u32],
-    importers: &'a [u32],
-    kinds: &'a [u32],
-    targets: &'a [u32],
-    dependencies: &'a [u32],
-    members: &'a [u32],
-    candidates: &[u32],
-    plan: &mut [u32],
-) -> bool
-    requires sets { let p : Project = read (table runtime dynamic bounds.now columns.now) importers.now kinds.now targets.now dependencies.now members.now in CandidateSet p candidates.now }
-    requires plan { let p : Project = read (table runtime dynamic bounds.now columns.now) importers.now kinds.now targets.now dependencies.now members.now in Marked p plan.old }
-    ensures { let p : Project = read (table runtime dynamic bounds.now columns.now) importers.now kinds.now targets.now dependencies.now members.now in ReadPassed p plan.old plan.new result }
+pub fn pass_readers(current: &Current, candidates: &[u32], plan: &mut [u32]) -> bool
+    requires sets { CandidateSet current.now candidates.now }
+    requires plan { Marked current.now plan.old }
+    ensures { ReadPassed current.now plan.old plan.new result }
 {
     close_top_level_readers(
-        column(bounds, columns, READS),
-        column(bounds, columns, STATEMENT_MODULE),
-        column(bounds, columns, OWNER),
-        column(bounds, columns, CANONICAL),
-        column(bounds, columns, CHAIN_SYMBOL),
-        column(bounds, columns, CHAIN_LINK),
-        column(bounds, columns, REFERENCE_STATEMENT),
-        column(bounds, columns, REFERENCE_SYMBOL),
-        column(bounds, columns, DEPENDED_REFERENCE),
-        column(bounds, columns, DEPENDED),
+        current.reads,
+        current.statement_module,
+        current.owner,
+        current.canonical,
+        current.chain_symbol,
+        current.chain_link,
+        current.reference_statement,
+        current.reference_symbol,
+        current.depended_reference,
+        current.depended,
         candidates,
         plan,
     )

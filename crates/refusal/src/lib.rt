@@ -6,8 +6,10 @@ ghost use Rattle.table.specs.Table.{bounds_fit, table_refusal, tested_too};
 ghost use Rattle.table.specs.Lending.{as_lent, written};
 ghost use Rattle.tables.specs.Refusal.{refusal};
 ghost use Rattle.tables.specs.Answers.{tested};
+ghost use Rattle.refusal.specs.Reading.{ReadAs};
 
 use column_tests::inner::{is_rising, newer_fits};
+use current_columns::inner::{Current, ReadSpace, read_table};
 use names::{names_in, names_sized};
 use size_tests::inner::{chunks_sized, code_sized, symbols_sized};
 use table::{COLUMNS, NEWER, NORMAL, Table};
@@ -87,4 +89,15 @@ pub fn test(table: &Table) -> Result<(), Refusal>
         None => Ok(()),
         Some(refusal) => Err(refusal),
     }
+}
+
+// Tests a table with its names, and gives it as it is read.
+pub fn read_tested<'a, 't: 'a>(
+    table: &Table<'t>,
+    space: &'a mut ReadSpace,
+) -> Result<Current<'a>, Refusal>
+    ensures { ReadAs (as_lent table.now) result }
+{
+    test(table)?;
+    Ok(read_table(table, space))
 }

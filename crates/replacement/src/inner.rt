@@ -29,6 +29,7 @@ pub fn find_latest(newer: &[u32], found: &mut [u32])
     requires newer_len_bound { length newer.now ≤ module_limit }
     ensures { found.new ≡ map (latest newer.now) (up_to (length newer.now)) }
 {
+    // by number, from the last: each reads what was written for a later one
     for m in (0..newer.len()).rev() {
         found[m] = latest_of(newer, found, m);
     }

@@ -144,6 +144,7 @@ fn calls_agree(
     calls: u32,
 ) -> io::Result<u32> {
     let mut agree: u32 = 0;
+    // calls are read as they come, and counted
     for call in 0..calls {
         if call_agrees(rt, scanner, table, filler, call + 1)? {
             agree = agree.saturating_add(1);
@@ -186,6 +187,7 @@ fn replay(rt: &impl Print, scanner: &mut Scanner) -> io::Result<()> {
     let mut names = [0u8; 266240];
     let cases = scanner.number();
     let mut all = Tally::default();
+    // cases are read as they come, and counted
     for _ in 0..cases {
         all = all.and(case(rt, scanner, &mut bounds, &mut columns, &mut names)?);
     }

@@ -74,6 +74,7 @@ impl<'a> Scanner<'a> {
     // The number whose digits come next; 4294967295 where it is too large.
     fn digits(&mut self) -> u32 {
         let mut value: u32 = 0;
+        // digits, as long as there are
         while let Some((digit @ b'0'..=b'9', rest)) = self.text.split_first() {
             value = value
                 .saturating_mul(10)
@@ -83,7 +84,7 @@ impl<'a> Scanner<'a> {
         value
     }
 
-    // The next number; `-` is the missing mark.
+    // The next number; `-` is the missing mark, as a column holds it.
     pub(crate) fn number(&mut self) -> u32 {
         self.text = self.text.trim_ascii_start();
         if self.passes(b'-') {

@@ -20,7 +20,7 @@ pub fn number(out: &mut [u32])
     }
 }
 
-// A number, or the mark where one of two marks is 0.
+// A number, or the mark where one of two marks is 0: the mark, as it is written to a column.
 fn choose(first: u32, second: u32, m: u32) -> u32
     ensures { result ≡ choice first second m }
 {
@@ -63,12 +63,10 @@ pub fn add_edges(
     ensures { Adds (Rows sources.now a targets.now b) (length sources.now) from.old to.old count from.new to.new result }
 {
     let mut end = count;
-    for row in 0..sources.len() {
-        let source = sources[row];
+    for (&source, &target) in sources.iter().zip(targets) {
         if ROW_LIMIT <= source as usize {
             continue;
         }
-        let target = targets[row];
         if ROW_LIMIT <= target as usize {
             continue;
         }
@@ -85,6 +83,7 @@ pub fn thread_edges(from: &[u32], heads: &mut [u32], nexts: &mut [u32])
     ensures { Threads from.now heads.new nexts.new }
 {
     heads.fill(from.len() as u32);
+    // by number: it writes each row's own place and number
     for row in (0..from.len()).rev() {
         let m = from[row] as usize;
         nexts[row] = heads[m];

@@ -1,6 +1,6 @@
 -- The edges of the import records are the records themselves; all edges in turn.
 -- Assumes nothing.
-use Rattle.std.specs.Prelude.{◌≡◌, ℕ, ◌+◌, ◌<◌, ◌⊎◌, List, length, get_or}
+use Rattle.std.specs.Prelude.{◌≡◌, ℕ, ◌+◌, ◌<◌, List, length, get_or}
 use mathlib.Core.Path.{sym, ap, subst, ◌∙◌}
 use mathlib.Core.Logic.{⊎_map}
 use native.Mathlib.Omega.{arith}
@@ -9,12 +9,11 @@ use Rattle.tables.specs.Project.{Project}
 use Rattle.tables.specs.Readings.{modules}
 use Rattle.tables.specs.Accepted.{Accepted}
 use Rattle.tables.specs.Refusal.{row_limit}
-use Rattle.table.proofs.Cut.{given2, given4}
 use Rattle.import_edges.specs.inner.Spread.{record_targets}
 use Rattle.import_edges.proofs.Edging.{length-targets}
 use Rattle.request_edges.specs.inner.Edges.{numbered, chosen, Rows, Adds}
 use Rattle.request_edges.proofs.Adding.{adds_on, adds-as}
-use Rattle.request_graph.specs.inner.Requests.{ImportRows, at_lead, ComponentRows, LeadRows, ComponentEdge, ImportEdge, SymbolEdge, RequestEdge, Basis, Requests}
+use Rattle.request_graph.specs.inner.Requests.{ImportRows, at_lead, LeadRows, ComponentEdge, SymbolEdge, RequestEdge, Basis, Requests}
 
 module _ (p : Project) (ok : Accepted p) (importers targets : List ℕ) (g : ImportRows p importers targets) where
   abbrev Led : ℕ → ℕ → Type 0
@@ -59,17 +58,11 @@ numbered-at n i d l = get_d-map-up_to (λ (i : ℕ). i) n i d l
 
 -- the edges of (ii), then those of (iii), then those of (iv)
 pub requests-on : (p : Project) → Accepted p → {labels sensitives eligibles candidates importers targets : List ℕ} → Basis p labels sensitives eligibles candidates → ImportRows p importers targets
-    → {chunks member_chunks dependents numbers asked : List ℕ} → chunks ≡ p.chunk → member_chunks ≡ p.member_chunk → dependents ≡ p.dependency_module → numbers ≡ numbered (modules p) → asked ≡ chosen sensitives eligibles
-    → {from to from₁ to₁ from₂ to₂ from₃ to₃ : List ℕ} {count₁ count₂ count₃ : ℕ} → Adds (ComponentRows chunks member_chunks p.member labels numbers asked) 20480 from to 0 from₁ to₁ count₁
-    → Adds (LeadRows importers targets dependents p.dependency numbers) 36864 from₁ to₁ count₁ from₂ to₂ count₂ → Adds (SymbolEdge p candidates) 98304 from₂ to₂ count₂ from₃ to₃ count₃ → Requests p from to from₃ to₃ count₃
+    → {from to from₁ to₁ from₂ to₂ from₃ to₃ : List ℕ} {count₁ count₂ count₃ : ℕ} → Adds (ComponentEdge p labels (numbered (modules p)) (chosen sensitives eligibles)) 20480 from to 0 from₁ to₁ count₁
+    → Adds (LeadRows importers targets p.dependency_module p.dependency (numbered (modules p))) 36864 from₁ to₁ count₁ from₂ to₂ count₂ → Adds (SymbolEdge p candidates) 98304 from₂ to₂ count₂ from₃ to₃ count₃ → Requests p from to from₃ to₃ count₃
 unfolding RequestEdge
-requests-on p ok {labels} {sensitives} {eligibles} {candidates} {importers} {targets} b g e1 e2 e3 e4 e5 {from} {to} {from₁} {to₁} {from₂} {to₂} {from₃} {to₃} {count₁} {count₂} {count₃} v w z =
-    let own : List ℕ = numbered (modules p) in
-    given4 (λ (labels sensitives eligibles candidates : List ℕ). Adds (λ (u v : ℕ). ComponentEdge p labels own (chosen sensitives eligibles) u v ⊎ (ImportEdge p own u v ⊎ SymbolEdge p candidates u v)) 155648 from to 0 from₃ to₃ count₃)
-    b.label b.sensitive_set b.eligible_set b.candidate_set
-    (adds_on from to 0 {j = 20480} {k = 135168}
-    (given4 (λ (chunks member_chunks numbers asked : List ℕ). Adds (ComponentRows chunks member_chunks p.member labels numbers asked) 20480 from to 0 from₁ to₁ count₁) e1 e2 e4 e5 v)
+requests-on p ok {labels} {sensitives} {eligibles} {candidates} {importers} {targets} b g {from} {to} {from₁} {to₁} {from₂} {to₂} {from₃} {to₃} {count₁} {count₂} {count₃} v w z =
+    adds_on from to 0 {j = 20480} {k = 135168} (rw (b.label, b.sensitive_set, b.eligible_set) at v)
     (adds_on from₁ to₁ count₁ {j = 36864} {k = 98304}
-    (adds-as from₁ to₁ count₁ (λ u v. ⊎_map (λ x. x) (⊎_map (import-rows p ok importers targets g u v) (λ x. x))) (λ u v. ⊎_map (λ x. x) (⊎_map (rows-import p ok importers targets g u v) (λ x. x)))
-    (given2 (λ (dependents numbers : List ℕ). Adds (LeadRows importers targets dependents p.dependency numbers) 36864 from₁ to₁ count₁ from₂ to₂ count₂) e3 e4 w))
-    z))
+    (adds-as from₁ to₁ count₁ (λ u v. ⊎_map (λ x. x) (⊎_map (import-rows p ok importers targets g u v) (λ x. x))) (λ u v. ⊎_map (λ x. x) (⊎_map (rows-import p ok importers targets g u v) (λ x. x))) w)
+    (rw b.candidate_set at z))

@@ -1,21 +1,16 @@
 // For crates above, on tested tables.
 ghost use Rattle.std.specs.Prelude.{◌≡◌, ◌≤◌, length};
-ghost use Rattle.tables.specs.Project.{Project};
 ghost use Rattle.tables.specs.Readings.{modules};
 ghost use Rattle.tables.specs.Refusal.{module_limit, row_limit};
-ghost use Rattle.table.specs.Table.{table, read};
 ghost use Rattle.request_edges.specs.inner.Edges.{Adds};
-ghost use Rattle.request_graph.specs.inner.Requests.{EdgeRoom, Room, SymbolRoom, Symbols, References, ImportRows, ComponentRows, LeadRows, ChainEdge, ReadEdge, readers_of, SymbolEdge, Basis, Requests};
+ghost use Rattle.request_graph.specs.inner.Requests.{Room, ImportRows, ComponentRows, LeadRows, ChainEdge, ReadEdge, readers_of, SymbolEdge, Basis, Requests};
 
+use current_columns::inner::Current;
 use marks::inner::look_up;
 use request_edges::inner::{
     add_edges, add_from_looked, add_looked, add_to_looked, number, number_chosen,
 };
-use table::{
-    CANONICAL, CHAIN_LINK, CHAIN_SYMBOL, CHUNK, DEPENDED, DEPENDED_REFERENCE, DEPENDENCY_MODULE,
-    MEMBER_CHUNK, MODULE_LIMIT, OWNER, READS, REFERENCE_STATEMENT, REFERENCE_SYMBOL, ROW_LIMIT,
-    STATEMENT_MODULE, column, rows,
-};
+use table::{MODULE_LIMIT, ROW_LIMIT};
 use tables::ModuleIdx;
 
 // The places of the graph: a planned module stands at its own number. From these numbers on stand, a module each, the request for it,
@@ -89,27 +84,24 @@ fn add_import_edges(
     add_edges(dependencies, dependents, from, to, led, 0, DEPENDENT)
 }
 
-// Rule (iv) reads neither the settings nor what is lent beside a table: its functions take the table alone, with 0 for both settings.
-
 // Adds the first edges of rule (iv): from a module to the chains of its symbols, and of those with a link that it owns.
-fn add_chain_edges<'a>(
-    bounds: &'a [u32],
-    columns: &'a [u32],
+#[tactic(auto, unfolding(current_columns::specs::AsProject::project))]
+fn add_chain_edges(
+    current: &Current,
     symbols: &[u32],
     from: &mut [u32],
     to: &mut [u32],
     count: usize,
 ) -> usize
-    requires room { let p : Project = table 0 0 bounds.now columns.now in SymbolRoom p 32768 from.old to.old count }
-    requires symbols { let p : Project = table 0 0 bounds.now columns.now in Symbols p symbols.now }
-    ensures { let p : Project = table 0 0 bounds.now columns.now in Adds (ChainEdge p symbols.now) 32768 from.old to.old count from.new to.new result }
+    requires room { Room 32768 from.old to.old count }
+    requires symbols { length symbols.now ≡ length current.now.owner }
+    ensures { Adds (ChainEdge current.now symbols.now) 32768 from.old to.old count from.new to.new result }
 {
-    let owner = column(bounds, columns, OWNER);
-    let own = add_edges(owner, symbols, from, to, count, 0, CHAIN);
+    let own = add_edges(current.owner, symbols, from, to, count, 0, CHAIN);
     add_from_looked(
-        column(bounds, columns, CHAIN_LINK),
-        owner,
-        column(bounds, columns, CHAIN_SYMBOL),
+        current.chain_link,
+        current.owner,
+        current.chain_symbol,
         from,
         to,
         own,
@@ -119,52 +111,45 @@ fn add_chain_edges<'a>(
 }
 
 // Writes each reference's module, where that is a candidate that reads at the top level, else the mark.
-fn find_readers<'a>(bounds: &'a [u32], columns: &'a [u32], candidates: &[u32], readers: &mut [u32])
-    requires places { let p : Project = table 0 0 bounds.now columns.now in References p candidates.now (length readers.old) }
-    ensures { let p : Project = table 0 0 bounds.now columns.now in readers.new ≡ readers_of p candidates.now }
+#[tactic(auto, unfolding(current_columns::specs::AsProject::project))]
+fn find_readers(current: &Current, candidates: &[u32], readers: &mut [u32])
+    requires candidates { length candidates.now ≡ modules current.now }
+    requires places { length readers.old ≡ length current.now.reference_statement }
+    ensures { readers.new ≡ readers_of current.now candidates.now }
 {
-    let n = candidates.len();
     let mut reading = [0u32; MODULE_LIMIT];
-    number_chosen(
-        candidates,
-        column(bounds, columns, READS),
-        &mut reading[..n],
-    );
-    let count = readers.len();
     let mut modules = [0u32; ROW_LIMIT];
+    let reading = &mut reading[..current.normal.len()];
+    let modules = &mut modules[..current.reference_statement.len()];
+    number_chosen(candidates, current.reads, reading);
     look_up(
-        column(bounds, columns, REFERENCE_STATEMENT),
-        column(bounds, columns, STATEMENT_MODULE),
-        &mut modules[..count],
+        current.reference_statement,
+        current.statement_module,
+        modules,
         ModuleIdx::MISSING,
     );
-    look_up(
-        &modules[..count],
-        &reading[..n],
-        readers,
-        ModuleIdx::MISSING,
-    );
+    look_up(modules, reading, readers, ModuleIdx::MISSING);
 }
 
 // Adds the last edges of rule (iv): from the chain of a symbol, or of its canonical, to the readers of the references that name it.
-fn add_read_edges<'a>(
-    bounds: &'a [u32],
-    columns: &'a [u32],
+#[tactic(auto, unfolding(current_columns::specs::AsProject::project))]
+fn add_read_edges(
+    current: &Current,
     readers: &[u32],
     from: &mut [u32],
     to: &mut [u32],
     count: usize,
 ) -> usize
-    requires room { let p : Project = table 0 0 bounds.now columns.now in SymbolRoom p 65536 from.old to.old count }
-    requires readers { let p : Project = table 0 0 bounds.now columns.now in length readers.now ≡ length p.reference_statement }
-    ensures { let p : Project = table 0 0 bounds.now columns.now in Adds (ReadEdge p readers.now) 65536 from.old to.old count from.new to.new result }
+    requires room { Room 65536 from.old to.old count }
+    requires readers { length readers.now ≡ length current.now.reference_statement }
+    ensures { Adds (ReadEdge current.now readers.now) 65536 from.old to.old count from.new to.new result }
 {
-    let symbols = column(bounds, columns, REFERENCE_SYMBOL);
-    let canonical = column(bounds, columns, CANONICAL);
+    let symbols = current.reference_symbol;
+    let canonical = current.canonical;
     let own = add_edges(symbols, readers, from, to, count, CHAIN, REQUEST);
     let first = add_from_looked(symbols, canonical, readers, from, to, own, CHAIN, REQUEST);
-    let depended = column(bounds, columns, DEPENDED);
-    let references = column(bounds, columns, DEPENDED_REFERENCE);
+    let depended = current.depended;
+    let references = current.depended_reference;
     let more = add_to_looked(
         depended, references, readers, from, to, first, CHAIN, REQUEST,
     );
@@ -174,39 +159,32 @@ fn add_read_edges<'a>(
 }
 
 // Adds the edges of rule (iv).
-fn add_symbol_edges<'a>(
-    bounds: &'a [u32],
-    columns: &'a [u32],
+#[tactic(auto, unfolding(current_columns::specs::AsProject::project))]
+fn add_symbol_edges(
+    current: &Current,
     candidates: &[u32],
     from: &mut [u32],
     to: &mut [u32],
     count: usize,
 ) -> usize
-    requires room { let p : Project = table 0 0 bounds.now columns.now in SymbolRoom p 98304 from.old to.old count }
-    requires candidates { let p : Project = table 0 0 bounds.now columns.now in length candidates.now ≡ modules p }
-    ensures { let p : Project = table 0 0 bounds.now columns.now in Adds (SymbolEdge p candidates.now) 98304 from.old to.old count from.new to.new result }
+    requires room { Room 98304 from.old to.old count }
+    requires candidates { length candidates.now ≡ modules current.now }
+    ensures { Adds (SymbolEdge current.now candidates.now) 98304 from.old to.old count from.new to.new result }
 {
-    let symbols = rows(bounds, columns, OWNER);
     let mut names = [0u32; ROW_LIMIT];
-    number(&mut names[..symbols]);
-    let chains = add_chain_edges(bounds, columns, &names[..symbols], from, to, count);
-    let references = rows(bounds, columns, REFERENCE_STATEMENT);
     let mut readers = [0u32; ROW_LIMIT];
-    find_readers(bounds, columns, candidates, &mut readers[..references]);
-    add_read_edges(bounds, columns, &readers[..references], from, to, chains)
+    let names = &mut names[..current.owner.len()];
+    let readers = &mut readers[..current.reference_statement.len()];
+    number(names);
+    let chains = add_chain_edges(current, names, from, to, count);
+    find_readers(current, candidates, readers);
+    add_read_edges(current, readers, from, to, chains)
 }
 
 // Writes the edges of a table. How many there are.
-pub fn request_edges<'a>(
-    runtime: u32,
-    dynamic: u32,
-    bounds: &'a [u32],
-    columns: &'a [u32],
-    importers: &'a [u32],
-    kinds: &'a [u32],
-    targets: &'a [u32],
-    dependencies: &'a [u32],
-    members: &'a [u32],
+#[tactic(auto, unfolding(current_columns::specs::AsProject::project))]
+pub fn request_edges(
+    current: &Current,
     edge_from: &[u32],
     edge_to: &[u32],
     labels: &[u32],
@@ -216,23 +194,25 @@ pub fn request_edges<'a>(
     from: &mut [u32],
     to: &mut [u32],
 ) -> usize
-    requires room { let p : Project = read (table runtime dynamic bounds.now columns.now) importers.now kinds.now targets.now dependencies.now members.now in EdgeRoom p 155648 from.old to.old 0 }
-    requires edges { let p : Project = read (table runtime dynamic bounds.now columns.now) importers.now kinds.now targets.now dependencies.now members.now in ImportRows p edge_from.now edge_to.now }
-    requires made { let p : Project = read (table runtime dynamic bounds.now columns.now) importers.now kinds.now targets.now dependencies.now members.now in Basis p labels.now sensitive.now eligible.now candidates.now }
-    ensures { let p : Project = read (table runtime dynamic bounds.now columns.now) importers.now kinds.now targets.now dependencies.now members.now in Requests p from.old to.old from.new to.new result }
+    requires room { Room 155648 from.old to.old 0 }
+    requires edges { ImportRows current.now edge_from.now edge_to.now }
+    requires made { Basis current.now labels.now sensitive.now eligible.now candidates.now }
+    ensures { Requests current.now from.old to.old from.new to.new result }
 {
-    let n = candidates.len();
+    let n = current.modules();
     let mut numbers = [0u32; MODULE_LIMIT];
-    number(&mut numbers[..n]);
     let mut asked = [0u32; MODULE_LIMIT];
-    number_chosen(sensitive, eligible, &mut asked[..n]);
+    let numbers = &mut numbers[..n];
+    let asked = &mut asked[..n];
+    number(numbers);
+    number_chosen(sensitive, eligible, asked);
     let components = add_component_edges(
-        column(bounds, columns, CHUNK),
-        column(bounds, columns, MEMBER_CHUNK),
-        members,
+        current.chunk,
+        current.member_chunk,
+        current.member,
         labels,
-        &numbers[..n],
-        &asked[..n],
+        numbers,
+        asked,
         from,
         to,
         0,
@@ -240,12 +220,12 @@ pub fn request_edges<'a>(
     let leads = add_import_edges(
         edge_from,
         edge_to,
-        column(bounds, columns, DEPENDENCY_MODULE),
-        dependencies,
-        &numbers[..n],
+        current.dependency_module,
+        current.dependency,
+        numbers,
         from,
         to,
         components,
     );
-    add_symbol_edges(bounds, columns, candidates, from, to, leads)
+    add_symbol_edges(current, candidates, from, to, leads)
 }

@@ -38,6 +38,7 @@ fn follow(
 {
     let mut end = count;
     let mut row = heads[x as usize] as usize;
+    // a thread: each row names the next
     while row < from.len() {
         end = push(marks, queue, end, to[row]);
         row = nexts[row] as usize;
@@ -64,8 +65,8 @@ pub fn reach(
     ensures { Reached from.now to.now x marks.old queue.old count marks.new queue.new result }
 {
     let mut end = follow(from, to, heads, nexts, marks, queue, count, x);
-    // no `for`: the list grows meanwhile
     let mut at = count;
+    // the list grows while it is read
     while at < end {
         let next = queue[at];
         end = follow(from, to, heads, nexts, marks, queue, end, next);

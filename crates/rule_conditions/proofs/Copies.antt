@@ -1,12 +1,10 @@
 -- A copy of a plan to which just what a rule asks for was added has more than the plan exactly what breaks the rule's condition.
 -- Assumes nothing.
-use Rattle.std.specs.Prelude.{◌≡◌, ℕ, Bool, true, not, ◌&&◌, List, [], ◌++◌, length, drop}
+use Rattle.std.specs.Prelude.{◌≡◌, ℕ, Bool, true, not, ◌&&◌, List, [], length}
 use mathlib.Core.Path.{sym, ap, ◌∙◌}
 use mathlib.Core.Logic.{⊎_elim}
 use mathlib.Core.Bool.{true≢false}
-use mathlib.Core.List.{append-nil}
 use native.Mathlib.Omega.{arith}
-use lib.Seq.{drop-length}
 use Rattle.lists.specs.Words.{has}
 use Rattle.lists.proofs.Laws.{and_parts, and-join, iff-eq, not-true}
 use Rattle.tables.specs.Project.{Project}
@@ -16,11 +14,6 @@ use Rattle.marks.specs.Steps.{Added}
 use Rattle.wrap_rules.specs.Plan.{Rule, asks, orders_of}
 use Rattle.plan_conditions.specs.Conditions.{closed_under, broken, lowest}
 use Rattle.plan_conditions.proofs.Lowest.{lowest-cong}
-
--- a list copied over one of its length
-pub copied : (plan old new : List ℕ) → length old ≡ length plan → new ≡ plan ++ drop (length plan) old → new ≡ plan
-copied plan old new n e =
-    e ∙ ap (λ (i : ℕ). plan ++ drop i old) (sym n) ∙ ap (λ (xs : List ℕ). plan ++ xs) (drop-length old) ∙ append-nil plan
 
 -- what a rule added to the plan and the plan lacks
 module _ (p : Project) (rule : Rule) (plan : List ℕ) where

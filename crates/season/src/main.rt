@@ -91,6 +91,7 @@ fn read_behind(input: &mut impl Read, text: &mut [u8], n: usize) -> Option<usize
 // Reads until `text` is full or the file ends: how many bytes, or none where a read failed.
 fn read_text(input: &mut impl Read, text: &mut [u8]) -> Option<usize> {
     let mut n = 0;
+    // a reader
     while n < text.len() {
         let more = read_behind(input, text, n)?;
         if more == 0 {
@@ -221,6 +222,7 @@ fn take_all(
 {
     let mut now = season;
     let mut turns = u64::MAX;
+    // turns are counted, so that it ends whatever is read
     while turns > 0 {
         let taken = take_some(rt, input, now, name)?;
         let next = taken.season;

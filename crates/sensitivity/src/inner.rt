@@ -1,19 +1,14 @@
 // Sensitive modules and their grounds, for crates above, on tested tables.
 ghost use Rattle.std.specs.Prelude.{◌≡◌, ◌+◌, ◌-◌, ◌<◌, ◌≤◌, map, length};
 ghost use Rattle.lists.specs.Words.{any, count_from, up_to};
-ghost use Rattle.tables.specs.Project.{Project};
 ghost use Rattle.tables.specs.Readings.{modules};
 ghost use Rattle.tables.specs.Refusal.{module_limit};
 ghost use Rattle.tables.specs.Lookups.{FirstRows};
-ghost use Rattle.table.specs.Table.{table, read};
-ghost use Rattle.table.specs.Places.{Places};
 ghost use Rattle.sensitivity.specs.Marks.{wakes, statement_wakes, uses_wrapped, ground_by, ground_at, sensitive_marks};
 ghost use Rattle.sensitivity.specs.Ready.{Records, Uses, Flags, Statements, UseRows};
 
-use table::{
-    INCLUDED, MODULE_LIMIT, NORMAL, ROW_LIMIT, SENSITIVE, STATEMENT_INCLUDED, STATEMENT_MODULE,
-    USE_RECORD, USE_STATEMENT, WRAP, column,
-};
+use current_columns::inner::Current;
+use table::{MODULE_LIMIT, ROW_LIMIT};
 use tables::Target;
 use tables::inner::{first_rows, resolve, thread};
 
@@ -60,9 +55,11 @@ fn search_uses(
     requires range { (first ≤ end) × (end ≤ length statement_included.now) }
     ensures { result ≡ any (statement_wakes normal.now wrap.now record_kind.now record_target.now statement_included.now use_statement.now use_record.now) (count_from first (end - first)) }
 {
+    // by number: a statement is looked up in two columns
     for s in first..end {
         if statement_included[s] == 1 {
             let mut u = heads[s] as usize;
+            // a thread: each use names the next
             while u < use_statement.len() {
                 let row = use_record[u] as usize;
                 if row_wakes(normal, wrap, record_kind, record_target, row) {
@@ -246,13 +243,13 @@ pub fn mark_sensitive(
     requires few { length marks.old ≤ module_limit }
     ensures { marks.new ≡ map (ground_at runtime normal.now included.now sensitive.now (uses_wrapped normal.now wrap.now record_kind.now record_target.now statement_module.now statement_included.now use_statement.now use_record.now)) (up_to (length marks.old)) }
 {
-    let statements = statement_included.len();
-    let places = marks.len() + 1;
     let mut heads = [0u32; ROW_LIMIT];
     let mut nexts = [0u32; ROW_LIMIT];
     let mut starts = [0u32; MODULE_LIMIT + 1];
-    thread(use_statement, &mut heads[..statements], &mut nexts);
-    first_rows(statement_module, &mut starts[..places]);
+    let heads = &mut heads[..statement_included.len()];
+    let starts = &mut starts[..marks.len() + 1];
+    thread(use_statement, heads, &mut nexts);
+    first_rows(statement_module, starts);
     mark_with_threads(
         normal,
         included,
@@ -261,11 +258,11 @@ pub fn mark_sensitive(
         record_kind,
         record_target,
         statement_module,
-        &starts[..places],
+        starts,
         statement_included,
         use_statement,
         use_record,
-        &heads[..statements],
+        heads,
         &nexts,
         marks,
         runtime,
@@ -273,33 +270,22 @@ pub fn mark_sensitive(
 }
 
 // Marks the sensitive modules of a table by their grounds.
-pub fn mark_table_sensitive<'a>(
-    runtime: u32,
-    dynamic: u32,
-    bounds: &'a [u32],
-    columns: &'a [u32],
-    importers: &'a [u32],
-    kinds: &'a [u32],
-    targets: &'a [u32],
-    dependencies: &'a [u32],
-    members: &'a [u32],
-    marks: &mut [u32],
-)
-    requires places { let p : Project = read (table runtime dynamic bounds.now columns.now) importers.now kinds.now targets.now dependencies.now members.now in Places p (modules p) (length marks.old) }
-    ensures { let p : Project = read (table runtime dynamic bounds.now columns.now) importers.now kinds.now targets.now dependencies.now members.now in marks.new ≡ sensitive_marks p }
+pub fn mark_table_sensitive(current: &Current, marks: &mut [u32])
+    requires places { length marks.old ≡ modules current.now }
+    ensures { marks.new ≡ sensitive_marks current.now }
 {
     mark_sensitive(
-        column(bounds, columns, NORMAL),
-        column(bounds, columns, INCLUDED),
-        column(bounds, columns, SENSITIVE),
-        column(bounds, columns, WRAP),
-        kinds,
-        targets,
-        column(bounds, columns, STATEMENT_MODULE),
-        column(bounds, columns, STATEMENT_INCLUDED),
-        column(bounds, columns, USE_STATEMENT),
-        column(bounds, columns, USE_RECORD),
+        current.normal,
+        current.included,
+        current.sensitive,
+        current.wrap,
+        current.record_kind,
+        current.record_target,
+        current.statement_module,
+        current.statement_included,
+        current.use_statement,
+        current.use_record,
         marks,
-        runtime,
+        current.runtime,
     );
 }

@@ -3,16 +3,15 @@
 use mathlib.Core.Path.{◌≡◌, sym, ap, ap₂, subst, ◌∙◌}
 use mathlib.Core.Logic.{inl, inr, ⊎_elim}
 use mathlib.Core.List.{List}
-use Prim.Native.Nat.{ℕ, ◌-◌, ◌≤◌}
-use native.Mathlib.Omega.{arith}
-use lib.ListN.{length, get_or, take, drop, length-append}
+use Prim.Native.Nat.{ℕ}
+use Rattle.table.specs.declared.Table.{Table}
 use Rattle.table.specs.Table.{Lent}
-use Rattle.arrangement.specs.OfProject.{named_lent, lent_named}
+use Rattle.arrangement.specs.OfProject.{as_named, named_lent}
 use Rattle.named_form.specs.NamedForm.{lent_names}
-use Rattle.listing.specs.Reading.{values_of, bounds_of, Reads}
-use Rattle.listing.specs.declared.Reading.{Reading}
+use Rattle.listing.specs.Reading.{values_of, bounds_of}
+use Rattle.listing.specs.AsTable.{ReadText}
 use Rattle.std.specs.Prelude.{Result, Ok, Err}
-use Rattle.listing.proofs.Answered.{text-lent, reads-lent}
+use Rattle.listing.proofs.Answered.{text-lent}
 use Rattle.tables.specs.declared.Refusal.{Refusal}
 use Rattle.share_totals.specs.declared.Share.{Share}
 use Rattle.share_totals.specs.Within.{Fits}
@@ -20,31 +19,13 @@ use Rattle.shares.specs.Promise.{outcome_of}
 use Rattle.shares.proofs.Promise.{project-fits}
 use Rattle.share_text.specs.Texts.{TextOutcome}
 
-module _ (s settings settings' bounds bounds' columns columns' : List ℕ) where
-  pub text-refused : (e : Refusal) → Reads s settings settings' bounds bounds' columns columns' (Err e) → TextOutcome s (Err e)
-  text-refused e a = inr (a.1, ap Err a.0)
+-- 7 where the text is no project's
+pub text-refused : (s : List ℕ) (e : Refusal) → ReadText s (Err e) → TextOutcome s (Err e)
+text-refused s e a = inr (a.1, ap Err a.0)
 
-  module _ (x : Reading) (a : Reads s settings settings' bounds bounds' columns columns' (Ok x)) where
-    -- the values that were read stand in the columns
-    pub text-room : x.values ≤ length columns'
-    text-room = omega (arith, a.3, ap length a.6, length-append (values_of a.0) (drop (length (values_of a.0)) columns))
-
-    -- and the names in the text
-    pub text-names : (x.from ≤ x.to) × (x.to ≤ length s)
-    text-names = (a.7.0, a.7.1)
-
-    pub text-shared : (r : Result Share Refusal) (names : List ℕ) → names ≡ take (x.to - x.from) (drop x.from s)
-        → r ≡ outcome_of (lent_named (get_or settings' 0 0) (get_or settings' 1 0) bounds' (take x.values columns') names) → TextOutcome s r
-    text-shared r names n e =
-        let w = reads-lent s settings settings' bounds bounds' columns columns' a.0 a.1 a.2 x a in
-        inl (
-          a.0,
-          a.1,
-          a.2,
-          e
-              ∙ ap (λ (y : List ℕ). outcome_of (lent_named (get_or settings' 0 0) (get_or settings' 1 0) bounds' (take x.values columns') y)) n
-              ∙ ap₂ (λ (y : List ℕ) (t : Lent). outcome_of (named_lent y t)) w.0 w.1,
-        )
+-- else the outcome of what was read
+pub text-shared : (s : List ℕ) (t : Table) (r : Result Share Refusal) → ReadText s (Ok t) → r ≡ outcome_of (as_named t) → TextOutcome s r
+text-shared s t r a e = inl (a.0, a.1, a.2, e ∙ ap₂ (λ (names : List ℕ) (u : Lent). outcome_of (named_lent names u)) a.4 a.3)
 
 -- a text's outcome fits the totals
 pub text-fits : (s : List ℕ) (r : Result Share Refusal) → TextOutcome s r → Fits r

@@ -8,6 +8,7 @@ use crate::{Share, Totals};
 use tables::Refusal;
 
 // The quotient of 1,000 times the planned by the eligible modules.
+#[tactic(auto, using(crate::proofs::Quotients::quotients))]
 fn quotient(eligible: u32, planned: u32) -> u32
     requires { planned ≤ eligible }
     ensures { result ≡ quotient_of eligible planned }
@@ -19,6 +20,7 @@ fn quotient(eligible: u32, planned: u32) -> u32
 }
 
 // The remainder.
+#[tactic(auto, using(crate::proofs::Quotients::remainders))]
 fn remainder(eligible: u32, planned: u32) -> u32
     ensures { result ≡ remainder_of eligible planned }
 {

@@ -1,2 +1,2 @@
--- What the operations promise, in each of their cases.
+-- What writing a share promises, and that an outcome fits the totals.
 pub mod Promise

@@ -1,14 +1,12 @@
--- What the operations promise of a project that is refused, and of one that has a share.
+-- What writing a share promises, in each of its cases; and that an outcome fits the totals.
 -- Assumes nothing.
-use Rattle.std.specs.Prelude.{◌≡◌, ℕ, ◌<◌, ◌≤◌, List, [], ◌∷◌, length, drop, set, Option, None, Some, Ok, Err}
+use Rattle.std.specs.Prelude.{◌≡◌, ℕ, ◌<◌, ◌≤◌, List, ◌∷◌, length, drop, Option, None, Some, Ok, Err}
 use mathlib.Core.Path.{refl, ap}
-use native.Mathlib.Omega.{arith}
 use borrow.Author.Tests.{le-leb, lt-leb}
 use Rattle.tables.specs.Project.{Project}
-use Rattle.tables.specs.Answers.{tested}
 use Rattle.tables.specs.declared.Refusal.{Refusal}
 use Rattle.tables.specs.declared.Refusal.TheVariants.{ShortSlice}
-use Rattle.tables.proofs.Answering.{verdict-project, verdict-short, verdict-none, answer-refused, answer-accepted, after-refused, after-accepted, tested-refused}
+use Rattle.tables.proofs.Answering.{verdict-project, verdict-short, verdict-none, answer-refused, answer-accepted, after-refused, after-accepted}
 use Rattle.table.specs.Table.{current, Lent, lent_as}
 use Rattle.arrangement.specs.OfProject.{named, named_lent}
 use Rattle.arrangement.proofs.OfProject.{lent-named}
@@ -18,14 +16,6 @@ use Rattle.share_totals.specs.Within.{Fits}
 use Rattle.shares.specs.Promise.{outcome_of, share_numbers, WrittenShare}
 use Rattle.table_share.specs.Counts.{eligible_count, planned_count}
 use Rattle.table_share.proofs.Counts.{planned-eligible, eligible-few}
-
--- four numbers from place 0
-pub four-set : (out : List ℕ) (a b c d : ℕ) → 4 ≤ length out → set (set (set (set out 0 a) 1 b) 2 c) 3 d ≡ a ∷ b ∷ c ∷ d ∷ drop 4 out
-four-set [] a b c d h = absurd (omega arith)
-four-set (x ∷ []) a b c d h = absurd (omega arith)
-four-set (x ∷ y ∷ []) a b c d h = absurd (omega arith)
-four-set (x ∷ y ∷ z ∷ []) a b c d h = absurd (omega arith)
-four-set (x ∷ y ∷ z ∷ w ∷ out) a b c d h = refl
 
 -- an outcome by what refuses the project
 module _ (e p : ℕ) where
@@ -49,31 +39,24 @@ project-fits bounds columns names p =
     let q = named (current p) names in
     outcome_fits (eligible_count q) (planned_count q) (lent_as bounds columns names p).refused (λ z. (planned-eligible q, eligible-few q (lent-named bounds columns names p z)))
 
-module _ (t : Lent) where
-  pub project-refused : {e : Refusal} → Err e ≡ tested t.refused → Err e ≡ outcome_of t
-  project-refused h = answer-refused (share_of (eligible_count t.project) (planned_count t.project)) (tested-refused t.refused h)
+module _ (t : Lent) (out : List ℕ) where
+  -- a refusal changes nothing
+  pub share-refused : {e : Refusal} → Err e ≡ outcome_of t → WrittenShare t out (Err e) out
+  share-refused h =
+      let r = verdict-project _ _ (outcome-refused (eligible_count t.project) (planned_count t.project) t.refused h) in
+      record { answered = answer-refused 4 r; written = after-refused out (share_numbers t.project) r }
 
-  pub project-shared : t.refused ≡ None → {s : Share} → s ≡ share_of (eligible_count t.project) (planned_count t.project) → Ok s ≡ outcome_of t
-  project-shared accepts e = answer-accepted accepts e
-
-  module _ (out : List ℕ) where
-    -- a refusal changes nothing
-    pub share-refused : {e : Refusal} → Err e ≡ outcome_of t → WrittenShare t out (Err e) out
-    share-refused h =
-        let r = verdict-project _ _ (outcome-refused (eligible_count t.project) (planned_count t.project) t.refused h) in
+  module _ {s : Share} (h : Ok s ≡ outcome_of t) where
+    pub share-short : length out < 4 → WrittenShare t out (Err ShortSlice) out
+    share-short l =
+        let r = verdict-short _ _ (outcome-shared (eligible_count t.project) (planned_count t.project) t.refused h).0 refl (lt-leb 4 (length out) l) in
         record { answered = answer-refused 4 r; written = after-refused out (share_numbers t.project) r }
 
-    module _ {s : Share} (h : Ok s ≡ outcome_of t) where
-      pub share-short : length out < 4 → WrittenShare t out (Err ShortSlice) out
-      share-short l =
-          let r = verdict-short _ _ (outcome-shared (eligible_count t.project) (planned_count t.project) t.refused h).0 refl (lt-leb 4 (length out) l) in
-          record { answered = answer-refused 4 r; written = after-refused out (share_numbers t.project) r }
-
-      pub share-written : 4 ≤ length out → WrittenShare t out (Ok 4) (s.eligible ∷ s.planned ∷ s.quotient ∷ s.remainder ∷ drop 4 out)
-      share-written l =
-          let found = outcome-shared (eligible_count t.project) (planned_count t.project) t.refused h in
-          let z = verdict-none _ _ found.0 refl (le-leb 4 (length out) l) in
-          record {
-            answered = answer-accepted z refl;
-            written = after-accepted out (share_numbers t.project) z (ap (λ (x : Share). x.eligible ∷ x.planned ∷ x.quotient ∷ x.remainder ∷ drop 4 out) found.1);
-          }
+    pub share-written : 4 ≤ length out → WrittenShare t out (Ok 4) (s.eligible ∷ s.planned ∷ s.quotient ∷ s.remainder ∷ drop 4 out)
+    share-written l =
+        let found = outcome-shared (eligible_count t.project) (planned_count t.project) t.refused h in
+        let z = verdict-none _ _ found.0 refl (le-leb 4 (length out) l) in
+        record {
+          answered = answer-accepted z refl;
+          written = after-accepted out (share_numbers t.project) z (ap (λ (x : Share). x.eligible ∷ x.planned ∷ x.quotient ∷ x.remainder ∷ drop 4 out) found.1);
+        }

@@ -12,6 +12,7 @@ use table::{
 };
 
 // A list of one column.
+#[tactic(auto, unfolding(tables::specs::Refusal::sized))]
 fn one_sized(limit: usize, column: &[u32]) -> bool
     ensures { result ≡ sized limit column.now [] }
 {
@@ -19,6 +20,7 @@ fn one_sized(limit: usize, column: &[u32]) -> bool
 }
 
 // A list of two columns, or two columns of a list.
+#[tactic(auto, unfolding(tables::specs::Refusal::sized))]
 fn two_sized(limit: usize, column: &[u32], other: &[u32]) -> bool
     ensures { result ≡ sized limit column.now (other.now ∷ []) }
 {
@@ -26,6 +28,7 @@ fn two_sized(limit: usize, column: &[u32], other: &[u32]) -> bool
 }
 
 // A list of three columns.
+#[tactic(auto, unfolding(tables::specs::Refusal::sized))]
 fn three_sized(limit: usize, column: &[u32], other: &[u32], third: &[u32]) -> bool
     ensures { result ≡ sized limit column.now (other.now ∷ third.now ∷ []) }
 {
@@ -33,6 +36,7 @@ fn three_sized(limit: usize, column: &[u32], other: &[u32], third: &[u32]) -> bo
 }
 
 // The modules.
+#[tactic(auto, unfolding(tables::specs::Refusal::sized))]
 fn modules_sized<'a>(
     normal: &'a [u32],
     included: &'a [u32],
@@ -79,6 +83,7 @@ fn three_at(table: &Table, limit: usize, k: usize) -> bool
 }
 
 // Modules, records, dependencies and statements.
+#[tactic(auto, unfolding(table::specs::Table::table, table::specs::Table::read))]
 pub fn code_sized(table: &Table) -> bool
     ensures { result ≡ code_sized (written table.now) }
 {
@@ -97,6 +102,7 @@ pub fn code_sized(table: &Table) -> bool
 }
 
 // Uses, symbols, export chains, references and depended rows.
+#[tactic(auto, unfolding(table::specs::Table::table, table::specs::Table::read))]
 pub fn symbols_sized(table: &Table) -> bool
     ensures { result ≡ symbols_sized (written table.now) }
 {
@@ -108,6 +114,7 @@ pub fn symbols_sized(table: &Table) -> bool
 }
 
 // Chunks, members, imports, entries and seeds.
+#[tactic(auto, unfolding(table::specs::Table::table, table::specs::Table::read))]
 pub fn chunks_sized(table: &Table) -> bool
     ensures { result ≡ chunks_sized (written table.now) }
 {

@@ -12,7 +12,7 @@ use Rattle.tables.specs.Answers.{tested}
 use Rattle.tables.proofs.Answering.{verdict-project, answer-refused, after-refused}
 use Rattle.names.specs.Names.{names_fit}
 use Rattle.table.specs.declared.Table.{Table}
-use Rattle.table.specs.Table.{column_at, table, read, current, tested_too, Lent}
+use Rattle.table.specs.Table.{current, tested_too, Lent}
 use Rattle.table.specs.Lending.{as_lent, written}
 use Rattle.table.proofs.Laws.{none-tested}
 use Rattle.table.proofs.Lending.{names-fit}
@@ -53,8 +53,3 @@ module _ (t : Table) (accepts : named_refusal (as_lent t) t.names.now ≡ None) 
 
   pub named-fit : names_fit (modules q) names ≡ true
   named-fit = in-fit (modules q) names (names-fit t passed) some
-
-  -- as many rows as the table has members
-  pub counts-members : {n : ℕ} → n ≡ length (column_at t.bounds.now t.columns.now 28) → n ≡ length q.member
-  unfolding table read current
-  counts-members e = e

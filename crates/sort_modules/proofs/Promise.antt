@@ -1,23 +1,16 @@
 -- What the operation promises, in each of its cases.
 -- Assumes nothing.
-use Rattle.std.specs.Prelude.{◌≡◌, ℕ, ◌<◌, ◌≤◌, Bool, true, false, ◌&&◌, leb, List, ◌++◌, length, drop, Option, None, Some, Ok, Err}
-use mathlib.Core.Path.{refl, sym, ap, ◌∙◌}
-use native.Mathlib.Omega.{arith}
-use borrow.Author.Tests.{le-leb, lt-leb}
-use Rattle.lists.proofs.Laws.{and-join}
+use Rattle.std.specs.Prelude.{◌≡◌, ℕ, true, List, length, Option, Some, Err}
+use mathlib.Core.Path.{refl}
 use Rattle.tables.specs.Project.{Project}
 use Rattle.tables.specs.Readings.{modules}
 use Rattle.tables.specs.Accepted.{Accepted}
 use Rattle.tables.specs.declared.Refusal.{Refusal}
-use Rattle.tables.specs.declared.Refusal.TheVariants.{ShortSlice}
-use Rattle.tables.specs.Answers.{tested}
-use Rattle.tables.proofs.Answering.{verdict-project, verdict-short, verdict-none, answer-refused, answer-accepted, after-refused, after-accepted, tested-refused}
+use Rattle.tables.proofs.Answering.{verdict-project, answer-refused, after-refused}
 use Rattle.table.specs.Table.{Lent}
 use Rattle.sort_visit.specs.Visit.{Fit}
 use Rattle.sort_modules.specs.OfProject.{numbers_of, sorted_of}
 use Rattle.sort_modules.specs.Promise.{sort_verdict, SortModules}
-use Rattle.sort_modules.specs.Sorting.{Sorted}
-use Rattle.sort_modules.proofs.Numbers.{numbers-count}
 
 -- the columns of an accepted project fit each other
 pub accepted-fit : (p : Project) → Accepted p → Fit p.normal p.record_module p.record_kind p.record_target (modules p)
@@ -46,5 +39,5 @@ module _ (t : Lent) (ns ss : List ℕ) where
     listed = after-refused ss (sorted_of p) h;
   }
 
-  pub project-refused : {e : Refusal} → Err e ≡ tested t.refused → SortModules t ns ss (Err e) ns ss
-  project-refused h = refused-with (verdict-project true _ (tested-refused t.refused h))
+  pub project-refused : {e : Refusal} → t.refused ≡ Some e → SortModules t ns ss (Err e) ns ss
+  project-refused h = refused-with (verdict-project true _ h)

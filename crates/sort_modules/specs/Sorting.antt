@@ -3,7 +3,6 @@
 use Rattle.std.specs.Prelude.{◌≡◌, ℕ, ◌≤◌, List, ◌++◌, length, drop, replicate}
 use Rattle.tables.specs.Project.{Project}
 use Rattle.tables.specs.Readings.{modules}
-use Rattle.tables.specs.Accepted.{Accepted}
 
 -- the numbers and, from place 0, the sorted list are written, the marks are zeroed, and r is the list's length
 pub record Sorted (numbered list marks sorted marks' numbers' sorted' : List ℕ) (r : ℕ) : Type 0 where
@@ -14,7 +13,6 @@ pub record Sorted (numbered list marks sorted marks' numbers' sorted' : List ℕ
 
 -- an accepted project, and a place a module in three slices
 pub record Sortable (p : Project) (marks numbers sorted : ℕ) : Type 0 where
-  pub accepted : Accepted p
   pub size : marks ≡ modules p
   pub places : numbers ≡ marks
   pub room : marks ≤ sorted

@@ -1,16 +1,16 @@
 // For crates above, on tested tables.
 ghost use Rattle.std.specs.Prelude.{◌≡◌, ◌<◌, ◌≤◌, length};
-ghost use Rattle.tables.specs.Project.{Project, missing};
+ghost use Rattle.tables.specs.Project.{missing};
 ghost use Rattle.tables.specs.Accepted.{Below};
-ghost use Rattle.table.specs.Table.{table, read};
 ghost use Rattle.sort_visit.specs.Visit.{Fit};
 ghost use Rattle.sort_modules.specs.Sort.{numbers as numbered, sorted as listed};
 ghost use Rattle.sort_modules.specs.OfProject.{numbers_of, sorted_of};
 ghost use Rattle.sort_modules.specs.Sorting.{Sortable, Sorted};
 
+use current_columns::inner::Current;
 use lists::inner::fill;
 use sort_visit::inner::visit_roots;
-use table::{ENTRY, MODULE_LIMIT, NORMAL, column};
+use table::MODULE_LIMIT;
 use tables::ModuleIdx;
 use tables::inner::first_rows;
 
@@ -34,15 +34,15 @@ fn sort<'a>(
 {
     fill(marks, 0);
     fill(numbers, ModuleIdx::MISSING);
-    let n = normal.len();
     let mut starts = [0u32; MODULE_LIMIT + 1];
-    first_rows(record_module, &mut starts[..n + 1]);
+    let starts = &mut starts[..normal.len() + 1];
+    first_rows(record_module, starts);
     let last = visit_roots(
         normal,
         record_module,
         record_kind,
         record_target,
-        &starts[..n + 1],
+        starts,
         entry,
         marks,
         numbers,
@@ -55,33 +55,25 @@ fn sort<'a>(
 }
 
 // The module numbers and the sorted list of an accepted project. `marks` is working space, a place a module.
-pub fn sort_table<'a>(
-    runtime: u32,
-    dynamic: u32,
-    bounds: &'a [u32],
-    columns: &'a [u32],
-    importers: &'a [u32],
-    kinds: &'a [u32],
-    targets: &'a [u32],
-    dependencies: &'a [u32],
-    members: &'a [u32],
+pub fn sort_table(
+    current: &Current,
     marks: &mut [u32],
     numbers: &mut [u32],
     sorted: &mut [u32],
 ) -> usize
-    requires places { let p : Project = read (table runtime dynamic bounds.now columns.now) importers.now kinds.now targets.now dependencies.now members.now in Sortable p (length marks.old) (length numbers.old) (length sorted.old) }
-    ensures { let p : Project = read (table runtime dynamic bounds.now columns.now) importers.now kinds.now targets.now dependencies.now members.now in Sorted (numbers_of p) (sorted_of p) marks.old sorted.old marks.new numbers.new sorted.new result }
+    requires places { Sortable current.now (length marks.old) (length numbers.old) (length sorted.old) }
+    ensures { Sorted (numbers_of current.now) (sorted_of current.now) marks.old sorted.old marks.new numbers.new sorted.new result }
 {
     sort(
-        column(bounds, columns, NORMAL),
-        importers,
-        kinds,
-        targets,
-        column(bounds, columns, ENTRY),
+        current.normal,
+        current.record_module,
+        current.record_kind,
+        current.record_target,
+        current.entry,
         marks,
         numbers,
         sorted,
-        runtime,
-        dynamic,
+        current.runtime,
+        current.dynamic,
     )
 }

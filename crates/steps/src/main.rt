@@ -2,14 +2,14 @@
 // analysis' plan, a line each: place, module, host.
 #![tactic(auto)]
 
-use listing::{Reading, read};
+use listing::{TextSpace, read_text};
 use load_trial::load_run;
 use order_analysis::analyze_execution_order;
-use parts::{first_of, part_of};
+use parts::first_of;
 use std::io;
 use std::rt::Env;
 use streams::read_full;
-use table::{COLUMNS, MODULE_LIMIT, NORMAL, Table};
+use table::{MODULE_LIMIT, NORMAL, Table};
 use tables::{ModuleIdx, Refusal};
 
 fn refused(rt: &impl Print, refusal: Refusal) -> io::Result<()> {
@@ -75,45 +75,12 @@ fn try_load(rt: &(impl Env + Print), table: &Table) -> io::Result<()> {
     }
 }
 
-// The steps for a project that was read, with n values in its columns.
-fn try_read<'a>(
-    rt: &(impl Env + Print),
-    settings: [u32; 2],
-    bounds: &'a [u32; COLUMNS + 1],
-    columns: &'a [u32; 32768],
-    n: usize,
-    names: &'a [u8],
-) -> io::Result<()> {
-    try_load(
-        rt,
-        &Table::new(
-            settings[0],
-            settings[1],
-            bounds,
-            first_of(columns, n),
-            names,
-        ),
-    )
-}
-
 fn main(rt: HostRuntime) -> io::Result<()> {
     let mut text = [0u8; 65537];
-    let mut settings = [0u32; 2];
-    let mut bounds = [0u32; COLUMNS + 1];
-    let mut columns = [0u32; 32768];
+    let mut space = TextSpace::EMPTY;
     let n = read_full(&mut rt.reader(), &mut text)?;
-    let answer = read(&text[..n], &mut settings, &mut bounds, &mut columns);
-    match answer {
+    match read_text(&text[..n], &mut space) {
         Err(refusal) => refused(&rt, refusal),
-        Ok(Reading { values, from, to }) => {
-            try_read(
-                &rt,
-                settings,
-                &bounds,
-                &columns,
-                values,
-                part_of(&text, from, to),
-            )
-        }
+        Ok(table) => try_load(&rt, &table),
     }
 }

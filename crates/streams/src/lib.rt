@@ -15,6 +15,7 @@ pub fn read_full<R: Read>(input: &mut R, out: &mut [u8]) -> io::Result<usize>
     ensures end { IfOk result (λ n. n < length out.new → IsAtEnd (R.remaining input.new)) }
 {
     let mut n = 0;
+    // a reader: how much each call reads isn't known before
     while n < out.len() {
         let more = input.read(&mut out[n..])?;
         if more == 0 {

@@ -17,6 +17,7 @@ pub fn visit(from: &[u32], to: &[u32], heads: &[u32], nexts: &[u32], m: u32, mar
     }
     marks[at] = 1;
     let mut row = heads[at] as usize;
+    // a thread: each row names the next
     while row < from.len() {
         visit(from, to, heads, nexts, to[row], marks);
         row = nexts[row] as usize;
@@ -40,6 +41,7 @@ pub fn leads(from: &[u32], to: &[u32], heads: &[u32], nexts: &[u32], c: u32, mar
     ensures { result ≡ any (has marks.now) (values_of from.now to.now c) }
 {
     let mut row = heads[c as usize] as usize;
+    // a thread: each row names the next
     while row < from.len() {
         if marks[to[row] as usize] != 0 {
             return true;

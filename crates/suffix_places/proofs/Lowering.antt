@@ -31,17 +31,6 @@ module _ (order sensitive placed asked : List ℕ) where
     pub all : (x m : ℕ) → StandsBelow order sensitive k x m → has placed x ≡ true → get_or asked' m 0 ≤ get_or placed x 0
     pub only : (m : ℕ) → (get_or asked' m 0 ≡ get_or asked m 0) ⊎ ((x : ℕ) × StandsBelow order sensitive k x m × (has placed x ≡ true) × (get_or asked' m 0 ≡ get_or placed x 0))
 
-  pub lowering-start : Lowering 0 never asked
-  lowering-start = record {
-    len = refl;
-    low = λ m. omega arith;
-    some = omega arith;
-    least-low = λ i l. absurd (omega arith);
-    least-one = inl refl;
-    all = λ x m s. absurd (omega (arith, s.there));
-    only = λ m. inl refl;
-  }
-
   module _ (k least : ℕ) (asked' : List ℕ) (g : Lowering k least asked') where
     -- a member that isn't sensitive
     pub lowering-pass : (has sensitive (get_or order k 0) ≡ true → ⊥) → Lowering (k + 1) least asked'

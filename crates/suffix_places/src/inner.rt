@@ -1,13 +1,12 @@
 // For crates above, on tested tables.
 ghost use Rattle.std.specs.Prelude.{◌≡◌, ◌<◌, true, length};
-ghost use Rattle.tables.specs.Project.{Project};
 ghost use Rattle.tables.specs.Accepted.{Below};
-ghost use Rattle.table.specs.Table.{table, read};
 ghost use Rattle.expected_order.specs.OfProject.{expected_of};
 ghost use Rattle.suffix_rule.specs.inner.Suffix.{AllPlanned, Settled, Markings};
 ghost use Rattle.suffix_places.specs.inner.Places.{Earlier, Small, Lowered, LoweredEntry, Lowest};
 
-use expected_order::inner::list_expected;
+use current_columns::inner::Current;
+use expected_order::inner::find_expected;
 use table::MODULE_LIMIT;
 
 // No place: more than a list of modules has.
@@ -57,60 +56,29 @@ fn is_listed(order: &[u32], sensitive: &[u32], eligible: &[u32], placed: &[u32])
 }
 
 // The same for the expected order of a module row of a table. Whether every sensitive eligible member is listed.
-fn lower_entry<'a>(
-    runtime: u32,
-    dynamic: u32,
-    bounds: &'a [u32],
-    columns: &'a [u32],
-    importers: &'a [u32],
-    kinds: &'a [u32],
-    targets: &'a [u32],
-    dependencies: &'a [u32],
-    members: &'a [u32],
+fn lower_entry(
+    current: &Current,
     sensitive: &[u32],
     eligible: &[u32],
     placed: &[u32],
     asked: &mut [u32],
     root: u32,
 ) -> bool
-    requires marks { let p : Project = read (table runtime dynamic bounds.now columns.now) importers.now kinds.now targets.now dependencies.now members.now in Markings p sensitive.now eligible.now (length asked.old) }
+    requires marks { Markings current.now sensitive.now eligible.now (length asked.old) }
     requires placed { length placed.now ≡ length asked.old }
     requires small { Small asked.old }
     requires root { root < length asked.old }
-    ensures { let p : Project = read (table runtime dynamic bounds.now columns.now) importers.now kinds.now targets.now dependencies.now members.now in LoweredEntry (expected_of p root) sensitive.now eligible.now placed.now asked.old asked.new result }
+    ensures { LoweredEntry (expected_of current.now root) sensitive.now eligible.now placed.now asked.old asked.new result }
 {
-    let n = asked.len();
-    let mut marks = [0u32; MODULE_LIMIT];
     let mut order = [0u32; MODULE_LIMIT];
-    let count = list_expected(
-        runtime,
-        dynamic,
-        bounds,
-        columns,
-        importers,
-        kinds,
-        targets,
-        dependencies,
-        members,
-        &mut marks[..n],
-        &mut order,
-        root,
-    );
-    lower_order(&order[..count], sensitive, placed, asked);
-    is_listed(&order[..count], sensitive, eligible, placed)
+    let order = find_expected(current, &mut order, root);
+    lower_order(order, sensitive, placed, asked);
+    is_listed(order, sensitive, eligible, placed)
 }
 
 // The same for several roots; a settled one, whose sensitive eligible members are all listed, isn't walked again.
-pub fn lower_entries<'a>(
-    runtime: u32,
-    dynamic: u32,
-    bounds: &'a [u32],
-    columns: &'a [u32],
-    importers: &'a [u32],
-    kinds: &'a [u32],
-    targets: &'a [u32],
-    dependencies: &'a [u32],
-    members: &'a [u32],
+pub fn lower_entries(
+    current: &Current,
     roots: &[u32],
     sensitive: &[u32],
     eligible: &[u32],
@@ -118,34 +86,19 @@ pub fn lower_entries<'a>(
     settled: &mut [u32],
     asked: &mut [u32],
 )
-    requires marks { let p : Project = read (table runtime dynamic bounds.now columns.now) importers.now kinds.now targets.now dependencies.now members.now in Markings p sensitive.now eligible.now (length asked.old) }
+    requires marks { Markings current.now sensitive.now eligible.now (length asked.old) }
     requires placed { length placed.now ≡ length asked.old }
     requires small { Small asked.old }
     requires roots { Below (length asked.old) roots.now }
     requires size { length settled.old ≡ length roots.now }
-    requires settled { let p : Project = read (table runtime dynamic bounds.now columns.now) importers.now kinds.now targets.now dependencies.now members.now in Settled p roots.now sensitive.now eligible.now settled.old placed.now }
-    ensures { let p : Project = read (table runtime dynamic bounds.now columns.now) importers.now kinds.now targets.now dependencies.now members.now in Lowest p roots.now sensitive.now eligible.now placed.now asked.old settled.new asked.new }
+    requires settled { Settled current.now roots.now sensitive.now eligible.now settled.old placed.now }
+    ensures { Lowest current.now roots.now sensitive.now eligible.now placed.now asked.old settled.new asked.new }
 {
-    for k in 0..roots.len() {
+    for (k, &root) in roots.iter().enumerate() {
         if settled[k] != 0 {
             continue;
         }
-        if !lower_entry(
-            runtime,
-            dynamic,
-            bounds,
-            columns,
-            importers,
-            kinds,
-            targets,
-            dependencies,
-            members,
-            sensitive,
-            eligible,
-            placed,
-            asked,
-            roots[k],
-        ) {
+        if !lower_entry(current, sensitive, eligible, placed, asked, root) {
             continue;
         }
         settled[k] = 1;

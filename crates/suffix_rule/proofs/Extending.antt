@@ -8,7 +8,7 @@ use mathlib.Core.List.{map-append, Memᴰ}
 use native.Mathlib.Omega.{arith}
 use native.Mathlib.Decide.{dec_lt}
 use lib.ListN.{length-drop, length-set}
-use lib.Seq.{get_or-drop, take-length}
+use lib.Seq.{get_or-drop}
 use Rattle.lists.specs.Words.{is_zero, keep, any, elem, has, ones}
 use Rattle.lists.proofs.Laws.{both, and_parts, and-join, any_append, mem-keep, keep-mem, elem_mem, mem-elem, any-mem, mem-any, take_more, ones-zeros, get_d-in}
 use Rattle.lists.proofs.Members.{mem-at, get_d-mem}
@@ -205,14 +205,6 @@ module _ (p : Project) (roots sensitive eligible S : List ℕ) where
       let k : r.0 < length settled = omega (arith, r.1) in
       let marked : has settled r.0 ≡ true = ap not (ap is_zero (get_d-in settled r.0 0 1 k) ∙ none-fresh settled r.0 (omega (arith, ones-zeros settled))) in
       s r.0 r.1 marked m (subst (λ (x : ℕ). Memᴰ m (expected_of p x)) (sym r.2) i) q g)
-
--- what is left of a list is all of it
-pub take_rest : (n : ℕ) (xs : List ℕ) → take (length xs - n) (drop n xs) ≡ drop n xs
-take_rest n xs = ap (λ (k : ℕ). take k (drop n xs)) (sym (length-drop n xs)) ∙ take-length (drop n xs)
-
--- and its values are below what the list's are
-pub below-drop : (n k : ℕ) (xs : List ℕ) → Below n xs → Below n (drop k xs)
-below-drop n k xs b i l = rw (get_or-drop k xs i 0) (b (k + i) (omega (arith, length-drop k xs)))
 
 -- a pass over the roots: those before k are done
 module _ (p : Project) (roots sensitive eligible plan₀ : List ℕ) where

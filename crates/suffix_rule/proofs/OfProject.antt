@@ -18,7 +18,7 @@ use Rattle.wrap_rules.proofs.Sets.{eligible-has, candidate-has}
 use Rattle.wrap_rules.proofs.Roots.{expected-reached}
 use Rattle.suffix_rule.specs.inner.Suffix.{sensitive_orders, Candidates}
 
-module _ (p : Project) (ok : Accepted p) where
+module _ (p : Project) where
   pub orders-are : sensitive_orders p (sensitive_marks p) (roots p) ≡ orders_of p
   unfolding sensitive_orders orders_of expected_sensitive_of
   orders-are = ap (λ (f : ℕ → Bool). map (λ (root : ℕ). keep f (expected_of p root)) (roots p)) (sensitive-marks p)
@@ -31,6 +31,6 @@ module _ (p : Project) (ok : Accepted p) where
       (subst (λ (orders : List (List ℕ)). Passed (suffix_asks (has (eligible_marks p)) orders) s t r) orders-are h)
 
   -- an eligible member of a root's order is a candidate
-  pub orders-ready : Candidates p (roots p) (eligible_marks p) (candidate_marks p)
+  pub orders-ready : Accepted p → Candidates p (roots p) (eligible_marks p) (candidate_marks p)
   unfolding Candidates
-  orders-ready root m h i g = candidate-has p m ∙ and-join (eligible p m) (reached p m) (sym (eligible-has p m) ∙ g) (expected-reached p ok root m h i)
+  orders-ready ok root m h i g = candidate-has p m ∙ and-join (eligible p m) (reached p m) (sym (eligible-has p m) ∙ g) (expected-reached p ok root m h i)

@@ -9,10 +9,9 @@ ghost use Rattle.wrap_rules.specs.inner.Passes.{Passed, Marked};
 ghost use Rattle.wrap_rules.specs.Rules.{suffix_asks};
 ghost use Rattle.marks.specs.Steps.{Added};
 ghost use Rattle.suffix_rule.specs.inner.Suffix.{FirstIn, InSuffix, Joined, WholeSuffix, Extended, sensitive_orders, Settled, Markings, SuffixSets, Settling, SuffixPassed};
-ghost use Rattle.tables.specs.Project.{Project};
-ghost use Rattle.table.specs.Table.{table, read};
 
-use expected_order::inner::list_expected;
+use current_columns::inner::Current;
+use expected_order::inner::find_expected;
 use lists::inner::count_marked;
 use marks::inner::{add, any_open, mark_owners};
 use table::MODULE_LIMIT;
@@ -64,10 +63,10 @@ fn add_suffix(order: &[u32], sensitive: &[u32], eligible: &[u32], plan: &mut [u3
     requires few { length plan.old ≤ module_limit }
     ensures { Added (λ m. InSuffix order.now sensitive.now plan.old m × (has eligible.now m ≡ true)) plan.old plan.new result }
 {
-    let n = plan.len();
     let mut marks = [0u32; MODULE_LIMIT];
-    mark_suffix(order, sensitive, plan, &mut marks[..n]);
-    add(&marks[..n], eligible, eligible, plan)
+    let marks = &mut marks[..plan.len()];
+    mark_suffix(order, sensitive, plan, marks);
+    add(marks, eligible, eligible, plan)
 }
 
 // Plans the suffix of an order, and settles its entry if no eligible member stands before the suffix. Whether any module was added.
@@ -95,16 +94,8 @@ fn extend_order(
 }
 
 // The same for the expected order of a module row of a table.
-fn extend_entry<'a>(
-    runtime: u32,
-    dynamic: u32,
-    bounds: &'a [u32],
-    columns: &'a [u32],
-    importers: &'a [u32],
-    kinds: &'a [u32],
-    targets: &'a [u32],
-    dependencies: &'a [u32],
-    members: &'a [u32],
+fn extend_entry(
+    current: &Current,
     sensitive: &[u32],
     eligible: &[u32],
     settled: &mut [u32],
@@ -112,78 +103,39 @@ fn extend_entry<'a>(
     root: u32,
     k: usize,
 ) -> bool
-    requires marks { let p : Project = read (table runtime dynamic bounds.now columns.now) importers.now kinds.now targets.now dependencies.now members.now in Markings p sensitive.now eligible.now (length plan.old) }
+    requires marks { Markings current.now sensitive.now eligible.now (length plan.old) }
     requires root { root < length plan.old }
     requires entry { k < length settled.old }
-    ensures { let p : Project = read (table runtime dynamic bounds.now columns.now) importers.now kinds.now targets.now dependencies.now members.now in Extended (expected_of p root) sensitive.now eligible.now k settled.old settled.new plan.old plan.new result }
+    ensures { Extended (expected_of current.now root) sensitive.now eligible.now k settled.old settled.new plan.old plan.new result }
 {
-    let n = plan.len();
-    let mut marks = [0u32; MODULE_LIMIT];
     let mut order = [0u32; MODULE_LIMIT];
-    let count = list_expected(
-        runtime,
-        dynamic,
-        bounds,
-        columns,
-        importers,
-        kinds,
-        targets,
-        dependencies,
-        members,
-        &mut marks[..n],
-        &mut order,
-        root,
-    );
-    extend_order(&order[..count], sensitive, eligible, settled, plan, k)
+    let order = find_expected(current, &mut order, root);
+    extend_order(order, sensitive, eligible, settled, plan, k)
 }
 
 // The same for several roots; a settled one isn't walked again.
-fn extend_entries<'a>(
-    runtime: u32,
-    dynamic: u32,
-    bounds: &'a [u32],
-    columns: &'a [u32],
-    importers: &'a [u32],
-    kinds: &'a [u32],
-    targets: &'a [u32],
-    dependencies: &'a [u32],
-    members: &'a [u32],
+fn extend_entries(
+    current: &Current,
     roots: &[u32],
     sensitive: &[u32],
     eligible: &[u32],
     settled: &mut [u32],
     plan: &mut [u32],
 ) -> bool
-    requires marks { let p : Project = read (table runtime dynamic bounds.now columns.now) importers.now kinds.now targets.now dependencies.now members.now in Markings p sensitive.now eligible.now (length plan.old) }
+    requires marks { Markings current.now sensitive.now eligible.now (length plan.old) }
     requires roots { Below (length plan.old) roots.now }
     requires size { length settled.old ≡ length roots.now }
-    requires settled { let p : Project = read (table runtime dynamic bounds.now columns.now) importers.now kinds.now targets.now dependencies.now members.now in Settled p roots.now sensitive.now eligible.now settled.old plan.old }
+    requires settled { Settled current.now roots.now sensitive.now eligible.now settled.old plan.old }
     requires bits { Bits plan.old }
-    ensures settled { let p : Project = read (table runtime dynamic bounds.now columns.now) importers.now kinds.now targets.now dependencies.now members.now in Settled p roots.now sensitive.now eligible.now settled.new plan.new }
-    ensures plan { let p : Project = read (table runtime dynamic bounds.now columns.now) importers.now kinds.now targets.now dependencies.now members.now in Passed (suffix_asks (has eligible.now) (sensitive_orders p sensitive.now roots.now)) plan.old plan.new result }
+    ensures settled { Settled current.now roots.now sensitive.now eligible.now settled.new plan.new }
+    ensures plan { Passed (suffix_asks (has eligible.now) (sensitive_orders current.now sensitive.now roots.now)) plan.old plan.new result }
 {
     let mut changed = false;
-    for k in 0..roots.len() {
+    for (k, &root) in roots.iter().enumerate() {
         if settled[k] != 0 {
             continue;
         }
-        if !extend_entry(
-            runtime,
-            dynamic,
-            bounds,
-            columns,
-            importers,
-            kinds,
-            targets,
-            dependencies,
-            members,
-            sensitive,
-            eligible,
-            settled,
-            plan,
-            roots[k],
-            k,
-        ) {
+        if !extend_entry(current, sensitive, eligible, settled, plan, root, k) {
             continue;
         }
         changed = true;
@@ -193,16 +145,8 @@ fn extend_entries<'a>(
 
 // One pass of rule (i) over a table. It asks for nothing where every entry is settled, or every sensitive candidate, a reached eligible module, is planned.
 // Whether any module was added.
-pub fn pass_suffixes<'a>(
-    runtime: u32,
-    dynamic: u32,
-    bounds: &'a [u32],
-    columns: &'a [u32],
-    importers: &'a [u32],
-    kinds: &'a [u32],
-    targets: &'a [u32],
-    dependencies: &'a [u32],
-    members: &'a [u32],
+pub fn pass_suffixes(
+    current: &Current,
     roots: &[u32],
     sensitive: &[u32],
     eligible: &[u32],
@@ -210,31 +154,18 @@ pub fn pass_suffixes<'a>(
     settled: &mut [u32],
     plan: &mut [u32],
 ) -> bool
-    requires sets { let p : Project = read (table runtime dynamic bounds.now columns.now) importers.now kinds.now targets.now dependencies.now members.now in SuffixSets p roots.now sensitive.now eligible.now candidates.now }
-    requires plan { let p : Project = read (table runtime dynamic bounds.now columns.now) importers.now kinds.now targets.now dependencies.now members.now in Marked p plan.old }
-    requires settled { let p : Project = read (table runtime dynamic bounds.now columns.now) importers.now kinds.now targets.now dependencies.now members.now in Settling p settled.old plan.old }
-    ensures { let p : Project = read (table runtime dynamic bounds.now columns.now) importers.now kinds.now targets.now dependencies.now members.now in SuffixPassed p plan.old settled.new plan.new result }
+    requires sets { SuffixSets current.now roots.now sensitive.now eligible.now candidates.now }
+    requires plan { Marked current.now plan.old }
+    requires settled { Settling current.now settled.old plan.old }
+    ensures { SuffixPassed current.now plan.old settled.new plan.new result }
 {
+    // tells the proof that the table passed its tests
+    current.modules();
     if count_marked(settled) == settled.len() {
         return false;
     }
     if !any_open(sensitive, candidates, plan) {
         return false;
     }
-    extend_entries(
-        runtime,
-        dynamic,
-        bounds,
-        columns,
-        importers,
-        kinds,
-        targets,
-        dependencies,
-        members,
-        roots,
-        sensitive,
-        eligible,
-        settled,
-        plan,
-    )
+    extend_entries(current, roots, sensitive, eligible, settled, plan)
 }

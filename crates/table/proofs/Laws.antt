@@ -1,14 +1,12 @@
 -- What a column is, by its bounds, and a project read with its own columns.
 -- Assumes nothing.
-use mathlib.Core.Path.{◌≡◌, refl, sym, ap}
+use mathlib.Core.Path.{◌≡◌, refl}
 use Rattle.std.specs.Prelude.{Option, None, Some}
-use mathlib.Core.Bool.{Bool, true, false, cond, not, ◌||◌}
-use mathlib.Core.List.{List, []}
-use Prim.Native.Nat.{ℕ, ◌+◌, ◌-◌, ◌≤◌, ◌<◌}
-use native.Mathlib.Omega.{arith}
-use lib.ListN.{length, get_or, take, drop, get_or-eq_default}
-use lib.Dec.{eqb}
-use borrow.Author.Tests.{le-leb, lt-leb}
+use mathlib.Core.Bool.{Bool, true, false, cond}
+use mathlib.Core.List.{List}
+use Prim.Native.Nat.{ℕ, ◌+◌, ◌-◌, ◌≤◌}
+use lib.ListN.{length, get_or, take, drop}
+use borrow.Author.Tests.{le-leb}
 use Rattle.tables.specs.Project.{Project}
 use Rattle.tables.specs.Readings.{modules}
 use Rattle.tables.specs.Refusal.{refusal}
@@ -16,7 +14,7 @@ use Rattle.tables.specs.Accepted.{Accepted}
 use Rattle.tables.specs.declared.Refusal.{Refusal}
 use Rattle.tables.specs.declared.Refusal.TheVariants.{ListSize, ColumnValue}
 use Rattle.tables.proofs.Accepted.{accepted}
-use Rattle.table.specs.Table.{part, column_at, table, read, with_records, current, bounds_fit, table_refusal, tested_too, lent_as, lent, lent_with}
+use Rattle.table.specs.Table.{part, column_at, read, current, bounds_fit, table_refusal, tested_too, lent_as}
 use Rattle.names.specs.Names.{names_sized, names_in}
 use Rattle.table.proofs.Current.{current-accepted}
 
@@ -25,37 +23,10 @@ module _ (bounds columns : List ℕ) (k start end : ℕ) (from : start ≡ get_o
   unfolding column_at part
   column-part a b = rw (← from, ← to, le-leb start end a, le-leb end (length columns) b)
 
-  -- nothing where the bounds don't fit
-
-  pub column-back : end < start → [] ≡ column_at bounds columns k
-  unfolding column_at part
-  column-back a = rw (← from, ← to, lt-leb start end a)
-
-  pub column-past : start ≤ end → length columns < end → [] ≡ column_at bounds columns k
-  unfolding column_at part
-  column-past a b = rw (← from, ← to, le-leb start end a, lt-leb end (length columns) b)
-
-pub column-none : (bounds columns : List ℕ) (k : ℕ) → length bounds ≤ k → [] ≡ column_at bounds columns k
-column-none bounds columns k l = column-part bounds columns k 0 0 (sym (get_or-eq_default bounds 0 l)) (sym (get_or-eq_default bounds 0 (omega arith))) (omega arith) (omega arith)
-
 -- a project read with its own columns is the project
 pub read-own : (p : Project) → read p p.record_module p.record_kind p.record_target p.dependency p.member ≡ p
 unfolding read
 read-own p = refl
-
--- with its dependencies and members cut from it, only its records are others
-pub records-cut : (runtime dynamic : ℕ) (bounds columns importers kinds targets : List ℕ) {dependencies members : List ℕ}
-    → dependencies ≡ column_at bounds columns 12 → members ≡ column_at bounds columns 28
-    → read (table runtime dynamic bounds columns) importers kinds targets dependencies members ≡ with_records (table runtime dynamic bounds columns) importers kinds targets
-unfolding table
-records-cut runtime dynamic bounds columns importers kinds targets e1 e2 = rw (e1, e2)
-
--- a table read with the record columns that were cut from it is the table
-pub lent_cut : (runtime dynamic : ℕ) (bounds columns names : List ℕ) {importers kinds targets : List ℕ}
-    → importers ≡ column_at bounds columns 8 → kinds ≡ column_at bounds columns 9 → targets ≡ column_at bounds columns 10
-    → lent_with runtime dynamic bounds columns names importers kinds targets ≡ lent runtime dynamic bounds columns names
-unfolding table read
-lent_cut runtime dynamic bounds columns names e1 e2 e3 = ap (lent_as bounds columns names) (rw (e1, e2, e3))
 
 -- what refuses a table
 

@@ -1,4 +1,3 @@
--- A project lent as a table, and what an operation on one answers. `Places` is what functions over a table ask of slices beside it.
+-- A project lent as a table, and what an operation on one answers.
 pub mod Table
 pub mod Lending
-pub mod Places

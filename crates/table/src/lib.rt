@@ -1,4 +1,4 @@
-// A project lent as two slices: where each column starts, with where the last ends, and all columns one after the other.
+// A project lent as one value: its settings, its columns one after the other with where each starts, its names and its import records.
 #![tactic(auto)]
 
 ghost use Rattle.std.specs.Prelude.{◌≡◌, length, get_or};
@@ -113,6 +113,7 @@ fn bound(bounds: &[u32], k: usize) -> usize
 }
 
 // Column k.
+#[tactic(auto, unfolding(crate::specs::Table::column_at, crate::specs::Table::part))]
 pub fn column<'a>(bounds: &[u32], columns: &'a [u32], k: usize) -> &'a [u32]
     ensures { result.now ≡ column_at bounds.now columns.now k }
 {
@@ -139,6 +140,7 @@ pub fn rows(bounds: &[u32], columns: &[u32], k: usize) -> usize
 
 impl<'a> Table<'a> {
     // A table with the import records that stand in its columns.
+    #[tactic(auto, unfolding(crate::specs::Table::table, crate::specs::Table::read))]
     pub fn new(
         runtime: u32,
         dynamic: u32,

@@ -1,6 +1,6 @@
 // Row look-ups, for crates above, on tested tables.
 ghost use Rattle.std.specs.Prelude.{◌≡◌, ◌<◌, ◌≤◌, length};
-ghost use Rattle.tables.specs.Lookups.{Rising, FirstRow, FirstRows, greater_of, RowEnds};
+ghost use Rattle.tables.specs.Lookups.{Rising, FirstRow, FirstRows, RowEnds};
 ghost use Rattle.tables.specs.Readings.{is_static, resolved};
 ghost use Rattle.tables.specs.Threads.{Threadable, Threads};
 
@@ -12,13 +12,6 @@ pub fn first_row(column: &[u32], x: usize) -> usize
     ensures { FirstRow column.now x result }
 {
     column.partition_point(|row| (*row as usize) < x)
-}
-
-// The greater of two.
-pub fn greater(a: u32, b: u32) -> u32
-    ensures { result ≡ greater_of a b }
-{
-    a.max(b)
 }
 
 // Writes at the place after each value the row after its last, and 0 at the other places.
@@ -45,6 +38,7 @@ pub fn first_rows(column: &[u32], starts: &mut [u32])
     ensures { FirstRows column.now starts.new }
 {
     row_ends(column, starts);
+    // by number: each place is written from the one before it
     for x in 1..starts.len() {
         starts[x] = starts[x - 1].max(starts[x]);
     }
@@ -57,6 +51,7 @@ pub fn thread(from: &[u32], heads: &mut [u32], nexts: &mut [u32])
     ensures { Threads from.now heads.new nexts.new }
 {
     heads.fill(from.len() as u32);
+    // by number: it writes each row's own place and number
     for row in (0..from.len()).rev() {
         let m = from[row] as usize;
         nexts[row] = heads[m];

@@ -15,6 +15,7 @@ impl ModuleIdx {
 }
 
 // What a record's target is.
+// No Option or Result: an external target has a number too, and is no failure.
 #[derive(Clone, Copy)]
 pub enum Target {
     Missing,
@@ -22,7 +23,7 @@ pub enum Target {
     Normal(u32),
 }
 
-// Why a call is turned back; `as u32` is its number.
+// Why a call is turned back, the error of each Result here; `as u32` is the number that the scope gives it.
 #[derive(Clone, Copy, PartialEq, Eq, Debug)]
 pub enum Refusal {
     // A list is over its limit, its columns differ in length, there is no module, or the columns' bounds don't fit.
@@ -31,7 +32,7 @@ pub enum Refusal {
     ColumnValue = 2,
     // A first column falls.
     RowOrder = 3,
-    // RowConflict disagree.
+    // Rows disagree.
     RowConflict = 4,
     // A root, entry, chunk or seed that doesn't exist or isn't analysed, or too many seeds.
     Argument = 5,

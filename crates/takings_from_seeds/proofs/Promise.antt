@@ -1,13 +1,12 @@
 -- What the operation promises where the project is refused, and where the call is accepted.
 -- Assumes nothing.
-use Rattle.std.specs.Prelude.{◌≡◌, ℕ, ◌≤◌, true, leb, List, [], length, None, Ok, Err}
+use Rattle.std.specs.Prelude.{◌≡◌, ℕ, ◌≤◌, true, leb, List, [], length, None, Some, Ok, Err}
 use borrow.Author.Tests.{le-leb}
 use Rattle.lists.proofs.Laws.{and-join}
 use Rattle.tables.specs.Project.{Project}
 use Rattle.tables.specs.Readings.{modules}
 use Rattle.tables.specs.declared.Refusal.{Refusal}
-use Rattle.tables.specs.Answers.{tested}
-use Rattle.tables.proofs.Answering.{verdict-project, verdict-none, answer-refused, answer-accepted, after-refused, after-accepted, tested-refused}
+use Rattle.tables.proofs.Answering.{verdict-project, verdict-none, answer-refused, answer-accepted, after-refused, after-accepted}
 use Rattle.table.specs.Table.{Lent}
 use Rattle.seeds.specs.Seeds.{seeds_fit}
 use Rattle.worklist_plan.specs.inner.Written.{RunWritten}
@@ -18,9 +17,9 @@ module _ (t : Lent) (seeds list lengths : List ℕ) where
   p = t.project
 
   -- a refused project changes nothing
-  pub project-refused : {e : Refusal} → Err e ≡ tested t.refused → TakingsFromSeeds t seeds list lengths (Err e) list lengths
+  pub project-refused : {e : Refusal} → t.refused ≡ Some e → TakingsFromSeeds t seeds list lengths (Err e) list lengths
   project-refused h =
-      let r = verdict-project _ _ (tested-refused t.refused h) in
+      let r = verdict-project _ _ h in
       record { members = []; sizes = []; run = λ z. cc (r, z); answered = answer-refused 0 r; listed = after-refused list [] r; measured = after-refused lengths [] r }
 
   -- an accepted call writes the run

@@ -4,14 +4,14 @@
 
 ghost use Rattle.std.specs.Prelude.{◌≤◌, length};
 
-use listing::{Reading, read};
-use parts::{first_of, part_of};
+use listing::{TextSpace, read_text};
+use parts::first_of;
 use std::env::FillError;
 use std::fs::File;
 use std::io::Read;
 use std::rt::{Env, Files};
 use std::{io, str};
-use table::{COLUMNS, MODULE_LIMIT, SEED, Table};
+use table::{MODULE_LIMIT, SEED, Table};
 use tables::Refusal;
 use takings_from_seeds::takings_from_seeds;
 
@@ -85,45 +85,12 @@ fn show_table(rt: &impl Print, table: &Table) -> io::Result<()> {
     show_written(rt, &list, &lengths, answer)
 }
 
-// Shows that of a project that was read, with n values in its columns.
-fn show_read<'a>(
-    rt: &impl Print,
-    settings: [u32; 2],
-    bounds: &'a [u32; COLUMNS + 1],
-    columns: &'a [u32; 32768],
-    n: usize,
-    names: &'a [u8],
-) -> io::Result<()> {
-    show_table(
-        rt,
-        &Table::new(
-            settings[0],
-            settings[1],
-            bounds,
-            first_of(columns, n),
-            names,
-        ),
-    )
-}
-
 // Shows that of a text.
 fn show_text(rt: &impl Print, text: &[u8]) -> io::Result<()> {
-    let mut settings = [0u32; 2];
-    let mut bounds = [0u32; COLUMNS + 1];
-    let mut columns = [0u32; 32768];
-    let answer = read(text, &mut settings, &mut bounds, &mut columns);
-    match answer {
+    let mut space = TextSpace::EMPTY;
+    match read_text(text, &mut space) {
         Err(refusal) => refused(rt, refusal),
-        Ok(Reading { values, from, to }) => {
-            show_read(
-                rt,
-                settings,
-                &bounds,
-                &columns,
-                values,
-                part_of(text, from, to),
-            )
-        }
+        Ok(table) => show_table(rt, &table),
     }
 }
 
@@ -135,10 +102,11 @@ fn read_some(input: &mut impl Read, part: &mut [u8]) -> usize
 }
 
 // Reads until `text` is full, the file ends or a read fails, and says how many bytes were read.
-fn read_text(input: &mut impl Read, text: &mut [u8]) -> usize
+fn read_input(input: &mut impl Read, text: &mut [u8]) -> usize
     ensures { result ≤ length text.new }
 {
     let mut n = 0;
+    // a reader
     while n < text.len() {
         let more = read_some(input, &mut text[n..]);
         if more == 0 {
@@ -152,7 +120,7 @@ fn read_text(input: &mut impl Read, text: &mut [u8]) -> usize
 // Shows that of an open file.
 fn show_open<R: Files + Print>(rt: &R, file: &mut R::File) -> io::Result<()> {
     let mut text = [0u8; TEXT_BYTES];
-    let n = read_text(file, &mut text);
+    let n = read_input(file, &mut text);
     show_text(rt, &text[..n])
 }
 
@@ -175,6 +143,7 @@ fn show_argument(rt: &(impl Files + Print), name: &[u8]) -> io::Result<()> {
 }
 
 fn main(rt: HostRuntime) -> io::Result<()> {
+    // arguments are read by their number
     for i in 1..usize::MAX {
         let mut name = [0u8; 4096];
         match rt.arg(i, &mut name) {

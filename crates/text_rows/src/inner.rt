@@ -15,7 +15,7 @@ pub fn width(l: usize) -> usize
     WIDTHS[l]
 }
 
-// Where a reading stands: the position in the text, and how many values are read.
+// Where a reading stands: the position in the text, and how many values are read. No slice that gets shorter says the second.
 #[derive(Clone, Copy)]
 pub struct Cursor {
     pub at: usize,
@@ -52,6 +52,7 @@ fn read_rows(
     let mut i = at;
     let mut k = from;
     let mut left = last;
+    // a reader: each field says where the next begins
     while let Some((v, next)) = read_cell(s, i, end_of(left)) {
         out[k] = v;
         k += 1;

@@ -34,7 +34,8 @@ pub fn write_ways<'a>(normal: &'a [u32], included: &'a [u32], wrap: &'a [u32], w
     }
 }
 
-// Which module a record row triggers: its target, if its kind is 0 or 1 and the target executes and its wrap is not 0. Else the mark.
+// Which module a record row triggers: its target, if its kind is 0 or 1 and the target executes and its wrap is not 0. Else the mark,
+// as the column that it is written to holds it.
 #[tactic(auto, unfolding(tables::specs::Readings::resolved))]
 fn trigger_of<'a>(
     normal: &'a [u32],

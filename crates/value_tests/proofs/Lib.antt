@@ -1,3 +1,2 @@
--- `Groups`: the tests of lists, joined. `Passed`: what test 4 asks.
-mod Groups
+-- What test 4 asks.
 mod Passed

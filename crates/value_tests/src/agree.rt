@@ -11,6 +11,7 @@ use table::{
 };
 
 // Test 3.
+#[tactic(auto, unfolding(table::specs::Table::table, table::specs::Table::read, tables::specs::Refusal::rows_rise))]
 pub fn rows_rise(table: &Table) -> bool
     ensures { result ≡ rows_rise (written table.now) }
 {
@@ -21,6 +22,7 @@ pub fn rows_rise(table: &Table) -> bool
 }
 
 // Test 4, of a table that passed the others.
+#[tactic(auto, unfolding(table::specs::Table::table, table::specs::Table::read, tables::specs::Refusal::rows_agree, tables::specs::Refusal::all_normal, tables::specs::Refusal::depended_resolved))]
 pub fn rows_agree(table: &Table) -> bool
     requires { Passed (written table.now) }
     ensures { result ≡ rows_agree (written table.now) }

@@ -92,6 +92,7 @@ fn three_at(table: &Table, k: usize, l: usize, m: usize, n: usize) -> bool
 }
 
 // Settings, modules, records, dependencies and statements.
+#[tactic(auto, unfolding(table::specs::Table::table, table::specs::Table::read))]
 pub fn code_in(table: &Table) -> bool
     ensures { result ≡ code_in (written table.now) }
 {
@@ -121,6 +122,7 @@ pub fn code_in(table: &Table) -> bool
 }
 
 // Uses, symbols, export chains, references and depended rows.
+#[tactic(auto, unfolding(table::specs::Table::table, table::specs::Table::read))]
 pub fn symbols_in(table: &Table) -> bool
     ensures { result ≡ symbols_in (written table.now) }
 {
@@ -137,6 +139,7 @@ pub fn symbols_in(table: &Table) -> bool
 }
 
 // Chunks, members, imports, entries and seeds.
+#[tactic(auto, unfolding(table::specs::Table::table, table::specs::Table::read))]
 pub fn chunks_in(table: &Table) -> bool
     ensures { result ≡ chunks_in (written table.now) }
 {

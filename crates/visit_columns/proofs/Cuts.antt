@@ -38,3 +38,20 @@ module _ (a b : ℕ) (xs ys : List ℕ) (ordered : a ≤ b) (within : b ≤ leng
 
   pub put-length : length (put_mid a (b - a) xs ys) ≡ length xs
   put-length = same_len_mid a (b - a) xs ys size
+
+-- a part is written, from a to b: it is there, and what stands before it is as it was
+pub record Laid (a b : ℕ) (old new part : List ℕ) : Type 0 where
+  pub size : length new ≡ length old
+  pub long : length part ≡ b - a
+  pub there : cut a b new ≡ part
+  pub kept : (c d : ℕ) → d ≤ a → cut c d new ≡ cut c d old
+  pub front : (n : ℕ) → n ≤ a → take n new ≡ take n old
+
+pub laid : (a b : ℕ) (xs ys : List ℕ) → length ys ≡ length (cut a b xs) → a ≤ b → b ≤ length xs → Laid a b xs (put_mid a (b - a) xs ys) ys
+laid a b xs ys size ordered within = record {
+  size = put-length a b xs ys ordered within size;
+  long = size ∙ mid_len a b xs within;
+  there = cut-same a b xs ys ordered within size;
+  kept = cut-before a b xs ys ordered within size;
+  front = front-before a b xs ys ordered within size;
+}

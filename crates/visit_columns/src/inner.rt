@@ -1,21 +1,16 @@
 // For crates above, on tested tables.
 ghost use Rattle.std.specs.Prelude.{◌≡◌, ◌≤◌, length};
-ghost use Rattle.tables.specs.Project.{Project};
 ghost use Rattle.tables.specs.Lookups.{Rising};
 ghost use Rattle.tables.specs.Readings.{modules, values_of};
 ghost use Rattle.tables.specs.Refusal.{module_limit, row_limit};
-ghost use Rattle.table.specs.Table.{table, read};
-ghost use Rattle.table.specs.Places.{Places};
 ghost use Rattle.load_order.specs.LoadOrder.{load_order};
 ghost use Rattle.load_order.specs.inner.Rows.{Imports};
 ghost use Rattle.visit_columns.specs.inner.Prepared.{Fit, places, loads_in, Parts};
 ghost use Rattle.visit_columns.specs.inner.OverTable.{PreparedAs, Prepared};
 
+use current_columns::inner::Current;
 use load_order::inner::arrange;
-use table::{
-    CHUNK_LIMIT, IMPORT_CHUNK, IMPORTS, INCLUDED, MEMBER_CHUNK, MODULE_LIMIT, NORMAL, ORDER,
-    ROW_LIMIT, WRAP, column,
-};
+use table::{CHUNK_LIMIT, MODULE_LIMIT, ROW_LIMIT};
 use tables::inner::first_rows;
 use triggers::inner::{write_triggers, write_ways};
 
@@ -87,65 +82,30 @@ fn prepare<'a>(
 }
 
 // Makes the columns that the visits read, of a table with these wraps in the place of its own, as parts of one slice.
-pub fn prepare_wrapped<'a>(
-    runtime: u32,
-    dynamic: u32,
-    bounds: &'a [u32],
-    columns: &'a [u32],
-    importers: &'a [u32],
-    kinds: &'a [u32],
-    targets: &'a [u32],
-    dependencies: &'a [u32],
-    members: &'a [u32],
-    wraps: &'a [u32],
-    prepared: &mut [u32],
-)
-    requires wraps { let p : Project = read (table runtime dynamic bounds.now columns.now) importers.now kinds.now targets.now dependencies.now members.now in length wraps.now ≡ modules p }
-    requires places { let p : Project = read (table runtime dynamic bounds.now columns.now) importers.now kinds.now targets.now dependencies.now members.now in Places p places (length prepared.old) }
-    ensures { let p : Project = read (table runtime dynamic bounds.now columns.now) importers.now kinds.now targets.now dependencies.now members.now in PreparedAs p wraps.now prepared.new }
+pub fn prepare_wrapped<'a>(current: &Current, wraps: &'a [u32], prepared: &mut [u32])
+    requires wraps { length wraps.now ≡ modules current.now }
+    requires places { length prepared.old ≡ places }
+    ensures { PreparedAs current.now wraps.now prepared.new }
 {
     prepare(
-        column(bounds, columns, NORMAL),
-        column(bounds, columns, INCLUDED),
+        current.normal,
+        current.included,
         wraps,
-        importers,
-        kinds,
-        targets,
-        column(bounds, columns, ORDER),
-        column(bounds, columns, MEMBER_CHUNK),
-        column(bounds, columns, IMPORT_CHUNK),
-        column(bounds, columns, IMPORTS),
+        current.record_module,
+        current.record_kind,
+        current.record_target,
+        current.order,
+        current.member_chunk,
+        current.import_chunk,
+        current.imports,
         prepared,
     );
 }
 
 // Makes the columns that the visits read, of a table, as parts of one slice.
-pub fn prepare_table<'a>(
-    runtime: u32,
-    dynamic: u32,
-    bounds: &'a [u32],
-    columns: &'a [u32],
-    importers: &'a [u32],
-    kinds: &'a [u32],
-    targets: &'a [u32],
-    dependencies: &'a [u32],
-    members: &'a [u32],
-    prepared: &mut [u32],
-)
-    requires places { let p : Project = read (table runtime dynamic bounds.now columns.now) importers.now kinds.now targets.now dependencies.now members.now in Places p places (length prepared.old) }
-    ensures { let p : Project = read (table runtime dynamic bounds.now columns.now) importers.now kinds.now targets.now dependencies.now members.now in Prepared p prepared.new }
+pub fn prepare_table(current: &Current, prepared: &mut [u32])
+    requires places { length prepared.old ≡ places }
+    ensures { Prepared current.now prepared.new }
 {
-    prepare_wrapped(
-        runtime,
-        dynamic,
-        bounds,
-        columns,
-        importers,
-        kinds,
-        targets,
-        dependencies,
-        members,
-        column(bounds, columns, WRAP),
-        prepared,
-    );
+    prepare_wrapped(current, current.wrap, prepared);
 }

@@ -66,8 +66,8 @@ module _ (p : Project) (root : ℕ) where
   unfolding expected_sensitive_of actual_sensitive_of
   orders-of a = record {
     few = a.sizes.normal;
-    expected_order = keep-order (sensitive p) (expected_of p root) (modules p) (expected-order p a root);
-    actual_order = keep-order (sensitive p) (actual_of p root) (modules p) (actual-order p a root);
+    expected_order = keep-order (sensitive p) (expected_of p root) (modules p) (expected-order p a.sizes.normal root);
+    actual_order = keep-order (sensitive p) (actual_of p root) (modules p) (actual-order p a.sizes.normal root);
   }
 
   -- with the marks of the sensitive modules and the plan of the whole analysis, a page is the page

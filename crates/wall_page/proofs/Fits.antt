@@ -30,8 +30,8 @@ module _ (p : Project) (a : Accepted p) (sensitives plan : List ℕ) (root : ℕ
   marked-orders : Orders (keep (has sensitives) (expected_of p root)) (keep (has sensitives) (actual_of p root)) (modules p)
   marked-orders = record {
     few = a.sizes.normal;
-    expected_order = keep-order (has sensitives) (expected_of p root) (modules p) (expected-order p a root);
-    actual_order = keep-order (has sensitives) (actual_of p root) (modules p) (actual-order p a root);
+    expected_order = keep-order (has sensitives) (expected_of p root) (modules p) (expected-order p a.sizes.normal root);
+    actual_order = keep-order (has sensitives) (actual_of p root) (modules p) (actual-order p a.sizes.normal root);
   }
 
   pub page-fits : length (marked_page p sensitives plan root) ≤ 41 * modules p

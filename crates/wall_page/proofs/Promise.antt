@@ -1,6 +1,6 @@
 -- The promise of the operation of an entry's page: of a project that is refused, and of a call that is accepted.
 -- Assumes nothing.
-use Rattle.std.specs.Prelude.{◌≡◌, ℕ, ◌*◌, ◌≤◌, true, leb, List, length, take, None, Ok, Err}
+use Rattle.std.specs.Prelude.{◌≡◌, ℕ, ◌*◌, ◌≤◌, true, leb, List, length, take, None, Some, Ok, Err}
 use mathlib.Core.Path.{ap, ◌∙◌}
 use native.Mathlib.Omega.{arith}
 use borrow.Author.Tests.{le-leb}
@@ -9,9 +9,8 @@ use Rattle.lists.proofs.Fronts.{sets-front}
 use Rattle.tables.specs.Project.{Project}
 use Rattle.tables.specs.Readings.{modules, is_analysed}
 use Rattle.tables.specs.Accepted.{Accepted}
-use Rattle.tables.specs.Answers.{tested}
 use Rattle.tables.specs.declared.Refusal.{Refusal}
-use Rattle.tables.proofs.Answering.{verdict-project, verdict-none, answer-refused, answer-accepted, after-refused, after-accepted, tested-refused}
+use Rattle.tables.proofs.Answering.{verdict-project, verdict-none, answer-refused, answer-accepted, after-refused, after-accepted}
 use Rattle.table.specs.Table.{Lent}
 use Rattle.lines.specs.Lines.{PutAt}
 use Rattle.lines.proofs.Puts.{put_as}
@@ -30,9 +29,9 @@ module _ (t : Lent) (root : ℕ) (grounds plan page : List ℕ) where
   text = page_with p grounds plan root
 
   -- a refusal leaves all as it was
-  pub project-refused : {e : Refusal} → Err e ≡ tested t.refused → EntryPage t root grounds plan page (Err e) page
+  pub project-refused : {e : Refusal} → t.refused ≡ Some e → EntryPage t root grounds plan page (Err e) page
   project-refused h =
-      let r = verdict-project _ _ (tested-refused t.refused h) in
+      let r = verdict-project _ _ h in
       record { answered = answer-refused (length text) r; written = after-refused page text r }
 
   pub page-put : t.refused ≡ None → is_analysed p root ≡ true → {i : ℕ} → i ≡ n → i ≤ length grounds → i ≤ length plan → 41 * i ≤ length page → Accepted p → {page' : List ℕ} {r : ℕ}

@@ -45,6 +45,10 @@ pub settling-more : (p : Project) (settled placed placed' : List ℕ) → ((m : 
 unfolding Settled AllPlanned
 settling-more p settled placed placed' h s = record { size = s.size; settles = λ k l e m i q g. h m (s.settles k l e m i q g) }
 
+-- no more are listed than there are modules
+pub listed_few : {p : Project} {seeds from to marks queue placed list : List ℕ} {met count k : ℕ} → State p seeds from to marks queue placed list met count k → count ≤ modules p
+listed_few s = omega (arith, count_fits s.listed, s.listed.size, s.size)
+
 -- no length is noted
 pub noted-start : (p : Project) (seeds list : List ℕ) (count : ℕ) (lengths : List ℕ) → Noted p seeds list count lengths lengths 0
 noted-start p seeds list count lengths = record { room = refl; within = λ j l. absurd (omega arith); takes = λ j l. absurd (omega arith); rest = λ j l. refl }

@@ -1,32 +1,18 @@
 // For crates above, on tested tables.
 ghost use Rattle.std.specs.Prelude.{◌≡◌, ◌≤◌, length};
-ghost use Rattle.tables.specs.Project.{Project};
 ghost use Rattle.tables.specs.Accepted.{Below};
-ghost use Rattle.table.specs.Table.{table, read};
-ghost use Rattle.suffix_rule.specs.inner.Suffix.{SuffixSets};
 ghost use Rattle.worklist_taking.specs.inner.State.{GraphOf};
 ghost use Rattle.worklist.specs.inner.Taking.{Fresh, TakenAll};
 
+use rule_sets::inner::RuleSets;
 use worklist_batch::inner::advance;
 use worklist_ends::inner::list_seeds;
 use worklist_step::inner::step;
 
 // Lists the eligible seeds, then takes the modules of the list in turn until all are taken. `lengths` gets the length of the list after each number of takings
 // but the last, from none on. How many there are.
-pub fn take_all<'a>(
-    runtime: u32,
-    dynamic: u32,
-    bounds: &'a [u32],
-    columns: &'a [u32],
-    importers: &'a [u32],
-    kinds: &'a [u32],
-    targets: &'a [u32],
-    dependencies: &'a [u32],
-    members: &'a [u32],
-    roots: &[u32],
-    sensitive: &[u32],
-    eligible: &[u32],
-    candidates: &[u32],
+pub fn take_all(
+    sets: &RuleSets,
     from: &[u32],
     to: &[u32],
     heads: &[u32],
@@ -42,32 +28,20 @@ pub fn take_all<'a>(
     asked_nexts: &mut [u32],
     lengths: &mut [u32],
 ) -> usize
-    requires sets { let p : Project = read (table runtime dynamic bounds.now columns.now) importers.now kinds.now targets.now dependencies.now members.now in SuffixSets p roots.now sensitive.now eligible.now candidates.now }
-    requires graph { let p : Project = read (table runtime dynamic bounds.now columns.now) importers.now kinds.now targets.now dependencies.now members.now in GraphOf p from.now to.now heads.now nexts.now }
+    requires graph { GraphOf sets.now from.now to.now heads.now nexts.now }
     requires seeds { Below (length placed.old) seeds.now }
-    requires fresh { let p : Project = read (table runtime dynamic bounds.now columns.now) importers.now kinds.now targets.now dependencies.now members.now in Fresh p marks.old queue.old placed.old list.old settled.old asked.old asked_heads.old asked_nexts.old }
+    requires fresh { Fresh sets.now marks.old queue.old placed.old list.old settled.old asked.old asked_heads.old asked_nexts.old }
     requires room { length placed.old ≤ length lengths.old }
-    ensures { let p : Project = read (table runtime dynamic bounds.now columns.now) importers.now kinds.now targets.now dependencies.now members.now in TakenAll p seeds.now placed.new list.new lengths.old lengths.new result }
+    ensures { TakenAll sets.now seeds.now placed.new list.new lengths.old lengths.new result }
 {
-    let mut listed = list_seeds(seeds, eligible, placed, list);
+    let mut listed = list_seeds(seeds, sets.eligible, placed, list);
     let mut met = 0;
     let mut end = 0;
     let mut k = 0;
+    // the list grows while it is read
     while k < listed {
         end = advance(
-            runtime,
-            dynamic,
-            bounds,
-            columns,
-            importers,
-            kinds,
-            targets,
-            dependencies,
-            members,
-            roots,
-            sensitive,
-            eligible,
-            candidates,
+            sets,
             placed,
             list,
             settled,
@@ -83,8 +57,8 @@ pub fn take_all<'a>(
             to,
             heads,
             nexts,
-            candidates,
-            eligible,
+            sets.candidates,
+            sets.eligible,
             asked,
             asked_heads,
             asked_nexts,

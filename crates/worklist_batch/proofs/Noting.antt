@@ -6,7 +6,7 @@ use mathlib.Core.Logic.{inl, ⊎_elim}
 use mathlib.Core.List.{Memᴰ}
 use native.Mathlib.Omega.{arith}
 use native.Mathlib.Decide.{dec_lt}
-use lib.ListN.{get_or-replicate, length-drop}
+use lib.ListN.{get_or-replicate, get_or-eq_default, length-replicate, length-drop}
 use lib.Seq.{get_or-drop, get_or-take, length-take-le}
 use Rattle.lists.specs.Words.{has}
 use Rattle.lists.proofs.Laws.{has_in}
@@ -23,7 +23,7 @@ use Rattle.wrap_rules.specs.inner.Passes.{candidate_marks}
 use Rattle.wrap_rules.proofs.Sets.{eligible-has, parts-candidate}
 use Rattle.wrap_rules.proofs.Roots.{expected-reached}
 use Rattle.request_queue.specs.inner.Growing.{Listed}
-use Rattle.suffix_places.specs.inner.Places.{never, Lowest, Stands}
+use Rattle.suffix_places.specs.inner.Places.{never, Small, Lowest, Stands}
 use Rattle.worklist_taking.specs.inner.State.{Batch}
 use Rattle.worklist_taking.proofs.Places.{place}
 
@@ -37,6 +37,15 @@ module _ (xs : List ℕ) (a b : ℕ) (l : a ≤ b) (h : b ≤ length xs) where
 
   pub part-from : (j : ℕ) → j < length (take (b - a) (drop a xs)) → get_or (take (b - a) (drop a xs)) j 0 ≡ get_or xs (a + j) 0
   part-from j u = get_or-take (b - a) (drop a xs) j 0 (omega (arith, u, part_length)) ∙ get_or-drop a xs j 0
+
+-- filled with `never`
+pub all_small : (xs : List ℕ) (n : ℕ) → xs ≡ replicate n never → Small xs
+unfolding Small
+all_small xs n e m = rw e (go (dec_lt m n))
+  where
+    go : Dec (m < n) → get_or (replicate n never) m 0 ≤ never
+    go (yes l) = let z : get_or (replicate n never) m 0 ≡ never = get_or-replicate n m never 0 (omega (arith, l, length-replicate {A = ℕ} n never)) in omega (arith, z)
+    go (no l) = let z : get_or (replicate n never) m 0 ≡ 0 = get_or-eq_default (replicate n never) 0 (omega (arith, l, length-replicate {A = ℕ} n never)) in omega (arith, z)
 
 -- all that is listed was looked at
 pub lowest-batch : (p : Project) (placed asked settled' asked' heads nexts : List ℕ) → length asked' ≡ modules p → asked ≡ replicate (modules p) never

@@ -1,14 +1,12 @@
 // For crates above, on tested tables.
 ghost use Rattle.std.specs.Prelude.{◌≡◌, ℕ, ◌<◌, ◌≤◌, true, false, length, ◌≢◌, slice_index};
 ghost use Rattle.lists.specs.Words.{has};
-ghost use Rattle.tables.specs.Project.{Project};
 ghost use Rattle.tables.specs.Accepted.{Below};
-ghost use Rattle.table.specs.Table.{table, read};
-ghost use Rattle.suffix_rule.specs.inner.Suffix.{SuffixSets, Settling};
 ghost use Rattle.worklist_batch.specs.inner.Noting.{Noting, Noted, Batching, Advanced};
 
 use lists::inner::fill;
 use marks::inner::any_open;
+use rule_sets::inner::RuleSets;
 use suffix_places::inner::{NEVER, lower_entries};
 use tables::inner::thread;
 
@@ -27,42 +25,23 @@ fn any_sensitive(part: &[u32], sensitive: &[u32]) -> bool
 }
 
 // Notes after how many takings rule (i) asks for each module, for all that are listed.
-fn note_asked<'a>(
-    runtime: u32,
-    dynamic: u32,
-    bounds: &'a [u32],
-    columns: &'a [u32],
-    importers: &'a [u32],
-    kinds: &'a [u32],
-    targets: &'a [u32],
-    dependencies: &'a [u32],
-    members: &'a [u32],
-    roots: &[u32],
-    sensitive: &[u32],
-    eligible: &[u32],
+fn note_asked(
+    sets: &RuleSets,
     placed: &[u32],
     settled: &mut [u32],
     asked: &mut [u32],
     heads: &mut [u32],
     nexts: &mut [u32],
 )
-    requires noting { let p : Project = read (table runtime dynamic bounds.now columns.now) importers.now kinds.now targets.now dependencies.now members.now in Noting p roots.now sensitive.now eligible.now placed.now settled.old asked.old heads.old nexts.old }
-    ensures { let p : Project = read (table runtime dynamic bounds.now columns.now) importers.now kinds.now targets.now dependencies.now members.now in Noted p placed.now settled.new asked.new heads.new nexts.new }
+    requires noting { Noting sets.now placed.now settled.old asked.old heads.old nexts.old }
+    ensures { Noted sets.now placed.now settled.new asked.new heads.new nexts.new }
 {
     fill(asked, NEVER);
     lower_entries(
-        runtime,
-        dynamic,
-        bounds,
-        columns,
-        importers,
-        kinds,
-        targets,
-        dependencies,
-        members,
-        roots,
-        sensitive,
-        eligible,
+        sets.current,
+        sets.roots,
+        sets.sensitive,
+        sets.eligible,
         placed,
         settled,
         asked,
@@ -72,20 +51,8 @@ fn note_asked<'a>(
 
 // Where place k starts a new batch, notes what rule (i) asks for: nothing new where none of the batch is sensitive, or every sensitive candidate is listed.
 // The place where the batch ends.
-pub fn advance<'a>(
-    runtime: u32,
-    dynamic: u32,
-    bounds: &'a [u32],
-    columns: &'a [u32],
-    importers: &'a [u32],
-    kinds: &'a [u32],
-    targets: &'a [u32],
-    dependencies: &'a [u32],
-    members: &'a [u32],
-    roots: &[u32],
-    sensitive: &[u32],
-    eligible: &[u32],
-    candidates: &[u32],
+pub fn advance(
+    sets: &RuleSets,
     placed: &[u32],
     list: &[u32],
     settled: &mut [u32],
@@ -96,37 +63,18 @@ pub fn advance<'a>(
     k: usize,
     end: usize,
 ) -> usize
-    requires sets { let p : Project = read (table runtime dynamic bounds.now columns.now) importers.now kinds.now targets.now dependencies.now members.now in SuffixSets p roots.now sensitive.now eligible.now candidates.now }
-    requires batch { let p : Project = read (table runtime dynamic bounds.now columns.now) importers.now kinds.now targets.now dependencies.now members.now in Batching p placed.now list.now settled.old asked.old heads.old nexts.old count k end }
-    ensures { let p : Project = read (table runtime dynamic bounds.now columns.now) importers.now kinds.now targets.now dependencies.now members.now in Advanced p placed.now count k settled.new asked.new heads.new nexts.new result }
+    requires batch { Batching sets.now placed.now list.now settled.old asked.old heads.old nexts.old count k end }
+    ensures { Advanced sets.now placed.now count k settled.new asked.new heads.new nexts.new result }
 {
     if k < end {
         return end;
     }
-    if !any_sensitive(&list[end..count], sensitive) {
+    if !any_sensitive(&list[end..count], sets.sensitive) {
         return count;
     }
-    if !any_open(sensitive, candidates, placed) {
+    if !any_open(sets.sensitive, sets.candidates, placed) {
         return count;
     }
-    note_asked(
-        runtime,
-        dynamic,
-        bounds,
-        columns,
-        importers,
-        kinds,
-        targets,
-        dependencies,
-        members,
-        roots,
-        sensitive,
-        eligible,
-        placed,
-        settled,
-        asked,
-        heads,
-        nexts,
-    );
+    note_asked(sets, placed, settled, asked, heads, nexts);
     count
 }

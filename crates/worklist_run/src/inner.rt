@@ -1,13 +1,11 @@
 // For crates above, on tested tables.
 ghost use Rattle.std.specs.Prelude.{◌≡◌, ◌≤◌, length};
-ghost use Rattle.tables.specs.Project.{Project};
-ghost use Rattle.table.specs.Table.{table, read};
-ghost use Rattle.suffix_rule.specs.inner.Suffix.{SuffixSets};
 ghost use Rattle.wrap_plan.specs.inner.Seeded.{Seeds};
 ghost use Rattle.worklist_taking.specs.inner.State.{GraphOf};
 ghost use Rattle.worklist_run.specs.inner.Run.{NoteRoom, NoneNoted, Ran};
 
 use lists::inner::fill;
+use rule_sets::inner::RuleSets;
 use suffix_places::inner::NEVER;
 use table::{MODULE_LIMIT, ROW_LIMIT};
 use tables::inner::thread;
@@ -30,20 +28,8 @@ fn start_notes(asked: &mut [u32], heads: &mut [u32], nexts: &mut [u32])
 
 // Takes the modules of a worklist over a request graph with its threads: `placed` gets each one's place in the list, counted from 1, and `lengths` the length of
 // the list after each number of takings but the last. How many there are.
-pub fn run_linked<'a>(
-    runtime: u32,
-    dynamic: u32,
-    bounds: &'a [u32],
-    columns: &'a [u32],
-    importers: &'a [u32],
-    kinds: &'a [u32],
-    targets: &'a [u32],
-    dependencies: &'a [u32],
-    members: &'a [u32],
-    roots: &[u32],
-    sensitive: &[u32],
-    eligible: &[u32],
-    candidates: &[u32],
+pub fn run_linked(
+    sets: &RuleSets,
     from: &[u32],
     to: &[u32],
     heads: &[u32],
@@ -52,37 +38,28 @@ pub fn run_linked<'a>(
     placed: &mut [u32],
     lengths: &mut [u32],
 ) -> usize
-    requires sets { let p : Project = read (table runtime dynamic bounds.now columns.now) importers.now kinds.now targets.now dependencies.now members.now in SuffixSets p roots.now sensitive.now eligible.now candidates.now }
-    requires graph { let p : Project = read (table runtime dynamic bounds.now columns.now) importers.now kinds.now targets.now dependencies.now members.now in GraphOf p from.now to.now heads.now nexts.now }
-    requires seeds { let p : Project = read (table runtime dynamic bounds.now columns.now) importers.now kinds.now targets.now dependencies.now members.now in Seeds p seeds.now (length placed.old) }
+    requires graph { GraphOf sets.now from.now to.now heads.now nexts.now }
+    requires seeds { Seeds sets.now seeds.now (length placed.old) }
     requires room { length placed.old ≤ length lengths.old }
-    ensures { let p : Project = read (table runtime dynamic bounds.now columns.now) importers.now kinds.now targets.now dependencies.now members.now in Ran p seeds.now placed.new lengths.old lengths.new result }
+    ensures { Ran sets.now seeds.now placed.new lengths.old lengths.new result }
 {
-    let n = placed.len();
-    let rows = roots.len();
+    let current = sets.current;
+    let n = current.modules();
     let mut asked = [0u32; MODULE_LIMIT];
+    let asked = &mut asked[..n];
     let mut asked_heads = [0u32; TAKINGS];
     let mut asked_nexts = [0u32; MODULE_LIMIT];
-    start_notes(&mut asked[..n], &mut asked_heads, &mut asked_nexts[..n]);
+    let asked_nexts = &mut asked_nexts[..n];
+    start_notes(asked, &mut asked_heads, asked_nexts);
     let mut marks = [0u32; NODES];
     let mut queue = [0u32; NODES];
     let mut list = [0u32; MODULE_LIMIT];
+    let list = &mut list[..n];
     let mut settled = [0u32; ROW_LIMIT];
+    let settled = &mut settled[..sets.roots.len()];
     fill(placed, 0);
     take_all(
-        runtime,
-        dynamic,
-        bounds,
-        columns,
-        importers,
-        kinds,
-        targets,
-        dependencies,
-        members,
-        roots,
-        sensitive,
-        eligible,
-        candidates,
+        sets,
         from,
         to,
         heads,
@@ -91,11 +68,11 @@ pub fn run_linked<'a>(
         &mut marks,
         &mut queue,
         placed,
-        &mut list[..n],
-        &mut settled[..rows],
-        &mut asked[..n],
+        list,
+        settled,
+        asked,
         &mut asked_heads,
-        &mut asked_nexts[..n],
+        asked_nexts,
         lengths,
     )
 }

@@ -109,6 +109,7 @@ fn list_asked(
 {
     let mut end = count;
     let mut row = heads[at] as usize;
+    // a thread: each module names the next
     while row < asked.len() {
         let m = row;
         row = nexts[m] as usize;

@@ -1,6 +1,6 @@
 -- What the operation promises where the project is refused; and the seeds that fit.
 -- Assumes nothing.
-use Rattle.std.specs.Prelude.{◌≡◌, ℕ, true, ltb, leb, List, length, get_or, Err}
+use Rattle.std.specs.Prelude.{◌≡◌, ℕ, true, ltb, leb, List, length, get_or, Some, Err}
 use borrow.Author.Tests.{ltb-true}
 use Rattle.lists.specs.Words.{ones}
 use Rattle.lists.proofs.Laws.{and_parts, every-mem}
@@ -10,8 +10,7 @@ use Rattle.tables.specs.Readings.{modules}
 use Rattle.tables.specs.Refusal.{row_limit, below}
 use Rattle.tables.specs.declared.Refusal.{Refusal}
 use Rattle.tables.specs.Accepted.{Below}
-use Rattle.tables.specs.Answers.{tested}
-use Rattle.tables.proofs.Answering.{verdict-project, answer-refused, after-refused, tested-refused}
+use Rattle.tables.proofs.Answering.{verdict-project, answer-refused, after-refused}
 use Rattle.table.specs.Table.{Lent}
 use Rattle.chunk_cycles.specs.Cycles.{labels_of}
 use Rattle.wrap_rules.specs.Plan.{orders_of}
@@ -32,7 +31,7 @@ seeds-below n seeds fits i l =
     ltb-true (get_or seeds i 0) n (every-mem (λ (x : ℕ). ltb x n) seeds all (get_d-mem seeds i l))
 
 -- a refused project changes nothing
-pub project-refused : (t : Lent) (seeds marks : List ℕ) {e : Refusal} → Err e ≡ tested t.refused → PlanFromSeeds t seeds marks (Err e) marks
+pub project-refused : (t : Lent) (seeds marks : List ℕ) {e : Refusal} → t.refused ≡ Some e → PlanFromSeeds t seeds marks (Err e) marks
 project-refused t seeds marks h =
-    let r = verdict-project _ _ (tested-refused t.refused h) in
+    let r = verdict-project _ _ h in
     record { answered = answer-refused (ones (plan_of t.project seeds)) r; written = after-refused marks (plan_of t.project seeds) r }

@@ -1,9 +1,8 @@
 -- The start from seeds: the eligible ones are marked.
 -- Assumes nothing.
-use Rattle.std.specs.Prelude.{◌≡◌, ℕ, zero, suc, ◌<◌, true, ◌&&◌, List, length, get_or, replicate}
+use Rattle.std.specs.Prelude.{◌≡◌, ℕ, ◌<◌, true, ◌&&◌, List, length, get_or, replicate}
 use mathlib.Core.Path.{sym, ap, subst, ◌∙◌}
 use mathlib.Core.Logic.{⊎_elim}
-use mathlib.Core.Bool.{false≢true}
 use native.Mathlib.Omega.{arith}
 use lib.ListN.{length-replicate}
 use Rattle.lists.specs.Words.{elem, has, marks_of}
@@ -21,17 +20,12 @@ use Rattle.wrap_rules.specs.Plan.{start, plan_from, asked, orders_of}
 use Rattle.wrap_plan.specs.Promise.{plan_of}
 use Rattle.marks.specs.Steps.{looked, Owners}
 use Rattle.wrap_rules.specs.inner.Passes.{Marked}
+use Rattle.rule_sets.proofs.Blank.{blank-none}
 use Rattle.plan_rounds.specs.inner.Rounds.{closed}
 use Rattle.marks.proofs.Steps.{looked-has, has-looked, looked-bits}
 use Rattle.wrap_rules.proofs.Sets.{eligible-has}
 
--- nothing is marked in zeros
-pub zeros-none : (n m : ℕ) → has (replicate n 0) m ≡ true → ⊥
-zeros-none zero m e = false≢true e
-zeros-none (suc n) zero e = false≢true e
-zeros-none (suc n) (suc m) e = zeros-none n m e
-
-module _ (p : Project) (eligibles : List ℕ) (n : ℕ) (k : eligibles ≡ eligible_marks p) (size : n ≡ modules p) (seeds zeroed plan : List ℕ)
+module _ (p : Project) {eligibles seeds zeroed plan : List ℕ} {n : ℕ} (k : eligibles ≡ eligible_marks p) (size : n ≡ modules p)
     (z : zeroed ≡ replicate n 0) (o : Owners seeds (looked 0 eligibles seeds) (length seeds) zeroed plan) where
   plan-size : length plan ≡ modules p
   plan-size = o.len ∙ ap length z ∙ length-replicate n 0 ∙ size
@@ -49,7 +43,7 @@ module _ (p : Project) (eligibles : List ℕ) (n : ℕ) (k : eligibles ≡ eligi
       (λ m l.
       iff-eq (has plan m) (eligible p m && elem m seeds)
       (λ e.
-      ⊎_elim (λ h. absurd (zeros-none n m (subst (λ (s : List ℕ). has s m ≡ true) z h)))
+      ⊎_elim (λ h. absurd (blank-none n m (subst (λ (s : List ℕ). has s m ≡ true) z h)))
       (λ r.
       let q : has eligibles m ≡ true = subst (λ (x : ℕ). has eligibles x ≡ true) r.3 (has-looked eligibles seeds r.0 r.2).1 in
       and-join (eligible p m) (elem m seeds) (sym (eligible-has p m) ∙ subst (λ (s : List ℕ). has s m ≡ true) k q) (subst (λ (x : ℕ). elem x seeds ≡ true) r.3 (mem-elem (get_or seeds r.0 0) seeds (get_d-mem seeds r.0 r.1))))
@@ -64,6 +58,6 @@ module _ (p : Project) (eligibles : List ℕ) (n : ℕ) (k : eligibles ≡ eligi
   pub seeds-marked : Marked p plan
   seeds-marked = record { size = plan-size; bits = plan-bits }
 
-  pub seeds-planned : (plan' : List ℕ) → plan' ≡ closed p plan → plan' ≡ plan_of p seeds
+  pub seeds-planned : {plan' : List ℕ} → plan' ≡ closed p plan → plan' ≡ plan_of p seeds
   unfolding plan_of plan_from
-  seeds-planned plan' e = e ∙ ap (close (asked (orders_of p) (labels_of p) p)) seeds-start
+  seeds-planned e = e ∙ ap (close (asked (orders_of p) (labels_of p) p)) seeds-start

@@ -4,7 +4,6 @@ use Rattle.std.specs.Prelude.{◌≡◌, ℕ, Bool, true, List, length}
 use mathlib.Core.List.{Memᴰ}
 use Rattle.tables.specs.Project.{Project}
 use Rattle.tables.specs.Readings.{modules}
-use Rattle.tables.specs.Accepted.{Accepted}
 use Rattle.expected_order.specs.OfProject.{expected_of}
 use Rattle.sensitivity.specs.Marks.{sensitive_marks}
 use Rattle.eligibility.specs.Eligible.{eligible, eligible_marks}
@@ -19,16 +18,14 @@ pub record InSome (p : Project) (root_list sensitive S : List ℕ) (m : ℕ) : T
   pub listed : Memᴰ root root_list
   pub inside : InSuffix (expected_of p root) sensitive S m
 
--- marks of an accepted project's n modules
+-- marks of a project's n modules
 pub record PlanMarks (p : Project) (sensitive plan : List ℕ) (n : ℕ) : Type 0 where
-  pub accepted : Accepted p
   pub size : n ≡ modules p
   pub sensitives : length sensitive ≡ n
   pub planned : length plan ≡ n
 
--- what is read of an accepted project, as slices hold it
+-- what is read of a project, as slices hold it
 pub record SuffixBasis (p : Project) (root_list sensitives eligibles : List ℕ) : Type 0 where
-  pub accepted : Accepted p
   pub root : root_list ≡ roots p
   pub sensitive_set : sensitives ≡ sensitive_marks p
   pub eligible_set : eligibles ≡ eligible_marks p

@@ -4,15 +4,13 @@ use Rattle.std.specs.Prelude.{◌≡◌, ℕ, List}
 use Rattle.lists.specs.Words.{ones}
 use Rattle.tables.specs.Project.{Project}
 use Rattle.tables.specs.Readings.{modules}
-use Rattle.tables.specs.Accepted.{Accepted}
 use Rattle.analysed_entries.specs.inner.Entries.{Entry}
 use Rattle.sensitivity.specs.Marks.{sensitive_marks}
 use Rattle.eligibility.specs.Eligible.{eligible_marks}
 use Rattle.risk_of_orders.specs.inner.Steps.{Order}
 
--- an accepted project, with the marks of its sensitive and of its eligible modules
+-- the marks of a project's sensitive and of its eligible modules
 pub record Sets (p : Project) (sensitives eligibles : List ℕ) : Type 0 where
-  pub accepted : Accepted p
   pub sensitive_set : sensitives ≡ sensitive_marks p
   pub eligible_set : eligibles ≡ eligible_marks p
 

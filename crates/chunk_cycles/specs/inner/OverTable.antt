@@ -4,7 +4,6 @@ use Rattle.std.specs.Prelude.{◌≡◌, ℕ, ◌<◌, Bool, ◌&&◌, List, len
 use Rattle.lists.specs.Words.{has}
 use Rattle.tables.specs.Project.{Project, missing}
 use Rattle.tables.specs.Readings.{chunks}
-use Rattle.tables.specs.Accepted.{Accepted}
 use Rattle.strong_connection.specs.inner.Graph.{Graph}
 use Rattle.component_labels.specs.inner.Labelling.{labelled}
 use Rattle.chunk_cycles.specs.Cycles.{labels_of, cyclic_of}
@@ -24,6 +23,5 @@ pub record TableLabelled (p : Project) (labels : List ℕ) (count : ℕ) : Type 
 
 -- the labels of an accepted project, and a chunk with a row
 pub record Reaching (p : Project) (labels : List ℕ) (chunk : ℕ) : Type 0 where
-  pub accepted : Accepted p
   pub same : labels ≡ labels_of p
   pub there : chunk < chunks p

@@ -4,7 +4,7 @@ use Rattle.std.specs.Prelude.{◌≡◌, ℕ, ◌<◌, ◌≤◌, Bool, true, Li
 use Rattle.lists.specs.Words.{has}
 use Rattle.tables.specs.Project.{Project, missing}
 use Rattle.tables.specs.Refusal.{module_limit, chunk_limit}
-use Rattle.tables.specs.Accepted.{Below, Accepted}
+use Rattle.tables.specs.Accepted.{Below}
 use Rattle.chunk_cycles.specs.Cycles.{labels_of}
 use Rattle.sensitivity.specs.Marks.{sensitive, sensitive_marks}
 use Rattle.eligibility.specs.Eligible.{eligible, eligible_marks}
@@ -35,7 +35,6 @@ pub record Members (chunk member_chunk member labels sensitive eligible : List �
 
 -- what the pass reads of an accepted project, as slices hold it
 pub record ComponentSets (p : Project) (labels sensitives eligibles : List ℕ) : Type 0 where
-  pub accepted : Accepted p
   pub label : labels ≡ labels_of p
   pub sensitive_set : sensitives ≡ sensitive_marks p
   pub eligible_set : eligibles ≡ eligible_marks p

@@ -3,7 +3,6 @@
 use Rattle.std.specs.Prelude.{◌≡◌, ℕ, ◌≤◌, List}
 use Rattle.tables.specs.Project.{Project}
 use Rattle.tables.specs.Readings.{modules}
-use Rattle.tables.specs.Accepted.{Accepted}
 use Rattle.analysed_entries.specs.inner.Entries.{Entry}
 use Rattle.visit_columns.specs.inner.OverTable.{PreparedAs}
 use Rattle.entry_run.specs.Actual.{run_of}
@@ -11,7 +10,6 @@ use Rattle.entry_run.specs.inner.Cores.{Listed}
 
 -- an accepted project, an entry of it, room for its order, and a place a module for its hosts
 pub record Listing (p : Project) (root chunk order hosts : ℕ) : Type 0 where
-  pub accepted : Accepted p
   pub entry : Entry p root chunk
   pub size : hosts ≡ modules p
   pub room : modules p ≤ order

@@ -3,14 +3,12 @@
 use Rattle.std.specs.Prelude.{◌≡◌, ℕ, List, length}
 use Rattle.tables.specs.Project.{Project}
 use Rattle.tables.specs.Readings.{modules}
-use Rattle.tables.specs.Accepted.{Accepted}
 use Rattle.analysed_entries.specs.inner.Entries.{Entry}
 use Rattle.entry_run.specs.inner.Cores.{Written}
 use Rattle.planned_load.specs.Steps.{step_modules, step_hosts}
 
--- an accepted project, an entry of it, and a plan with a place a module
+-- an entry of a project, and a plan with a place a module
 pub record Entered (p : Project) (plan : List ℕ) (root chunk : ℕ) : Type 0 where
-  pub accepted : Accepted p
   pub entry : Entry p root chunk
   pub size : length plan ≡ modules p
 

@@ -5,7 +5,6 @@ use Rattle.lists.specs.Words.{up_to, keep, has}
 use Rattle.walk.specs.Close.{Bits}
 use Rattle.tables.specs.Project.{Project, missing}
 use Rattle.tables.specs.Readings.{modules, flagged}
-use Rattle.tables.specs.Accepted.{Accepted}
 use Rattle.eligibility.specs.Eligible.{eligible_marks}
 use Rattle.wrap_rules.specs.Plan.{roots}
 use Rattle.import_edges.specs.inner.Spread.{Spreads, EdgesOf}
@@ -39,7 +38,6 @@ pub record Chosen (included root_list from to eligibles old candidates : List �
 
 -- what the candidates of an accepted project are chosen by, and room for them in which nothing is marked
 pub record Choosing (p : Project) (from to root_list eligibles candidates : List ℕ) : Type 0 where
-  pub accepted : Accepted p
   pub edges : EdgesOf p from to (length from)
   pub lengths : length to ≡ length from
   pub root : root_list ≡ roots p

@@ -3,8 +3,6 @@
 use Rattle.std.specs.Prelude.{◌≡◌, ℕ, ◌+◌, ◌≤◌, ◌⊎◌, List, length}
 use Rattle.tables.specs.Project.{Project, missing}
 use Rattle.tables.specs.Readings.{modules}
-use Rattle.tables.specs.Refusal.{module_limit, row_limit}
-use Rattle.tables.specs.Accepted.{Accepted}
 use Rattle.chunk_cycles.specs.Cycles.{labels_of}
 use Rattle.sensitivity.specs.Marks.{sensitive_marks}
 use Rattle.eligibility.specs.Eligible.{eligible_marks}
@@ -30,43 +28,9 @@ abbrev pub at_chain : ℕ
 at_chain = 32768
 
 -- room for so many edges more
-pub record EdgeRoom (p : Project) (rows : ℕ) (from to : List ℕ) (count : ℕ) : Type 0 where
-  pub accepted : Accepted p
-  pub room : count + rows ≤ length from
-  pub same : length to ≡ length from
-
--- the same without a project
 pub record Room (rows : ℕ) (from to : List ℕ) (count : ℕ) : Type 0 where
   pub room : count + rows ≤ length from
   pub same : length to ≡ length from
-
--- the columns that (iv) reads are within their limits, and as long as each other
-pub record SymbolSizes (p : Project) : Type 0 where
-  pub normal : modules p ≤ module_limit
-  pub reads : length p.reads ≡ modules p
-  pub owner : length p.owner ≤ row_limit
-  pub chain_symbol : length p.chain_symbol ≤ row_limit
-  pub chain_link : length p.chain_link ≡ length p.chain_symbol
-  pub reference_statement : length p.reference_statement ≤ row_limit
-  pub reference_symbol : length p.reference_symbol ≡ length p.reference_statement
-  pub depended_reference : length p.depended_reference ≤ row_limit
-  pub depended : length p.depended ≡ length p.depended_reference
-
--- and there is room
-pub record SymbolRoom (p : Project) (rows : ℕ) (from to : List ℕ) (count : ℕ) : Type 0 where
-  pub sizes : SymbolSizes p
-  pub room : count + rows ≤ length from
-  pub same : length to ≡ length from
-
--- a number a symbol
-abbrev pub Symbols : Project → List ℕ → Type 0
-Symbols p symbols = length symbols ≡ length p.owner
-
--- a mark a module, and a place a reference
-pub record References (p : Project) (candidates : List ℕ) (readers : ℕ) : Type 0 where
-  pub sizes : SymbolSizes p
-  pub size : length candidates ≡ modules p
-  pub places : readers ≡ length p.reference_statement
 
 -- the import records as edges
 pub record ImportRows (p : Project) (importers targets : List ℕ) : Type 0 where

@@ -1,9 +1,8 @@
 -- `shares::write_share` keeps its promise.
 -- Assumes nothing.
-use Rattle.std.proofs.Common.{ℕ, List, Ok, sym, subst, arith}
+use Rattle.std.proofs.Common.{arith}
 use Rattle.std.proofs.lemmas.Result.{err_from_is_err_and}
 use Rattle.arrangement.specs.OfProject.{as_named}
-use Rattle.shares.specs.Promise.{WrittenShare}
 use Rattle.shares.proofs.Promise.{share-refused, share-short, share-written}
 use Rattle.shares.proofs.write_share.Goals as goal
 
@@ -14,7 +13,4 @@ pub returns-then-out-lt4 : goal.returns-then-out-lt4
 returns-then-out-lt4 c = share-short _ _ c.in_ok-counted.ensures (omega arith)
 
 pub returns : goal.returns
-returns c =
-    let a = c.args in
-    subst (λ (out : List ℕ). WrittenShare (as_named a.table.now) a.out.now (Ok 4) out) (sym c.put_four.ensures)
-    (share-written (as_named a.table.now) a.out.now c.in_ok-counted.ensures (omega arith))
+returns c = rw c.copy_from_slice.ensures.after (share-written (as_named c.args.table.now) c.args.out.now c.in_ok-counted.ensures (omega arith))

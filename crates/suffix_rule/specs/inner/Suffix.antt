@@ -6,7 +6,6 @@ use Rattle.lists.specs.Words.{has, keep}
 use Rattle.walk.specs.Close.{Within}
 use Rattle.tables.specs.Project.{Project}
 use Rattle.tables.specs.Readings.{modules}
-use Rattle.tables.specs.Accepted.{Accepted}
 use Rattle.expected_order.specs.OfProject.{expected_of}
 use Rattle.sensitivity.specs.Marks.{sensitive_marks}
 use Rattle.eligibility.specs.Eligible.{eligible, eligible_marks}
@@ -66,16 +65,14 @@ module _ (p : Project) where
   unfoldable pub Candidates : List ℕ → List ℕ → List ℕ → Type 0
   Candidates root_list eligible candidates = (root m : ℕ) → Memᴰ root root_list → Memᴰ m (expected_of p root) → has eligible m ≡ true → has candidates m ≡ true
 
--- marks of an accepted project's n modules
+-- marks of a project's n modules
 pub record Markings (p : Project) (sensitive eligible : List ℕ) (n : ℕ) : Type 0 where
-  pub accepted : Accepted p
   pub size : n ≡ modules p
   pub sensitives : length sensitive ≡ n
   pub eligibles : length eligible ≡ n
 
--- what the pass reads of an accepted project, as slices hold it
+-- what the pass reads of a project, as slices hold it
 pub record SuffixSets (p : Project) (root_list sensitives eligibles candidates : List ℕ) : Type 0 where
-  pub accepted : Accepted p
   pub root : root_list ≡ roots p
   pub sensitive_set : sensitives ≡ sensitive_marks p
   pub eligible_set : eligibles ≡ eligible_marks p

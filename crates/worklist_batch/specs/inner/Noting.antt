@@ -3,10 +3,6 @@
 use Rattle.std.specs.Prelude.{◌≡◌, ℕ, ◌+◌, ◌<◌, ◌≤◌, List, length}
 use Rattle.tables.specs.Project.{Project}
 use Rattle.tables.specs.Readings.{modules}
-use Rattle.tables.specs.Accepted.{Accepted}
-use Rattle.sensitivity.specs.Marks.{sensitive_marks}
-use Rattle.eligibility.specs.Eligible.{eligible_marks}
-use Rattle.wrap_rules.specs.Plan.{roots}
 use Rattle.suffix_rule.specs.inner.Suffix.{Settling}
 use Rattle.request_queue.specs.inner.Growing.{Listed}
 use Rattle.suffix_places.specs.inner.Places.{never}
@@ -18,11 +14,7 @@ pub record Room (p : Project) (asked heads nexts : List ℕ) : Type 0 where
   pub room : length heads ≡ never + 1
   pub places : length nexts ≡ modules p
 
-pub record Noting (p : Project) (root_list sensitives eligibles placed settled asked heads nexts : List ℕ) : Type 0 where
-  pub accepted : Accepted p
-  pub root : root_list ≡ roots p
-  pub sensitive_set : sensitives ≡ sensitive_marks p
-  pub eligible_set : eligibles ≡ eligible_marks p
+pub record Noting (p : Project) (placed settled asked heads nexts : List ℕ) : Type 0 where
   pub size : length placed ≡ modules p
   pub settling : Settling p settled placed
   pub slices : Room p asked heads nexts

@@ -3,10 +3,9 @@
 use Rattle.std.specs.Prelude.{◌≡◌, ℕ, List}
 use Rattle.tables.specs.Project.{Project}
 use Rattle.tables.specs.Readings.{modules}
-use Rattle.tables.specs.Accepted.{Below, Accepted}
+use Rattle.tables.specs.Accepted.{Below}
 
 -- seeds of an accepted project, and room for its plan
 pub record Seeds (p : Project) (seeds : List ℕ) (n : ℕ) : Type 0 where
-  pub accepted : Accepted p
   pub size : n ≡ modules p
   pub inside : Below n seeds

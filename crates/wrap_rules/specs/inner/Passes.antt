@@ -5,7 +5,6 @@ use Rattle.lists.specs.Words.{zeros, marks_of}
 use Rattle.walk.specs.Close.{Within, Closed, Bits}
 use Rattle.tables.specs.Project.{Project}
 use Rattle.tables.specs.Readings.{modules}
-use Rattle.tables.specs.Accepted.{Accepted}
 use Rattle.eligibility.specs.Eligible.{eligible}
 use Rattle.wrap_rules.specs.Plan.{reached}
 
@@ -28,7 +27,6 @@ pub record Marked (p : Project) (plan : List ℕ) : Type 0 where
 abbrev pub candidate_marks : Project → List ℕ
 candidate_marks p = marks_of (λ (m : ℕ). eligible p m && reached p m) (modules p)
 
--- these marks of an accepted project, as a slice holds them
+-- these marks of a project, as a slice holds them
 pub record CandidateSet (p : Project) (candidates : List ℕ) : Type 0 where
-  pub accepted : Accepted p
   pub candidate_set : candidates ≡ candidate_marks p

@@ -1,15 +1,14 @@
 -- `component_labels::inner::number` meets its contract. The measure is the number of chunks that have no number.
 -- Assumes nothing.
 use Rattle.std.specs.Prelude.{◌≡◌, ℕ, suc, ◌+◌, ◌<◌, ◌≤◌, List, length, get_or, set}
-use mathlib.Core.Path.{sym, subst, ◌∙◌}
+use mathlib.Core.Path.{sym, subst}
 use native.Mathlib.Omega.{arith}
-use lib.ListN.{length-set}
 use Rattle.lists.specs.Words.{zeros}
 use Rattle.walk.proofs.Visits.{set-zeros, fresh-zero}
 use Rattle.tables.specs.Refusal.{chunk_limit}
 use Rattle.strong_connection.specs.inner.Graph.{Threaded}
 use Rattle.component_labels.specs.inner.Labelling.{Numbered}
-use Rattle.component_labels.proofs.Numbers.{numbered-none, numbered-then, numbered-left}
+use Rattle.component_labels.proofs.Numbers.{numbered-left}
 use Rattle.component_labels.proofs.inner.+number.Goals as goal
 
 -- plain facts that the answers use
@@ -25,9 +24,6 @@ one_less old m p q = set-zeros old m (fresh-zero old m p q)
 room : (old numbers : List ℕ) (m last count : ℕ) → m < length old → get_or old m 0 ≡ 0 → Numbered last (set old m 1) count numbers → last + zeros old ≤ chunk_limit → count + zeros numbers < chunk_limit
 room old numbers m last count p q v r = few old (set old m 1) numbers last count v (one_less old m p q) r
 
-pub loop-row-init : goal.loop-row-init
-loop-row-init t c = (length-set c.args.numbers.now c.args.m 1, numbered-none _ _)
-
 pub number-count-requires : goal.number-count-requires
 number-count-requires t c =
     let v = c.loop-row.invariant in
@@ -41,9 +37,6 @@ number-count-requires t c =
         ),
       ),
     )
-
-pub loop-row-preserved : goal.loop-row-preserved
-loop-row-preserved t c = (c.number-count.auto.numbers ∙ c.loop-row.invariant.0, numbered-then c.loop-row.invariant.1 c.number-count.ensures)
 
 pub overflow_add-numbers : goal.overflow_add-numbers
 overflow_add-numbers t c =

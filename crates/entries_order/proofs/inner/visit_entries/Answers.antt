@@ -1,4 +1,4 @@
--- `entries_order::inner::visit_entries` meets its contract.
+-- `visit_entries`: an entry that is included and normal is visited.
 -- Assumes nothing.
 use Rattle.std.proofs.Common.{arith}
 use Rattle.walk.specs.Walk.{place, everywhere}
@@ -9,20 +9,14 @@ use Rattle.expected_order.specs.Expected.{normal_imports_of}
 use Rattle.entries_order.proofs.Turns.{turn, entry_walked, room_left, entries_walked}
 use Rattle.entries_order.proofs.inner.visit_entries.Goals as goal
 
-pub loop-k-init : goal.loop-k-init
-loop-k-init c = record {
-  going = going_start (normal_imports_of c.args.normal.now c.args.record_module.now c.args.record_kind.now c.args.record_target.now) everywhere (place (flagged c.args.included.now)) (turn c.args.normal.now c.args.included.now c.args.entries.now) 0 (held c.args.marks.now c.args.order.now 0);
-  within = omega arith;
-}
+pub loop-e-init : goal.loop-e-init
+loop-e-init c = going_start (normal_imports_of c.args.normal.now c.args.record_module.now c.args.record_kind.now c.args.record_target.now) everywhere (place (flagged c.args.included.now)) (turn c.args.normal.now c.args.included.now c.args.entries.now) 0 (held c.args.marks.now c.args.order.now 0)
 
 pub visit-count-requires-clause-room : goal.visit-count-requires-clause-room
-visit-count-requires-clause-room c = omega (arith, room_left _ _ _ _ _ _ _ _ _ c.loop-k.invariant.going)
+visit-count-requires-clause-room c = omega (arith, room_left _ _ _ _ _ _ _ _ _ c.loop-e.invariant)
 
-pub loop-k-preserved : goal.loop-k-preserved
-loop-k-preserved c = record {
-  going = entry_walked _ _ _ _ _ _ _ _ _ (omega arith) (omega arith) c.loop-k.invariant.going c.visit-count.ensures;
-  within = omega arith;
-}
+pub loop-e-preserved : goal.loop-e-preserved
+loop-e-preserved c = entry_walked _ _ _ _ _ _ _ _ _ (omega arith) (omega arith) c.loop-e.invariant c.visit-count.ensures
 
 pub returns : goal.returns
-returns c = entries_walked _ _ _ _ _ _ _ _ _ (omega arith) c.loop-k.invariant.going
+returns c = entries_walked _ _ _ _ _ _ _ _ _ (omega arith) c.loop-e.invariant

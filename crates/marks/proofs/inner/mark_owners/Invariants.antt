@@ -1,6 +1,7 @@
--- The owners of the rows below this one are marked.
+-- The owners of the rows met are marked.
+use Rattle.std.proofs.Common.{length}
 use Rattle.marks.specs.Steps.{looked, Owners}
 use Rattle.marks.proofs.inner.mark_owners.Given as goal
 
-abbrev pub invariant-loop-row : goal.invariant-loop-row
-invariant-loop-row l = Owners l.owner (looked 0 l.set l.value) l.row l.initial.marks l.marks
+abbrev pub invariant-loop-m : goal.invariant-loop-m
+invariant-loop-m l = Owners l.owner (looked 0 l.set l.value) (length l.yielded) l.initial.marks l.marks

@@ -1,15 +1,11 @@
--- The roots of the rows below `row` are listed.
+-- The roots of the rows met are listed.
 -- Assumes nothing.
-use Rattle.std.proofs.Common.{◌-◌, ◌≤◌, length}
+use Rattle.std.proofs.Common.{◌≤◌, length}
 use Rattle.reached_modules.proofs.Listing.{RootsBelow}
 use Rattle.reached_modules.proofs.inner.list_roots.Given as goal
 
-abbrev pub invariant-loop-row : goal.invariant-loop-row
-invariant-loop-row l = record {
-  within : l.row ≤ length l.entry;
-  few : l.count ≤ l.row;
-  roots : RootsBelow l.included l.entry l.entry_chunk l.initial.roots l.row l.roots l.count;
+abbrev pub invariant-loop-m : goal.invariant-loop-m
+invariant-loop-m l = record {
+  few : l.count ≤ length l.yielded;
+  roots : RootsBelow l.included l.entry l.entry_chunk l.initial.roots (length l.yielded) l.roots l.count;
 }
-
-abbrev pub decreases-loop-row : goal.decreases-loop-row
-decreases-loop-row l = length l.entry - l.row

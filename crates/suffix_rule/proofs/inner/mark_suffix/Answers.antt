@@ -1,14 +1,8 @@
--- `suffix_rule::inner::mark_suffix` meets its contract: the first planned member is found, and what stands from it on is marked.
+-- `mark_suffix`: the first planned member is found, and what stands from it on is marked.
 -- Assumes nothing.
-use Rattle.std.proofs.Common.{List, ℕ, length, subst}
-use Rattle.marks.specs.Steps.{looked, Owners}
-use Rattle.suffix_rule.proofs.Extending.{take_rest, suffix-marked}
+use Rattle.std.proofs.lemmas.List.{take_rest}
+use Rattle.suffix_rule.proofs.Extending.{suffix-marked}
 use Rattle.suffix_rule.proofs.inner.mark_suffix.Goals as goal
 
 pub returns : goal.returns
-returns c =
-    let a = c.args in
-    let f = c.first_in-from in
-    let o = c.mark_owners in
-    suffix-marked a.order.now a.sensitive.now a.plan.now a.marks.now o.new.marks f.result f.ensures
-    (subst (λ (xs : List ℕ). Owners xs (looked 0 a.sensitive.now xs) (length xs) a.marks.now o.new.marks) (take_rest f.result a.order.now) o.ensures)
+returns c = suffix-marked _ _ _ _ _ _ c.first_in-from.ensures (simp take_rest at c.mark_owners.ensures)

@@ -1,0 +1,7 @@
+-- The suffixes of the roots passed are marked.
+-- Assumes nothing.
+use Rattle.asked_suffixes.proofs.Marking.{Before}
+use Rattle.asked_suffixes.proofs.inner.mark_entries.Given as goal
+
+abbrev pub invariant-loop-root : goal.invariant-loop-root
+invariant-loop-root l = Before l.current l.roots l.sensitive l.plan l.root-index l.initial.asked l.asked

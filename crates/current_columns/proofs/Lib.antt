@@ -1,2 +1,0 @@
--- `Read`: a table that is read with what was made.
-pub mod Read

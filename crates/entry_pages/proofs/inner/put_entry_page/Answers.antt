@@ -1,0 +1,18 @@
+-- `put_entry_page`: the two sensitive orders are orders of the project's modules.
+-- Assumes nothing.
+use Rattle.std.proofs.Common.{ℕ, List, ap₂}
+use Rattle.lists.specs.Words.{has}
+use Rattle.lines.proofs.Puts.{put_as}
+use Rattle.page_text.specs.Page.{page_by}
+use Rattle.entry_pages.specs.Marked.{marked_page}
+use Rattle.entry_pages.proofs.inner.put_entry_page.Goals as goal
+
+pub put_page-requires-clause-orders : goal.put_page-requires-clause-orders
+put_page-requires-clause-orders c = rw c.requires.entry.plan_size (record { few = c.marked_expected-expected.ensures.few; expected_order = c.marked_expected-expected.ensures.order; actual_order = c.marked_actual-actual.ensures.order })
+
+pub returns : goal.returns
+unfolding marked_page
+returns c =
+    put_as
+    (ap₂ (λ (x y : List ℕ). page_by x y (has c.args.plan.now)) c.marked_expected-expected.ensures.list c.marked_actual-actual.ensures.list)
+    c.put_page.ensures

@@ -1,0 +1,8 @@
+-- `order_risk_marks::inner::mark_order_risk`: the order risk alone, from no mark.
+-- Assumes nothing.
+use Rattle.std.proofs.Common.{length}
+use Rattle.at_risk.proofs.Joined.{order-risk-alone}
+use Rattle.order_risk_marks.proofs.inner.mark_order_risk.Goals as goal
+
+pub returns : goal.returns
+returns c = record { same = cc (order-risk-alone c.args.current.now c.args.root (length c.args.out.now) c.requires.entry.size); marked = c.count_marked.ensures }

@@ -1,0 +1,16 @@
+-- What reading a lent table gives.
+-- Assumes nothing.
+use Rattle.std.specs.Prelude.{◌≡◌, Option, None, Some, Result, Ok, Err}
+use Rattle.tables.specs.Project.{Project}
+use Rattle.tables.specs.declared.Refusal.{Refusal}
+use Rattle.table.specs.Table.{Lent}
+
+-- a project that nothing refuses, as it is read
+pub record Read (t : Lent) (p : Project) : Type 0 where
+  pub passed : t.refused ≡ None
+  pub project : p ≡ t.project
+
+-- the project as it is read, or what refuses it
+abbrev pub ReadAs : Lent → Result Project Refusal → Type 0
+ReadAs t (Ok p) = Read t p
+ReadAs t (Err e) = t.refused ≡ Some e

@@ -1,0 +1,18 @@
+-- The edges to the chains, and then those from them.
+-- Assumes nothing.
+use Rattle.std.proofs.Common.{◌≡◌, length, ap, ◌∙◌}
+use Rattle.tables.specs.Project.{Project}
+use Rattle.current_columns.specs.AsProject.{project}
+use Rattle.marks.proofs.Parts.{part_length}
+use Rattle.request_edges.specs.inner.Edges.{numbered}
+use Rattle.request_edges.proofs.Adding.{adds_on}
+use Rattle.request_graph.proofs.inner.add_symbol_edges.Goals as goal
+
+pub returns : goal.returns
+unfolding project
+returns c =
+    let a = c.args in
+    let own : c.number.new.out ≡ numbered (length a.current.now.owner) =
+    c.number.ensures ∙ ap numbered (part_length 16384 _ c.current.invariant.sizes.owner) ∙ ap (λ (p : Project). numbered (length p.owner)) c.current.view_is
+    in
+    adds_on a.from.now a.to.now a.count {j = 32768} {k = 65536} (rw own at c.add_chain_edges-chains.ensures) (rw c.find_readers.ensures at c.add_read_edges.ensures)

@@ -1,2 +1,0 @@
--- What a plan lacks by the rules.
-pub mod inner

@@ -1,0 +1,2 @@
+-- What the four rules read of a project.
+pub mod inner

@@ -1,0 +1,3 @@
+-- What only inner contracts and proofs speak of.
+pub mod Sets
+pub mod View

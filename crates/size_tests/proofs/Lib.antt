@@ -1,2 +1,0 @@
--- A list's size, column by column.
-mod Lengths
