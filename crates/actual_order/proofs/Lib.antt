@@ -1,2 +1,2 @@
--- The promise, refused and accepted.
+-- The promise of an accepted call.
 pub mod Promise

@@ -1,13 +1,12 @@
--- The promise of a call that its project refuses, and of one that is accepted.
+-- The promise of a call that is accepted.
 -- Assumes nothing.
-use Rattle.std.specs.Prelude.{◌≡◌, ℕ, ◌≤◌, true, leb, List, ◌++◌, length, drop, None, Some, Ok, Err}
+use Rattle.std.specs.Prelude.{◌≡◌, ℕ, ◌≤◌, true, leb, List, ◌++◌, length, drop, None, Ok}
 use mathlib.Core.Path.{sym, ap, ◌∙◌}
 use borrow.Author.Tests.{le-leb}
 use Rattle.lists.proofs.Laws.{and-join}
 use Rattle.tables.specs.Project.{Project}
 use Rattle.tables.specs.Readings.{modules, is_analysed}
-use Rattle.tables.specs.declared.Refusal.{Refusal}
-use Rattle.tables.proofs.Answering.{verdict-project, verdict-none, answer-refused, answer-accepted, after-refused, after-accepted}
+use Rattle.tables.proofs.Answering.{verdict-none, answer-accepted, after-accepted}
 use Rattle.table.specs.Table.{Lent}
 use Rattle.entry_run.specs.Actual.{run_of, actual_of, hosts_of}
 use Rattle.entry_run.specs.inner.Cores.{Listed}
@@ -17,12 +16,6 @@ use Rattle.entry_run.proofs.OfProject.{hosts-length}
 module _ (t : Lent) (root : ℕ) (order hosts : List ℕ) where
   abbrev p : Project
   p = t.project
-
-  -- a refused project leaves all as it was
-  pub project-refused : {e : Refusal} → t.refused ≡ Some e → ActualOrder t root order hosts (Err e) order hosts
-  project-refused h =
-      let r = verdict-project _ _ h in
-      record { answered = answer-refused (length (actual_of p root)) r; listed = after-refused order (actual_of p root) r; noted = after-refused hosts (hosts_of p root) r }
 
   pub run-counted : t.refused ≡ None → is_analysed p root ≡ true → modules p ≤ length order → modules p ≤ length hosts
       → {order' hosts' : List ℕ} {r : ℕ} → Listed (run_of p p.wrap root) order order' hosts' r

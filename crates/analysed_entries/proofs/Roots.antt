@@ -9,7 +9,7 @@ use lib.ListN.{get_or-eq_default}
 use borrow.Author.Tests.{eqb-true, eq-eqb, ne_eqb}
 use Rattle.std.specs.Option.{MatchOption}
 use Rattle.std.proofs.Math.Bool.{and-false}
-use Rattle.lists.specs.Words.{count_from, keep, any}
+use Rattle.lists.specs.Words.{count_from, keep, any, Distinct}
 use Rattle.lists.proofs.Laws.{count_from-append, mem-count_from, keep_append, keep-none}
 use Rattle.lists.proofs.Distinct.{distinct-places}
 use Rattle.lists.proofs.Tests.{cond-id}
@@ -44,13 +44,11 @@ module _ (owner column : List ℕ) (m : ℕ) where
   unfolding values_of
   first-none n = ap (λ (rows : List ℕ). first_of (map (λ (row : ℕ). get_or column row 0) rows)) (rows_none owner m n)
 
--- entries of an accepted project
-
-module _ (p : Project) (root : ℕ) (a : Accepted p) where
-  -- no entry stands twice: a root is an analysed entry if it is included and its entry chunk is found
-  pub analysed-found : is_analysed p root ≡ (flagged p.included root && not (eqb (entry_chunk_of p root) missing))
+module _ (p : Project) (root : ℕ) where
+  -- where no entry stands twice, a root is an analysed entry if it is included and its entry chunk is found
+  pub analysed-found : Distinct p.entry → is_analysed p root ≡ (flagged p.included root && not (eqb (entry_chunk_of p root) missing))
   unfolding is_analysed entry_chunk_of values_of Pairs
-  analysed-found = go (rows_of p.entry root) (rows-rise p.entry root) (λ row h. mem-rows p.entry root h)
+  analysed-found d = go (rows_of p.entry root) (rows-rise p.entry root) (λ row h. mem-rows p.entry root h)
     where
       go : (rows : List ℕ) → Pairs ◌<◌ rows → ((row : ℕ) → Memᴰ row rows → (row < length p.entry) × (get_or p.entry row 0 ≡ root))
           → any (analysed_row p) rows ≡ (flagged p.included root && not (eqb (first_of (map (λ (row : ℕ). get_or p.entry_chunk row 0) rows)) missing))
@@ -59,7 +57,13 @@ module _ (p : Project) (root : ℕ) (a : Accepted p) where
       go (row ∷ next ∷ rows) q f =
           let r = f row (Memᴰ.head refl) in
           let s = f next (Memᴰ.tail (Memᴰ.head refl)) in
-          absurd (distinct-places p.entry a.agrees.entry row next (q.0 next (Memᴰ.head refl)) s.0 (r.1 ∙ sym s.1))
+          absurd (distinct-places p.entry d row next (q.0 next (Memᴰ.head refl)) s.0 (r.1 ∙ sym s.1))
+
+-- entries of an accepted project
+
+module _ (p : Project) (root : ℕ) (a : Accepted p) where
+  found : is_analysed p root ≡ (flagged p.included root && not (eqb (entry_chunk_of p root) missing))
+  found = analysed-found p root a.agrees.entry
 
   pub chunk_inside : (entry_chunk_of p root ≢ missing) → entry_chunk_of p root < chunks p
   unfolding entry_chunk_of
@@ -74,14 +78,19 @@ module _ (p : Project) (root : ℕ) (a : Accepted p) where
   -- an included root that its rows give a chunk, or none
   pub entry-found : flagged p.included root ≡ true → (r : Option ℕ) → MatchOption r (entry_chunk_of p root ≡ missing) (λ chunk. (entry_chunk_of p root ≡ chunk) × (chunk ≢ missing))
       → MatchOption r (is_analysed p root ≡ false) (λ chunk. (is_analysed p root ≡ true) × Entry p root chunk)
-  entry-found h None e = analysed-found ∙ rw (h, e)
+  entry-found h None e = found ∙ rw (h, e)
   entry-found h (Some chunk) e =
       let one : get_or p.included root 0 ≡ 1 = eqb-true _ 1 h in
       let past : length p.included ≤ root → get_or p.included root 0 ≡ 0 = get_or-eq_default p.included 0 in (
-        analysed-found ∙ rw (h, e.0, ne_eqb chunk missing e.1),
+        found ∙ rw (h, e.0, ne_eqb chunk missing e.1),
         record { within = grind (arith, one, past, a.sizes.included); from = sym e.0; inside = rw (← e.0) (chunk_inside (rw e.0 e.1)) },
       )
 
   -- a root that is not included
   pub excluded : flagged p.included root ≡ false → is_analysed p root ≡ false
-  excluded h = analysed-found ∙ rw h
+  excluded h = found ∙ rw h
+
+-- what is found
+pub ruleset finding = (first_found, first-none)
+
+pub ruleset analysing = (entry-found, excluded)

@@ -22,6 +22,7 @@ fn row_of(entry: &[u32], root: u32) -> Option<usize>
 }
 
 // The entry chunk of an entry; none if there is no such entry or it has none.
+#[tactic(auto, using(crate::proofs::Roots::finding))]
 fn entry_chunk_of(entry: &[u32], entry_chunk: &[u32], root: u32) -> Option<u32>
     requires { length entry_chunk.now ≡ length entry.now }
     ensures { MatchOption result (first_of (values_of entry.now entry_chunk.now root) ≡ missing) (λ chunk. (first_of (values_of entry.now entry_chunk.now root) ≡ chunk) × (chunk ≢ missing)) }
@@ -34,6 +35,7 @@ fn entry_chunk_of(entry: &[u32], entry_chunk: &[u32], root: u32) -> Option<u32>
 }
 
 // The entry chunk of a root that is an analysed entry, none for any other.
+#[tactic(auto, using(crate::proofs::Roots::analysing), unfolding(current_columns::specs::AsProject::project, tables::specs::Readings::entry_chunk_of))]
 pub fn find_entry(current: &Current, root: u32) -> Option<u32>
     ensures { MatchOption result (is_analysed current.now root ≡ false) (λ chunk. (is_analysed current.now root ≡ true) × Entry current.now root chunk) }
 {

@@ -30,8 +30,8 @@ module _ (p : Project) (ok : Accepted p) where
   unfolding numbers_of numbers
   numbers-length = length-map-up_to _ (modules p)
 
-  pub arranging-fit : (names : List ℕ) → names_fit (modules p) names ≡ true → Fit names p.normal p.record_module p.sensitive (numbers_of p) p.member_chunk p.member (chunks p)
-  arranging-fit names e = record {
+  pub arranging_fit : (names : List ℕ) → names_fit (modules p) names ≡ true → Fit names p.normal p.record_module p.sensitive (numbers_of p) p.member_chunk p.member (chunks p)
+  arranging_fit names e = record {
     modules = record { normals = refl; sensitives = ok.sizes.sensitive; rising = ok.rises.record_module };
     few = ok.sizes.normal;
     named = e;
@@ -125,3 +125,6 @@ module _ (t : Table) {p : Project} (r : Read (as_lent t) p) where
 
     pub read-arranged-accepted : Accepted (record p { member = arranged_of p t.names.now })
     read-arranged-accepted = rw (arranged-named p t.names.now some) (named-accepted p read-accepted t.names.now)
+
+-- all of these
+pub ruleset reading = (read_unnamed, read-names, read-arranged, read-arranged-accepted)

@@ -69,6 +69,7 @@ fn arrange(
 }
 
 // The members of a table, arranged by these numbers, a place a member row.
+#[tactic(auto, using(crate::proofs::OfProject::arranging_fit), unfolding(current_columns::specs::AsProject::project, crate::specs::OfProject::arranged_of, crate::specs::OfProject::key_in))]
 fn arrange_table(current: &Current, names: &[u8], numbers: &[u32], out: &mut [u32])
     requires places { length out.old ≡ length current.now.member }
     requires named { names_fit (modules current.now) names.now ≡ true }
@@ -106,7 +107,7 @@ pub fn arrange_members(current: &Current, names: &[u8], out: &mut [u32])
 }
 
 // Tests a table with its names, and gives it as it is read, its members arranged if it has names.
-#[tactic(auto, using(crate::proofs::OfProject::read_unnamed))]
+#[tactic(auto, using(crate::proofs::OfProject::reading), unfolding(current_columns::specs::AsProject::project))]
 pub fn read_named<'a, 't: 'a>(
     table: &Table<'t>,
     space: &'a mut ReadSpace,

@@ -17,9 +17,11 @@ pub accepted-fit : (p : Project) → Accepted p → ImportsFit p
 accepted-fit p a = record {
   few = a.sizes.order;
   rows = a.sizes.import_chunk;
-  lengths = a.sizes.imports;
-  froms = a.values.import_chunk;
-  tos = λ i l. a.values.imports i (omega (arith, a.sizes.imports));
+  graph = record {
+    lengths = a.sizes.imports;
+    froms = a.values.import_chunk;
+    tos = λ i l. a.values.imports i (omega (arith, a.sizes.imports));
+  };
 }
 
 module _ (p : Project) where

@@ -65,47 +65,47 @@ module _ (p : Project) (fit : ImportsFit p) where
   -- the chunks that c reaches are those that a path of zero or more import rows leads to
   pub reached-paths : (c d : ℕ) → c < chunks p → (elem d (reached_from (chunks p) (imported_by p) c) ≡ true) ↔ Path* p c d
   reached-paths c d l = (
-    λ e. reach-path p (reached-reach (chunks p) (imported_by p) (graph-inside fit) c d l e),
-    λ q. reach-reached (chunks p) (imported_by p) (graph-inside fit) c d l (path-reach p q),
+    λ e. reach-path p (reached-reach (chunks p) (imported_by p) (graph-inside fit.graph) c d l e),
+    λ q. reach-reached (chunks p) (imported_by p) (graph-inside fit.graph) c d l (path-reach p q),
   )
 
   -- the computed connection is strong connection
   pub connected-paths : (c d : ℕ) → c < chunks p → (connected (chunks p) (imported_by p) c d ≡ true) ↔ Connected p c d
   unfolding Connected
   connected-paths c d l = (
-    λ e. let r = connected-reach (chunks p) (imported_by p) (graph-inside fit) c d l e in (reach-path p r.0, reach-path p r.1),
-    λ q. reach-connected (chunks p) (imported_by p) (graph-inside fit) c d l (path-reach p q.0) (path-reach p q.1),
+    λ e. let r = connected-reach (chunks p) (imported_by p) (graph-inside fit.graph) c d l e in (reach-path p r.0, reach-path p r.1),
+    λ q. reach-connected (chunks p) (imported_by p) (graph-inside fit.graph) c d l (path-reach p q.0) (path-reach p q.1),
   )
 
   -- the computed test of a cyclic chunk is 01's
   pub cyclic-paths : (c : ℕ) → c < chunks p → (cyclic (chunks p) (imported_by p) c ≡ true) ↔ Cyclic p c
   unfolding Cyclic
   cyclic-paths c l = (
-    λ e. ⊎_elim (λ r. inl (r.0, r.1, (connected-paths c r.0 l).0 r.2)) (λ h. inr (mem-edge p h)) (cyclic-cases (chunks p) (imported_by p) (graph-inside fit) c e),
-    λ q. ⊎_elim (λ r. other-cyclic (chunks p) (imported_by p) (graph-inside fit) c r.0 l r.1 ((connected-paths c r.0 l).1 r.2)) (λ e. edge-cyclic (chunks p) (imported_by p) (graph-inside fit) c (edge-mem p e)) q,
+    λ e. ⊎_elim (λ r. inl (r.0, r.1, (connected-paths c r.0 l).0 r.2)) (λ h. inr (mem-edge p h)) (cyclic-cases (chunks p) (imported_by p) (graph-inside fit.graph) c e),
+    λ q. ⊎_elim (λ r. other-cyclic (chunks p) (imported_by p) (graph-inside fit.graph) c r.0 l r.1 ((connected-paths c r.0 l).1 r.2)) (λ e. edge-cyclic (chunks p) (imported_by p) (graph-inside fit.graph) c (edge-mem p e)) q,
   )
 
   -- a chunk is cyclic exactly if a path of one or more import rows leads from it to itself
   pub cyclic-circle : (c : ℕ) → c < chunks p → Cyclic p c ↔ Path⁺ p c c
   cyclic-circle c l = (
-    λ q. reach-path⁺ p c c (cyclic-reach (chunks p) (imported_by p) (graph-inside fit) c l ((cyclic-paths c l).1 q)),
-    λ q. (cyclic-paths c l).0 (reach-cyclic (chunks p) (imported_by p) (graph-inside fit) c l (path-reach⁺ p c c q)),
+    λ q. reach-path⁺ p c c (cyclic-reach (chunks p) (imported_by p) (graph-inside fit.graph) c l ((cyclic-paths c l).1 q)),
+    λ q. (cyclic-paths c l).0 (reach-cyclic (chunks p) (imported_by p) (graph-inside fit.graph) c l (path-reach⁺ p c c q)),
   )
 
   -- the label of a cyclic chunk is the lowest row of its component
   pub label-lowest : (c : ℕ) → c < chunks p → Cyclic p c → Lowest p c (label_at p c)
   label-lowest c l q =
-      let e : label_at p c ≡ lowest (chunks p) (imported_by p) (graph-inside fit) c = label-at p c l ∙ label-cyclic (chunks p) (imported_by p) (graph-inside fit) c ((cyclic-paths c l).1 q) in
+      let e : label_at p c ≡ lowest (chunks p) (imported_by p) (graph-inside fit.graph) c = label-at p c l ∙ label-cyclic (chunks p) (imported_by p) (graph-inside fit.graph) c ((cyclic-paths c l).1 q) in
       rw e
       (record {
-        member = (connected-paths c _ l).0 (lowest-connected (chunks p) (imported_by p) (graph-inside fit) c l);
-        least = λ d h. (lowest-least (chunks p) (imported_by p) (graph-inside fit) c d l ((connected-paths c d l).1 h)).1;
+        member = (connected-paths c _ l).0 (lowest-connected (chunks p) (imported_by p) (graph-inside fit.graph) c l);
+        least = λ d h. (lowest-least (chunks p) (imported_by p) (graph-inside fit.graph) c d l ((connected-paths c d l).1 h)).1;
       })
 
   -- the label of any other chunk is the mark
   pub label-mark : (c : ℕ) → c < chunks p → (Cyclic p c → ⊥) → label_at p c ≡ missing
   label-mark c l k =
-      label-at p c l ∙ label-none (chunks p) (imported_by p) (graph-inside fit) c (⊎_elim (λ e. absurd (k ((cyclic-paths c l).0 e))) (λ e. e) (both (cyclic (chunks p) (imported_by p) c)))
+      label-at p c l ∙ label-none (chunks p) (imported_by p) (graph-inside fit.graph) c (⊎_elim (λ e. absurd (k ((cyclic-paths c l).0 e))) (λ e. e) (both (cyclic (chunks p) (imported_by p) c)))
 
   limit : chunks p ≤ missing
   limit = let h = fit.few in omega arith
@@ -114,10 +114,10 @@ module _ (p : Project) (fit : ImportsFit p) where
   pub same-labels : (c d : ℕ) → c < chunks p → d < chunks p → ((label_at p c ≡ label_at p d) × (label_at p c ≡ missing → ⊥)) ↔ (Connected p c d × Cyclic p c)
   same-labels c d l m = (
     λ e.
-        let r = same-label (chunks p) (imported_by p) (graph-inside fit) limit c d l m (sym (label-at p c l) ∙ e.0 ∙ label-at p d m) (λ q. e.1 (label-at p c l ∙ q)) in
+        let r = same-label (chunks p) (imported_by p) (graph-inside fit.graph) limit c d l m (sym (label-at p c l) ∙ e.0 ∙ label-at p d m) (λ q. e.1 (label-at p c l ∙ q)) in
         ((connected-paths c d l).0 r.0, (cyclic-paths c l).0 r.1),
     λ q.
-        let r = label_same (chunks p) (imported_by p) (graph-inside fit) limit c d l ((connected-paths c d l).1 q.0) ((cyclic-paths c l).1 q.1) in
+        let r = label_same (chunks p) (imported_by p) (graph-inside fit.graph) limit c d l ((connected-paths c d l).1 q.0) ((cyclic-paths c l).1 q.1) in
         (label-at p c l ∙ r.0 ∙ sym (label-at p d m), λ e. r.1 (sym (label-at p c l) ∙ e)),
   )
 
@@ -125,8 +125,8 @@ module _ (p : Project) (fit : ImportsFit p) where
   pub reach-paths : (c : ℕ) → c < chunks p → (reaches_cycle_of p c ≡ true) ↔ ((d : ℕ) × Path* p c d × Path⁺ p d d)
   unfolding reaches_cycle_of
   reach-paths c l = (
-    λ e. let r = cycle-reach (chunks p) (imported_by p) (graph-inside fit) c l e in (r.0, reach-path p r.1, reach-path⁺ p r.0 r.0 r.2),
-    λ q. reach-cycle (chunks p) (imported_by p) (graph-inside fit) c q.0 l (path-reach p q.1) (path-reach⁺ p q.0 q.0 q.2),
+    λ e. let r = cycle-reach (chunks p) (imported_by p) (graph-inside fit.graph) c l e in (r.0, reach-path p r.1, reach-path⁺ p r.0 r.0 r.2),
+    λ q. reach-cycle (chunks p) (imported_by p) (graph-inside fit.graph) c q.0 l (path-reach p q.1) (path-reach⁺ p q.0 q.0 q.2),
   )
 
 -- more import rows

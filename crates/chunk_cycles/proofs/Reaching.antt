@@ -12,6 +12,7 @@ use Rattle.walk.specs.Walk.{everywhere}
 use Rattle.walk.proofs.Orders.{order-met}
 use Rattle.tables.specs.Project.{missing}
 use Rattle.tables.specs.Readings.{values_of}
+use Rattle.tables.specs.Refusal.{chunk_limit}
 use Rattle.strong_connection.specs.Cycles.{reached_from, cyclic, label, labels, reaches_cycle}
 use Rattle.strong_connection.specs.inner.Graph.{Graph}
 use Rattle.strong_connection.specs.inner.Marking.{reach_marks}
@@ -21,12 +22,12 @@ use Rattle.component_labels.specs.inner.Labelling.{labelled}
 use Rattle.component_labels.proofs.Components.{count-cyclic}
 use Rattle.chunk_cycles.specs.inner.OverTable.{labelled_at}
 
-module _ (from to : List ℕ) (n : ℕ) (g : Graph from to n) where
+module _ (from to : List ℕ) (n : ℕ) (few : n ≤ chunk_limit) (g : Graph from to n) where
   abbrev succ : ℕ → List ℕ
   succ = values_of from to
 
   limit : n ≤ missing
-  limit = omega (arith, g.few)
+  limit = omega arith
 
   reached-in : (c d : ℕ) → Memᴰ d (reached_from n succ c) → d < n
   unfolding reached_from
@@ -58,7 +59,7 @@ module _ (from to : List ℕ) (n : ℕ) (g : Graph from to n) where
   reach-none c e =
       let s : ℕ → List ℕ = succ in
       ⊎_elim
-      (λ h. let r = any-mem (cyclic n s) (reached_from n s c) h in absurd (none (keep (cyclic n s) (up_to n)) (sym (count-cyclic from to n g) ∙ e) (keep-mem (cyclic n s) (up_to n) (up_to-mem (reached-in c r.0 r.1)) r.2)))
+      (λ h. let r = any-mem (cyclic n s) (reached_from n s c) h in absurd (none (keep (cyclic n s) (up_to n)) (sym (count-cyclic from to n few g) ∙ e) (keep-mem (cyclic n s) (up_to n) (up_to-mem (reached-in c r.0 r.1)) r.2)))
       (λ h. sym h)
       (both (any (cyclic n s) (reached_from n s c)))
     where

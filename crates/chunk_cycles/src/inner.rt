@@ -1,7 +1,8 @@
 // For crates above, on tested tables: labels and reach of a table's chunks.
-ghost use Rattle.std.specs.Prelude.{◌≡◌, ◌<◌, length};
+ghost use Rattle.std.specs.Prelude.{◌≡◌, ◌<◌, ◌≤◌, length};
 ghost use Rattle.lists.specs.Words.{any, up_to};
 ghost use Rattle.tables.specs.Readings.{chunks, values_of};
+ghost use Rattle.tables.specs.Refusal.{chunk_limit, row_limit};
 ghost use Rattle.strong_connection.specs.Cycles.{labels as labelsOver, reaches_cycle};
 ghost use Rattle.strong_connection.specs.inner.Graph.{Graph};
 ghost use Rattle.chunk_cycles.specs.Cycles.{reaches_cycle_of};
@@ -9,10 +10,9 @@ ghost use Rattle.chunk_cycles.specs.inner.OverTable.{labelled_at, TableLabelled,
 
 use component_labels::inner::{count_labelled, label_chunks};
 use current_columns::inner::Current;
-use strong_connection::inner::reach;
+use strong_connection::inner::{Digraph, reach};
 use table::{CHUNK_LIMIT, ROW_LIMIT};
 use tables::ModuleIdx;
-use tables::inner::thread;
 
 // Whether a marked chunk has a label.
 fn meets_labelled(marks: &[u32], labels: &[u32]) -> bool
@@ -27,6 +27,8 @@ fn meets_labelled(marks: &[u32], labels: &[u32]) -> bool
 
 // Whether c reaches a cyclic chunk, itself counted, by the chunks' labels.
 fn reaches_cyclic(from: &[u32], to: &[u32], labels: &[u32], c: u32) -> bool
+    requires few { length labels.now ≤ chunk_limit }
+    requires rows { length from.now ≤ row_limit }
     requires graph { Graph from.now to.now (length labels.now) }
     requires labels { labels.now ≡ labelsOver (length labels.now) (values_of from.now to.now) }
     requires chunk { c < length labels.now }
@@ -35,12 +37,13 @@ fn reaches_cyclic(from: &[u32], to: &[u32], labels: &[u32], c: u32) -> bool
     if count_labelled(labels) == 0 {
         return false;
     }
+    let n = labels.len();
     let mut heads = [0u32; CHUNK_LIMIT];
     let mut nexts = [0u32; ROW_LIMIT];
-    thread(from, &mut heads, &mut nexts);
+    let graph = Digraph::new(from, to, &mut heads[..n], &mut nexts);
     let mut marks = [0u32; CHUNK_LIMIT];
-    let marks = &mut marks[..labels.len()];
-    reach(from, to, &heads, &nexts, c, marks);
+    let marks = &mut marks[..n];
+    reach(&graph, c, marks);
     meets_labelled(marks, labels)
 }
 

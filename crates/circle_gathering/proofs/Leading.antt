@@ -1,6 +1,6 @@
 -- The rows lead to the sort's targets, each once.
 -- Assumes nothing.
-use Rattle.std.specs.Prelude.{◌≡◌, ℕ, ◌+◌, ◌-◌, ◌<◌, ◌≤◌, Bool, true, false, cond, eqb, List, [], ◌∷◌, length, get_or}
+use Rattle.std.specs.Prelude.{◌≡◌, ℕ, ◌+◌, ◌-◌, ◌<◌, ◌≤◌, Bool, true, false, cond, eqb, List, [], ◌∷◌, length, get_or, take, replicate}
 use mathlib.Core.Path.{refl, sym, ap, subst, ◌∙◌, fun_ext}
 use mathlib.Core.Logic.{⊎_elim}
 use mathlib.Core.Bool.{true≢false}
@@ -9,6 +9,7 @@ use mathlib.Core.List.{flat_map, Memᴰ}
 use native.Mathlib.Decide.{dec_lt}
 use native.Mathlib.Omega.{arith}
 use lib.ListN.{get_or-eq_default}
+use lib.Seq.{length-take-le}
 use borrow.Author.Tests.{ne_eqb, eqb-false}
 use Rattle.lists.specs.Words.{elem, count_from, up_to, Distinct}
 use Rattle.lists.proofs.Laws.{both, mem-elem, keep-none, mem-up_to, mem-count_from}
@@ -71,30 +72,50 @@ module _ {starts led : List ℕ} {n : ℕ} (leads : Leads starts led n) where
           go (yes k) = omega (arith, a, b, leads.ends (m + 1) k)
           go (no k) = absurd (omega (arith, a, b, get_or-eq_default starts 0 {n = m + 1} (omega arith)))
 
-module _ (record_module starts led : List ℕ) (n : ℕ) (targets : ℕ → List ℕ) (firsts : FirstRows record_module starts) (size : length starts ≡ n + 1) (inside : Below n record_module) (once-led : LedOnce record_module targets n led) (same : length led ≡ length record_module) where
+-- the first row of each module of n, and what its rows lead to, each target once
+pub record Led (record_module starts led : List ℕ) (n : ℕ) (targets : ℕ → List ℕ) : Type 0 where
+  pub firsts : FirstRows record_module starts
+  pub size : length starts ≡ n + 1
+  pub inside : Below n record_module
+  pub once_led : LedOnce record_module targets n led
+  pub same : length led ≡ length record_module
+
+-- as they stand in the parts that are lent
+pub led-in_parts : {record_module starts led : List ℕ} {targets : ℕ → List ℕ} (n : ℕ) → n ≤ refusal.module_limit → length record_module ≤ refusal.row_limit → Below n record_module
+    → FirstRows record_module starts → length starts ≡ length {A = ℕ} (take (n + 1) (replicate 4097 0))
+    → LedOnce record_module targets (length {A = ℕ} (take n (replicate 4096 0))) led → length led ≡ length {A = ℕ} (take (length record_module) (replicate 16384 0)) → Led record_module starts led n targets
+led-in_parts {record_module} {led = led} {targets} n few rows inside firsts size once_led same = record {
+  firsts = firsts;
+  size = size ∙ length-take-le (n + 1) (replicate 4097 0) (omega arith);
+  inside = inside;
+  once_led = subst (λ (k : ℕ). LedOnce record_module targets k led) (length-take-le n (replicate 4096 0) few) once_led;
+  same = same ∙ length-take-le (length record_module) (replicate 16384 0) rows;
+}
+
+module _ {record_module starts led : List ℕ} {n : ℕ} {targets : ℕ → List ℕ} (l : Led record_module starts led n targets) where
   no_rows : (m : ℕ) → (m < n → ⊥) → rows_of record_module m ≡ []
   unfolding rows_of
-  no_rows m l = keep-none (λ (row : ℕ). eqb (get_or record_module row 0) m) (up_to (length record_module)) (λ row h. ne_eqb (get_or record_module row 0) m (λ q. l (omega (arith, q, inside row (mem-up_to {n = length record_module} h)))))
+  no_rows m h = keep-none (λ (row : ℕ). eqb (get_or record_module row 0) m) (up_to (length record_module)) (λ row k. ne_eqb (get_or record_module row 0) m (λ q. h (omega (arith, q, l.inside row (mem-up_to {n = length record_module} k)))))
 
   run : (m : ℕ) → Dec (m < n) → rows_of record_module m ≡ count_from (get_or starts m 0) (get_or starts (m + 1) 0 - get_or starts m 0)
-  run m (yes l) =
-      rows-of-run record_module m (get_or starts m 0) (get_or starts (m + 1) 0) (firsts.firsts m (omega (arith, size))) (firsts.firsts (m + 1) (omega (arith, size)))
-  run m (no l) = no_rows m l ∙ sym (ap (λ (k : ℕ). count_from (get_or starts m 0) (k - get_or starts m 0)) past ∙ ap (count_from (get_or starts m 0)) (let z : 0 - get_or starts m 0 ≡ 0 = omega arith in z))
+  run m (yes h) =
+      rows-of-run record_module m (get_or starts m 0) (get_or starts (m + 1) 0) (l.firsts.firsts m (omega (arith, l.size))) (l.firsts.firsts (m + 1) (omega (arith, l.size)))
+  run m (no h) = no_rows m h ∙ sym (ap (λ (k : ℕ). count_from (get_or starts m 0) (k - get_or starts m 0)) past ∙ ap (count_from (get_or starts m 0)) (let z : 0 - get_or starts m 0 ≡ 0 = omega arith in z))
     where
       past : get_or starts (m + 1) 0 ≡ 0
-      past = get_or-eq_default starts 0 {n = m + 1} (omega (arith, size))
+      past = get_or-eq_default starts 0 {n = m + 1} (omega (arith, l.size))
 
   pub led-targets : led_by starts led ≡ (λ (m : ℕ). once (targets m))
   unfolding led_by
-  led-targets = fun_ext (λ m. ap (flat_map (led_row led)) (sym (run m (dec_lt m n))) ∙ once-led.leads m)
+  led-targets = fun_ext (λ m. ap (flat_map (led_row led)) (sym (run m (dec_lt m n))) ∙ l.once_led.leads m)
 
   pub led-leads : n ≤ refusal.module_limit → length record_module ≤ refusal.row_limit → Leads starts led n
   led-leads few rows = record {
-    places = omega (arith, size);
-    ends = λ m l. omega (arith, (firsts.firsts m l).within, same);
-    ordered = λ m l. run-ordered record_module m (get_or starts m 0) (get_or starts (m + 1) 0) (firsts.firsts m (omega arith)) (firsts.firsts (m + 1) l);
-    within = once-led.within;
-    rows = omega (arith, same);
+    places = omega (arith, l.size);
+    ends = λ m h. omega (arith, (l.firsts.firsts m h).within, l.same);
+    ordered = λ m h. run-ordered record_module m (get_or starts m 0) (get_or starts (m + 1) 0) (l.firsts.firsts m (omega arith)) (l.firsts.firsts (m + 1) h);
+    within = l.once_led.within;
+    rows = omega (arith, l.same);
     few = few;
   }
 

@@ -2,6 +2,7 @@
 -- Assumes nothing.
 use Rattle.std.specs.Prelude.{◌≡◌, ℕ, ◌+◌, ◌-◌, ◌<◌, ◌≤◌, Bool, true, false, cond, not, ◌&&◌, ◌||◌, eqb, List, [], ◌∷◌, length, get_or, drop}
 use mathlib.Core.Path.{refl, sym, ◌∙◌}
+use Prim.Native.Nat.{min}
 use native.Mathlib.Numerals.{add-one}
 use native.Mathlib.Omega.{arith}
 use lib.ListN.{drop_of_length-le, get_or-eq_default}
@@ -50,12 +51,6 @@ module _ (f : ℕ → Bool) (n : ℕ) where
     pub counts-joined : n ≤ i → ok ≡ all
     counts-joined l = joined-all f all ok h (count-end i n l)
 
-    -- all that is left passes
-    pub counts-passed : ((k : ℕ) → i ≤ k → k < n → f k ≡ true) → ok ≡ all
-    counts-passed p =
-        sym (and-true ok)
-        ∙ (rw (mem-every f (count_from i (n - i)) (λ k m. let r = mem-count_from i (n - i) m in p k r.0 (omega arith))) at h)
-
 -- a use names a record of its statement's module
 abbrev pub own : List ℕ → List ℕ → List ℕ → List ℕ → ℕ → Bool
 own statement_module record_module use_statement use_record row =
@@ -65,10 +60,20 @@ own statement_module record_module use_statement use_record row =
 abbrev pub plain : List ℕ → List ℕ → ℕ → Bool
 plain reference_form reference_symbol row = eqb (get_or reference_form row 0) 2 || not (eqb (get_or reference_symbol row 0) missing)
 
--- and so has a row past the symbols
-pub plain_past : (reference_form reference_symbol : List ℕ) (row : ℕ) → length reference_symbol ≤ row → plain reference_form reference_symbol row ≡ true
-plain_past reference_form reference_symbol row h = or_right (eqb (get_or reference_form row 0) 2) (not (eqb (get_or reference_symbol row 0) missing)) (rw (get_or-eq_default reference_symbol 0 h))
+module _ (reference_form reference_symbol : List ℕ) (row : ℕ) where
+  pub symbol-joined : (all ok : Bool) → (ok && every (plain reference_form reference_symbol) (count_from row (length reference_form - row))) ≡ all → row < length reference_form
+      → ((ok && (eqb (get_or reference_form row 0) 2 || not (eqb (get_or reference_symbol row 0) missing))) && every (plain reference_form reference_symbol) (count_from (row + 1) (length reference_form - (row + 1)))) ≡ all
+  symbol-joined all ok h l = count-joined (plain reference_form reference_symbol) (length reference_form) all ok row h l
+
+  -- the rows past the symbols pass
+  pub symbols-passed : row ≡ min (length reference_form) (length reference_symbol) → every (plain reference_form reference_symbol) (count_from row (length reference_form - row)) ≡ true
+  symbols-passed e = mem-every (plain reference_form reference_symbol) (count_from row (length reference_form - row)) (λ k m. let r = mem-count_from row (length reference_form - row) m in past k (omega arith))
+    where
+      past : (k : ℕ) → length reference_symbol ≤ k → plain reference_form reference_symbol k ≡ true
+      past k m = or_right (eqb (get_or reference_form k 0) 2) (not (eqb (get_or reference_symbol k 0) missing)) (rw (get_or-eq_default reference_symbol 0 m))
 
 pub ruleset rows = (row-joined, rows-joined)
 
 pub ruleset counted = (counts_start, count-joined, counts-joined)
+
+pub ruleset symbols = (counts_start, symbol-joined, symbols-passed, and-true)

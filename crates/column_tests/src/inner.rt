@@ -104,7 +104,7 @@ pub fn uses_own<'a>(
 }
 
 // Whether every reference of form 0 or 1 has a symbol.
-#[tactic(auto, using(crate::proofs::Every::counted), unfolding(tables::specs::Refusal::plain_symbols))]
+#[tactic(auto, using(crate::proofs::Every::symbols), unfolding(tables::specs::Refusal::plain_symbols))]
 pub fn plain_symbols<'a>(reference_form: &'a [u32], reference_symbol: &'a [u32]) -> bool
     ensures { result ≡ plain_symbols reference_form.now reference_symbol.now }
 {

@@ -14,6 +14,7 @@ use Rattle.lists.proofs.Maps.{map-up_to-cong, map-up_to-self, keep-map}
 use Rattle.walk.specs.Reach.{Reach, Reach⁺}
 use Rattle.tables.specs.Project.{missing}
 use Rattle.tables.specs.Readings.{first_of, values_of}
+use Rattle.tables.specs.Refusal.{chunk_limit}
 use Rattle.strong_connection.specs.Cycles.{reached_from, connected, component, cyclic, label, labels}
 use Rattle.strong_connection.specs.inner.Graph.{Graph}
 use Rattle.strong_connection.specs.inner.Marking.{reach_marks}
@@ -89,9 +90,9 @@ module _ (from to : List ℕ) (n : ℕ) (g : Graph from to n) where
 
 -- by labels
 
-module _ (from to : List ℕ) (n : ℕ) (g : Graph from to n) where
+module _ (from to : List ℕ) (n : ℕ) (few : n ≤ chunk_limit) (g : Graph from to n) where
   limit : n ≤ missing
-  limit = omega (arith, g.few)
+  limit = omega arith
 
   -- the labels below the mark are those of the cyclic chunks
   pub count-cyclic : length (keep labelled (labels n (succ from to n g))) ≡ length (keep (cyclic n (succ from to n g)) (up_to n))
@@ -105,6 +106,7 @@ module _ (from to : List ℕ) (n : ℕ) (g : Graph from to n) where
 -- before a row is looked at: a component has its label throughout or nowhere, and it has it if it is cyclic and has the target of an earlier
 -- row along which the numbers don't fall
 pub record LabelledBelow (from to numbers labels : List ℕ) (n row : ℕ) : Type 0 where
+  pub few : n ≤ chunk_limit
   pub graph : Graph from to n
   pub len : length labels ≡ n
   pub whole : (c d : ℕ) → c < n → connected n (values_of from to) c d ≡ true → (get_or labels c 0 ≡ missing → ⊥) → get_or labels d 0 ≡ label n (values_of from to) d
@@ -160,7 +162,7 @@ module _ {from to numbers : List ℕ} {n : ℕ} where
 
       -- a cyclic chunk's label is a row
       label-row : (d : ℕ) → d < n → cyclic n edges d ≡ true → label n edges d ≡ missing → ⊥
-      label-row d k y e = omega (arith, label-cyclic n edges into d y, lowest-in n edges into d k, b.graph.few)
+      label-row d k y e = omega (arith, label-cyclic n edges into d y, lowest-in n edges into d k, b.few)
 
       targets-after : (i : ℕ) → i < row + 1 → get_or numbers (get_or from i 0) 0 ≤ get_or numbers (get_or to i 0) 0 → cyclic n edges (get_or to i 0) ≡ true → get_or labels' (get_or to i 0) 0 ≡ missing → ⊥
       targets-after i m r y e =
@@ -178,7 +180,7 @@ module _ {from to numbers : List ℕ} {n : ℕ} where
           pick h f (no x) = b.targets i (omega arith) r y f
 
       pub labelled_step : LabelledBelow from to numbers labels' n (row + 1)
-      labelled_step = record { graph = b.graph; len = ap length q ∙ length-map-up_to (λ (x : ℕ). cond (mine x) (lowest n edges into v) (get_or labels x 0)) (length labels) ∙ b.len; whole = whole-after; targets = targets-after }
+      labelled_step = record { few = b.few; graph = b.graph; len = ap length q ∙ length-map-up_to (λ (x : ℕ). cond (mine x) (lowest n edges into v) (get_or labels x 0)) (length labels) ∙ b.len; whole = whole-after; targets = targets-after }
 
     -- after the last row
     module _ (l : length from ≤ row) where

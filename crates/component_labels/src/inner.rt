@@ -2,15 +2,14 @@
 ghost use Rattle.std.specs.Prelude.{◌≡◌, ◌+◌, ◌<◌, ◌≤◌, length};
 ghost use Rattle.lists.specs.Words.{keep, up_to, zeros};
 ghost use Rattle.tables.specs.Readings.{first_of, values_of};
-ghost use Rattle.tables.specs.Refusal.{chunk_limit};
+ghost use Rattle.tables.specs.Refusal.{chunk_limit, row_limit};
 ghost use Rattle.strong_connection.specs.Cycles.{labels as labelsOver};
-ghost use Rattle.strong_connection.specs.inner.Graph.{Graph, Threaded};
+ghost use Rattle.strong_connection.specs.inner.Graph.{Graph, successors, backward};
 ghost use Rattle.component_labels.specs.inner.Labelling.{Numbered, in_both, relabelled, component_labelled, labelled, ChunksLabelled};
 
-use strong_connection::inner::{leads, reach};
+use strong_connection::inner::{Digraph, leads, reach};
 use table::{CHUNK_LIMIT, ROW_LIMIT};
 use tables::ModuleIdx;
-use tables::inner::thread;
 
 // The first chunk that both sets of marks have, or the missing mark.
 fn first_both(ahead: &[u32], behind: &[u32]) -> u32
@@ -47,49 +46,33 @@ fn label_both(ahead: &[u32], behind: &[u32], c: u32, labels: &mut [u32])
     }
 }
 
-// Labels the component of c with its lowest row, if it is cyclic.
-fn label_component(
-    from: &[u32],
-    to: &[u32],
-    heads: &[u32],
-    nexts: &[u32],
-    back_heads: &[u32],
-    back_nexts: &[u32],
-    c: u32,
-    labels: &mut [u32],
-)
-    requires rows { Threaded from.now to.now heads.now nexts.now (length labels.old) }
-    requires back { Threaded to.now from.now back_heads.now back_nexts.now (length labels.old) }
-    requires chunk { c < length labels.old }
-    ensures { labels.new ≡ component_labelled (length labels.old) (values_of from.now to.now) c labels.old }
+// Labels the component of c with its lowest row, if it is cyclic. `back` has the edges backward.
+fn label_component(graph: &Digraph, back: &Digraph, c: u32, labels: &mut [u32])
+    requires few { graph.now.places ≤ chunk_limit }
+    requires size { length labels.old ≡ graph.now.places }
+    requires back { back.now ≡ backward graph.now }
+    requires chunk { c < graph.now.places }
+    ensures { labels.new ≡ component_labelled graph.now.places (successors graph.now) c labels.old }
 {
-    let n = labels.len();
+    let n = graph.places();
     let mut behind = [0u32; CHUNK_LIMIT];
     let behind = &mut behind[..n];
-    reach(to, from, back_heads, back_nexts, c, behind);
-    if !leads(from, to, heads, nexts, c, behind) {
+    reach(back, c, behind);
+    if !leads(graph, c, behind) {
         return;
     }
     let mut ahead = [0u32; CHUNK_LIMIT];
     let ahead = &mut ahead[..n];
-    reach(from, to, heads, nexts, c, ahead);
+    reach(graph, c, ahead);
     let lowest = first_both(ahead, behind);
     label_both(ahead, behind, lowest, labels);
 }
 
 // Numbers m and what it leads to, each chunk after those that it leads to, on from `last`; the last number given.
 // Any numbers are right for the labels: by these, only an edge that closes a cycle doesn't fall.
-fn number(
-    from: &[u32],
-    to: &[u32],
-    heads: &[u32],
-    nexts: &[u32],
-    m: u32,
-    last: u32,
-    numbers: &mut [u32],
-) -> u32
-    requires rows { Threaded from.now to.now heads.now nexts.now (length numbers.old) }
-    requires chunk { m < length numbers.old }
+fn number(graph: &Digraph, m: u32, last: u32, numbers: &mut [u32]) -> u32
+    requires size { length numbers.old ≡ graph.now.places }
+    requires chunk { m < graph.now.places }
     requires few { last + zeros numbers.old ≤ chunk_limit }
     ensures { Numbered last numbers.old result numbers.new }
 {
@@ -99,54 +82,44 @@ fn number(
     }
     numbers[at] = 1;
     let mut count = last;
-    let mut row = heads[at] as usize;
-    // a thread: each row names the next
-    while row < from.len() {
-        count = number(from, to, heads, nexts, to[row], count, numbers);
-        row = nexts[row] as usize;
+    for target in graph.targets(m) {
+        count = number(graph, target, count, numbers);
     }
     numbers[at] = count + 1;
     count + 1
 }
 
 // Numbers every chunk. What the numbers are is left open: the labels don't depend on them.
-fn number_all(from: &[u32], to: &[u32], heads: &[u32], nexts: &[u32], numbers: &mut [u32])
-    requires rows { Threaded from.now to.now heads.now nexts.now (length numbers.old) }
+fn number_all(graph: &Digraph, numbers: &mut [u32])
+    requires few { graph.now.places ≤ chunk_limit }
+    requires size { length numbers.old ≡ graph.now.places }
 {
     let mut last = 0;
     // by number: each call writes into `numbers`
     for c in 0..numbers.len() {
-        last = number(from, to, heads, nexts, c as u32, last, numbers);
+        last = number(graph, c as u32, last, numbers);
     }
 }
 
 // Labels every chunk. Numbers can't fall all the way around a cycle, so each cyclic component has a target of an edge that doesn't fall.
-fn label_rows(
-    from: &[u32],
-    to: &[u32],
-    heads: &[u32],
-    nexts: &[u32],
-    back_heads: &[u32],
-    back_nexts: &[u32],
-    labels: &mut [u32],
-)
-    requires rows { Threaded from.now to.now heads.now nexts.now (length labels.old) }
-    requires back { Threaded to.now from.now back_heads.now back_nexts.now (length labels.old) }
-    ensures { labels.new ≡ labelsOver (length labels.old) (values_of from.now to.now) }
+fn label_rows(graph: &Digraph, back: &Digraph, labels: &mut [u32])
+    requires few { graph.now.places ≤ chunk_limit }
+    requires size { length labels.old ≡ graph.now.places }
+    requires back { back.now ≡ backward graph.now }
+    ensures { labels.new ≡ labelsOver graph.now.places (successors graph.now) }
 {
-    let n = labels.len();
     labels.fill(ModuleIdx::MISSING);
     let mut numbers = [0u32; CHUNK_LIMIT];
-    let numbers = &mut numbers[..n];
-    number_all(from, to, heads, nexts, numbers);
-    for (&source, &c) in from.iter().zip(to) {
+    let numbers = &mut numbers[..graph.places()];
+    number_all(graph, numbers);
+    for (&source, &c) in graph.from().iter().zip(graph.to()) {
         if numbers[c as usize] < numbers[source as usize] {
             continue;
         }
         if labels[c as usize] != ModuleIdx::MISSING {
             continue;
         }
-        label_component(from, to, heads, nexts, back_heads, back_nexts, c, labels);
+        label_component(graph, back, c, labels);
     }
 }
 
@@ -165,15 +138,18 @@ pub fn count_labelled(labels: &[u32]) -> usize
 
 // The labels of as many chunks as `labels` has places; counts the cyclic ones.
 pub fn label_chunks(from: &[u32], to: &[u32], labels: &mut [u32]) -> usize
-    requires { Graph from.now to.now (length labels.old) }
+    requires few { length labels.old ≤ chunk_limit }
+    requires rows { length from.now ≤ row_limit }
+    requires graph { Graph from.now to.now (length labels.old) }
     ensures { ChunksLabelled (length labels.old) (values_of from.now to.now) labels.new result }
 {
+    let n = labels.len();
     let mut heads = [0u32; CHUNK_LIMIT];
     let mut nexts = [0u32; ROW_LIMIT];
-    thread(from, &mut heads, &mut nexts);
-    let mut back_heads = [0u32; CHUNK_LIMIT];
-    let mut back_nexts = [0u32; ROW_LIMIT];
-    thread(to, &mut back_heads, &mut back_nexts);
-    label_rows(from, to, &heads, &nexts, &back_heads, &back_nexts, labels);
+    let graph = Digraph::new(from, to, &mut heads[..n], &mut nexts);
+    let mut heads = [0u32; CHUNK_LIMIT];
+    let mut nexts = [0u32; ROW_LIMIT];
+    let back = Digraph::new(to, from, &mut heads[..n], &mut nexts);
+    label_rows(&graph, &back, labels);
     count_labelled(labels)
 }

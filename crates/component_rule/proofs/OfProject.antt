@@ -48,7 +48,7 @@ module _ (p : Project) (ok : Accepted p) where
       go : Dec (c < chunks p) → get_or (labels_of p) c missing < length (labels_of p)
       go (yes l) =
           let e : get_or (labels_of p) c missing ≡ label (chunks p) (imported_by p) c = get_d-map-up_to (label (chunks p) (imported_by p)) (chunks p) c missing l in
-          let inside = graph-inside (accepted-fit p ok) in
+          let inside = graph-inside (accepted-fit p ok).graph in
           ⊎_elim
           (λ q. subst (λ (x : ℕ). x < length (labels_of p)) (sym (e ∙ label-cyclic (chunks p) (imported_by p) inside c q)) (omega (arith, lowest-in (chunks p) (imported_by p) inside c l, length-labels p)))
           (λ q. absurd (k (e ∙ label-none (chunks p) (imported_by p) inside c q)))

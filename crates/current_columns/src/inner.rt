@@ -108,6 +108,7 @@ impl<'a> Current<'a> {
     }
 
     // The same with other members.
+    #[tactic(auto, unfolding(crate::specs::AsProject::project))]
     pub fn with_members<'b>(&self, member: &'b [u32]) -> Current<'b>
     where
         'a: 'b,
@@ -134,23 +135,12 @@ fn read_column<'a>(
     part
 }
 
-// The table as it is read.
-#[tactic(auto, unfolding(table::specs::Table::table, table::specs::Table::read, table::specs::Table::current, crate::specs::AsProject::project))]
-pub fn read_table<'a, 't: 'a>(table: &Table<'t>, space: &'a mut ReadSpace) -> Current<'a>
-    requires written { Accepted (written table.now) }
-    requires read { Accepted (current (written table.now)) }
-    ensures { result ≡ current (written table.now) }
+// The table as it is written: record targets and dependencies too as they were lent.
+#[tactic(auto, unfolding(table::specs::Table::table, table::specs::Table::read, crate::specs::AsProject::project))]
+fn as_written<'t>(table: &Table<'t>) -> Current<'t>
+    requires { Accepted (written table.now) }
+    ensures { result ≡ written table.now }
 {
-    let newer = table.column(NEWER);
-    let mut found = [0u32; MODULE_LIMIT];
-    let found = &mut found[..newer.len()];
-    find_latest(newer, found);
-    let ReadSpace {
-        targets,
-        dependencies,
-    } = space;
-    let record_target = read_column(newer, found, table.targets, targets);
-    let dependency = read_column(newer, found, table.column(DEPENDENCY), dependencies);
     Current {
         runtime: table.runtime,
         dynamic: table.dynamic,
@@ -161,12 +151,12 @@ pub fn read_table<'a, 't: 'a>(table: &Table<'t>, space: &'a mut ReadSpace) -> Cu
         exports: table.column(EXPORTS),
         wrap: table.column(WRAP),
         chunk: table.column(CHUNK),
-        newer,
+        newer: table.column(NEWER),
         record_module: table.importers,
         record_kind: table.kinds,
-        record_target,
+        record_target: table.targets,
         dependency_module: table.column(DEPENDENCY_MODULE),
-        dependency,
+        dependency: table.column(DEPENDENCY),
         statement_module: table.column(STATEMENT_MODULE),
         statement_included: table.column(STATEMENT_INCLUDED),
         use_statement: table.column(USE_STATEMENT),
@@ -188,5 +178,28 @@ pub fn read_table<'a, 't: 'a>(table: &Table<'t>, space: &'a mut ReadSpace) -> Cu
         entry: table.column(ENTRY),
         entry_chunk: table.column(ENTRY_CHUNK),
         seed: table.column(SEED),
+    }
+}
+
+// The table as it is read.
+#[tactic(auto, unfolding(table::specs::Table::read, table::specs::Table::current, crate::specs::AsProject::project))]
+pub fn read_table<'a, 't: 'a>(table: &Table<'t>, space: &'a mut ReadSpace) -> Current<'a>
+    requires written { Accepted (written table.now) }
+    requires read { Accepted (current (written table.now)) }
+    ensures { result ≡ current (written table.now) }
+{
+    let written = as_written(table);
+    let newer = written.newer;
+    let mut found = [0u32; MODULE_LIMIT];
+    let found = &mut found[..newer.len()];
+    find_latest(newer, found);
+    let ReadSpace {
+        targets,
+        dependencies,
+    } = space;
+    Current {
+        record_target: read_column(newer, found, written.record_target, targets),
+        dependency: read_column(newer, found, written.dependency, dependencies),
+        ..written
     }
 }

@@ -69,7 +69,7 @@ pub fn mark_eligible(
     requires { Kinds normal.now included.now exports.now wrap.now × (length marks.old ≡ length normal.now) }
     ensures { marks.new ≡ marks_of (is_eligible runtime normal.now included.now exports.now wrap.now) (length marks.old) }
 {
-    // by number: the branch test allows no call but `len`
+    // by number: the branch test allows no method but `len`
     for m in 0..marks.len() {
         marks[m] = is_order_wrap_eligible(normal, included, exports, wrap, runtime, m);
     }

@@ -96,6 +96,7 @@ fn expected_order_for_entries<'a>(
 }
 
 // The expected order of rows of an accepted project, walked together.
+#[tactic(auto, using(expected_order::proofs::Fits::accepted_fit), unfolding(current_columns::specs::AsProject::project, crate::specs::OfEntries::expected_of_entries))]
 pub fn list_entries(current: &Current, entries: &[u32], order: &mut [u32]) -> usize
     requires entered { Entered current.now entries.now (length order.old) }
     ensures { Written (expected_of_entries current.now entries.now) order.old order.new result }

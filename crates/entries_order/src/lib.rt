@@ -14,6 +14,7 @@ use tables::Refusal;
 pub mod inner;
 
 // The expected order of a list of module rows walked together, written from place 0.
+#[tactic(auto, using(tables::proofs::Accepted::below_rows))]
 pub fn entries_order(table: &Table, entries: &[u32], order: &mut [u32]) -> Result<usize, Refusal>
     ensures { EntriesOrder (as_lent table.now) entries.now order.old result order.new }
 {

@@ -60,6 +60,7 @@ fn marked_actual<'a>(
 }
 
 // Writes the page of an entry from place 0, and answers its length.
+#[tactic(auto, unfolding(crate::specs::Marked::marked_page))]
 pub fn put_entry_page(
     current: &Current,
     sensitives: &[u32],
@@ -80,6 +81,7 @@ pub fn put_entry_page(
 }
 
 // Writes one line of an entry's page, by its number, from place 0, and answers its length; past the last, 0.
+#[tactic(auto, unfolding(crate::specs::Marked::marked_line))]
 pub fn put_entry_line(
     current: &Current,
     sensitives: &[u32],

@@ -55,6 +55,7 @@ fn expected_order_for_root<'a>(
 }
 
 // The expected order of a row of an accepted project. `marks` is working space, a place a module.
+#[tactic(auto, using(crate::proofs::Fits::accepted_fit), unfolding(current_columns::specs::AsProject::project, crate::specs::OfProject::expected_of))]
 pub fn list_expected(current: &Current, marks: &mut [u32], order: &mut [u32], root: u32) -> usize
     requires rooted { Rooted current.now root (length marks.old) (length order.old) }
     ensures { Listed (expected_of current.now root) marks.old order.old marks.new order.new result }

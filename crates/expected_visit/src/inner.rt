@@ -38,7 +38,7 @@ pub fn visit<'a>(
     let start = starts[at] as usize;
     let end = starts[at + 1] as usize;
     let mut count = placed;
-    // by number: each row is read in two columns
+    // by number: a row's target is looked up by it
     for row in start..end {
         if record_kind[row] != 0 {
             continue;

@@ -1,3 +1,2 @@
--- `Promise`: what the operation promises where its project is refused. `Counts`: the walk stays among the modules, and how many circles there can be.
-pub mod Promise
+-- `Counts`: the walk stays among the modules, and how many circles there can be.
 pub mod Counts

@@ -8,6 +8,7 @@ use current_columns::inner::Current;
 use tables::Refusal;
 
 // The circles of an accepted project.
+#[tactic(auto, using(sort_modules::proofs::Fits::accepted_fit), unfolding(current_columns::specs::AsProject::project, crate::specs::OfProject::walked, crate::specs::OfProject::roots_of, crate::specs::OfProject::circles_of))]
 pub fn list_circles(
     current: &Current,
     paths: &mut [u32],

@@ -13,9 +13,9 @@ use Rattle.walk.specs.Close.{Within}
 use Rattle.tables.specs.Project.{missing}
 use Rattle.tables.specs.Readings.{is_import, resolved, any_target}
 use Rattle.tables.specs.declared.Target.TheVariants.{Missing, External, Normal}
-use Rattle.tables.specs.Threads.{Threadable, Threads}
-use Rattle.strong_connection.specs.inner.Graph.{Linked}
-use Rattle.import_edges.specs.inner.Spread.{Along, Under, Spreads, Spreadable, ModuleGraph, EdgesBelow, Edges, import_targets}
+use Rattle.tables.specs.Refusal.{module_limit}
+use Rattle.strong_connection.specs.inner.Graph.{EdgeColumns}
+use Rattle.import_edges.specs.inner.Spread.{Along, Under, Spreads, Spreadable, EdgesBelow, Edges, import_targets}
 use Rattle.marks.specs.Steps.{Row}
 use Rattle.wrap_rules.proofs.Rows.{any-resolved}
 
@@ -145,32 +145,14 @@ row-rows owner value owner' value' S n e h m l r =
     let i = h r.row r.there (subst (λ (x : ℕ). x < n) (sym r.named) l) (omega (arith, e, has_in S (get_or value r.row 0) r.holds)) in
     record { row = i.0; there = i.1; named = i.2 ∙ r.named; holds = subst (λ (x : ℕ). has S x ≡ true) (sym i.3) r.holds }
 
--- threads of edges
-
-pub graph-back : {from to : List ℕ} {n : ℕ} → ModuleGraph from to n → ModuleGraph to from n
-graph-back g = record {
-  few = g.few;
-  rows = omega (arith, g.lengths, g.rows);
-  lengths = sym g.lengths;
-  froms = λ i l. g.tos i (omega (arith, g.lengths));
-  tos = λ i l. g.froms i (omega (arith, g.lengths));
-}
-
-pub graph-threadable : {from to heads nexts : List ℕ} {n : ℕ} → ModuleGraph from to n → length heads ≡ n → length from ≤ length nexts → Threadable from heads nexts
-graph-threadable g h k = record { rows = g.rows; room = k; froms = λ i l. omega (arith, h, g.froms i l) }
-
-pub graph-linked : {from to heads nexts : List ℕ} {n : ℕ} → ModuleGraph from to n → Threads from heads nexts → n ≤ length heads → Linked from to heads nexts n
-graph-linked g t h = record { lengths = g.lengths; tos = g.tos; threads = t; heads-room = h }
-
 -- marks that hold nothing can be spread on from
-pub spreadable-none : {from to heads nexts s t : List ℕ} {n : ℕ} → ModuleGraph from to n → Threads from heads nexts → length heads ≡ n → length s ≡ n → length t ≡ n → ((m : ℕ) → has t m ≡ true → ⊥)
-    → Spreadable from to heads nexts s t
+pub spreadable-none : {g : EdgeColumns} {s t : List ℕ} → length s ≤ module_limit → length s ≡ g.places → length t ≡ length s → ((m : ℕ) → has t m ≡ true → ⊥) → Spreadable g s t
 unfolding Along Under Within
-spreadable-none {from} {to} {heads} {nexts} {s} {t} {n} g h a b c none = record {
-  few = omega (arith, g.few);
-  len = c ∙ sym b;
-  linked = subst (Linked from to heads nexts) (sym b) (graph-linked g h (omega arith));
-  along = λ row l e. absurd (none (get_or from row 0) e);
+spreadable-none {g} few size len none = record {
+  few = few;
+  size = size;
+  len = len;
+  along = λ row l e. absurd (none (get_or g.from row 0) e);
   under = λ M k w d m e. absurd (none m e);
 }
 

@@ -9,7 +9,8 @@ use Rattle.lists.proofs.Laws.{both}
 use Rattle.tables.specs.Project.{Project, missing}
 use Rattle.tables.specs.Readings.{modules, is_import}
 use Rattle.tables.specs.Accepted.{Accepted}
-use Rattle.import_edges.specs.inner.Spread.{ModuleGraph, record_targets, EdgesOf}
+use Rattle.strong_connection.specs.inner.Graph.{Graph}
+use Rattle.import_edges.specs.inner.Spread.{record_targets, EdgesOf}
 use Rattle.import_edges.proofs.Edging.{target_at}
 
 module _ (p : Project) (ok : Accepted p) where
@@ -28,10 +29,8 @@ module _ (p : Project) (ok : Accepted p) where
       target_at p.record_kind p.record_target row 0 (omega (arith, ok.sizes.record_target)) ∙ ap (λ (b : Bool). cond b (get_or p.record_target row 0) missing) (eq-eqb (get_or p.record_kind row 0) 0 e)
 
   -- the edges lie between modules
-  pub edges-graph : (importers edge_targets : List ℕ) → length edge_targets ≡ length importers → EdgesOf p importers edge_targets (length importers) → ModuleGraph importers edge_targets (modules p)
+  pub edges-graph : (importers edge_targets : List ℕ) → length edge_targets ≡ length importers → EdgesOf p importers edge_targets (length importers) → Graph importers edge_targets (modules p)
   edges-graph importers edge_targets n g = record {
-    few = ok.sizes.normal;
-    rows = omega (arith, g.few, ok.sizes.record_module);
     lengths = n;
     froms = λ i l. let r = g.row i l in subst (λ (x : ℕ). x < modules p) r.2 (ok.values.record_module r.0 r.1);
     tos = λ i l. let r = g.row i l in subst (λ (x : ℕ). x < modules p) r.3 (inside r.0 r.1 r.4);

@@ -91,7 +91,7 @@ module _ (from to s : List ℕ) where
     pub under : Under from to s t
     pub below : (j : ℕ) → j < i → has s j ≡ true → has t j ≡ true
 
-  pub spreading-start : {heads nexts t : List ℕ} → Spreadable from to heads nexts s t → Spreading 0 t
+  pub spreading-start : {n : ℕ} {t : List ℕ} → Spreadable (record { from = from; to = to; places = n }) s t → Spreading 0 t
   spreading-start g = record { len = g.len; along = g.along; under = g.under; below = λ j l. absurd (omega arith) }
 
   module _ (i : ℕ) (t : List ℕ) (g : Spreading i t) where

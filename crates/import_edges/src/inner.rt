@@ -4,7 +4,7 @@ ghost use Rattle.import_edges.specs.inner.Spread.{Spreads, Spreadable, Edges, im
 ghost use Rattle.tables.specs.Refusal.{row_limit};
 
 use current_columns::inner::Current;
-use strong_connection::inner::visit;
+use strong_connection::inner::{Digraph, visit};
 use tables::Target;
 use tables::inner::resolve;
 
@@ -40,16 +40,9 @@ pub fn import_edges(
 }
 
 // Marks what a set leads to along the edges, itself counted. `marks` has what an earlier, smaller set leads to.
-pub fn spread(
-    from: &[u32],
-    to: &[u32],
-    heads: &[u32],
-    nexts: &[u32],
-    set: &[u32],
-    marks: &mut [u32],
-)
-    requires { Spreadable from.now to.now heads.now nexts.now set.now marks.old }
-    ensures { Spreads from.now to.now set.now marks.new }
+pub fn spread(graph: &Digraph, set: &[u32], marks: &mut [u32])
+    requires { Spreadable graph.now set.now marks.old }
+    ensures { Spreads graph.now.from graph.now.to set.now marks.new }
 {
     for (m, &mark) in set.iter().enumerate() {
         if mark == 0 {
@@ -58,7 +51,7 @@ pub fn spread(
         if marks[m] != 0 {
             continue;
         }
-        visit(from, to, heads, nexts, m as u32, marks);
+        visit(graph, m as u32, marks);
     }
 }
 

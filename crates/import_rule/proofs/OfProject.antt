@@ -10,7 +10,7 @@ use Rattle.walk.specs.Close.{Within}
 use Rattle.tables.specs.Project.{Project, missing}
 use Rattle.tables.specs.Readings.{modules}
 use Rattle.tables.specs.Accepted.{Accepted}
-use Rattle.strong_connection.specs.inner.Graph.{Linked}
+use Rattle.strong_connection.specs.inner.Graph.{EdgeColumns}
 use Rattle.eligibility.specs.Eligible.{eligible}
 use Rattle.marks.specs.Steps.{Added}
 use Rattle.marks.proofs.Steps.{added-cong}
@@ -19,8 +19,8 @@ use Rattle.wrap_rules.specs.Plan.{reached}
 use Rattle.wrap_rules.specs.inner.Passes.{Passed, Marked, candidate_marks}
 use Rattle.wrap_rules.proofs.Rows.{import-row, row-import, import-asks, import-rows}
 use Rattle.wrap_rules.proofs.Sets.{candidate-parts, parts-candidate, length-candidates}
-use Rattle.import_edges.specs.inner.Spread.{Along, Under, Spreads, Spreadable, ModuleGraph, record_targets}
-use Rattle.import_edges.proofs.Edging.{RowsIn, rows_back, edges-rows, rows-edges, along-rows, under-rows, spreads-rows, row-rows, graph-linked, length-targets}
+use Rattle.import_edges.specs.inner.Spread.{Along, Under, Spreads, Spreadable, record_targets}
+use Rattle.import_edges.proofs.Edging.{RowsIn, rows_back, edges-rows, rows-edges, along-rows, under-rows, spreads-rows, row-rows, length-targets}
 use Rattle.import_edges.proofs.OfProject.{target_row, row_target}
 use Rattle.import_rule.specs.inner.Imports.{Importer, Importing, Leading, Edged, ImportPassed}
 use Rattle.import_rule.proofs.Leads.{Backward, leads-in, in-leads}
@@ -35,10 +35,8 @@ pub leading-more : {p : Project} {rule : List ℕ → ℕ → Bool} {L s t : Lis
 leading-more {p} {rule} {L} {s} {t} l h = record { size = l.size; along = l.along; under = under_more (record_targets p) p.record_module s t L h.len h.grows l.under }
 
 module _ (p : Project) (ok : Accepted p) where
-  pub importing-fit : {importers edge_targets : List ℕ} → ModuleGraph edge_targets importers (modules p) → Importing importers edge_targets p.dependency_module p.dependency (candidate_marks p) (modules p)
-  importing-fit g = record {
-    importing = λ i l. g.tos i (omega (arith, g.lengths));
-    imported = g.froms;
+  pub importing-fit : Importing p.dependency_module p.dependency (candidate_marks p) (modules p)
+  importing-fit = record {
     dependencies = ok.sizes.dependency;
     dependents = ok.values.dependency_module;
     depended = λ i l. ok.values.dependency i l;
@@ -109,7 +107,13 @@ module _ (p : Project) (ok : Accepted p) where
   record-lengths = length-targets p.record_kind p.record_target ∙ ok.sizes.record_target
 
   -- from target to importer, the edges are the records
-  module _ {importers targets heads nexts : List ℕ} (g : Edged p importers targets heads nexts) where
+  module _ {e : EdgeColumns} (g : Edged p e) where
+    abbrev importers : List ℕ
+    importers = e.to
+
+    abbrev targets : List ℕ
+    targets = e.from
+
     there : RowsIn importers targets p.record_module (record_targets p) (modules p)
     there = edges-rows p.record_module (record_targets p) importers targets (modules p) few g.edges
 
@@ -122,11 +126,11 @@ module _ (p : Project) (ok : Accepted p) where
     records-back : RowsIn (record_targets p) p.record_module targets importers (modules p)
     records-back = rows_back p.record_module (record_targets p) importers targets (modules p) record-lengths (sym g.graph.lengths) back
 
-    pub leads-ready : (s L : List ℕ) → Marked p s → Leading p L s → Spreadable targets importers heads nexts s L
+    pub leads-ready : (s L : List ℕ) → Marked p s → Leading p L s → Spreadable e s L
     leads-ready s L m l = record {
       few = omega (arith, ok.sizes.normal, m.size);
+      size = m.size ∙ sym g.places;
       len = l.size ∙ sym m.size;
-      linked = subst (Linked targets importers heads nexts) (sym m.size) (graph-linked g.graph g.threads (omega (arith, g.head_size)));
       along = along-rows targets importers (record_targets p) p.record_module L (modules p) l.size edges-back l.along;
       under = under-rows targets importers (record_targets p) p.record_module s L (modules p) m.size records-back l.under;
     }

@@ -1,5 +1,5 @@
 -- The laws of the words on lists: `Laws`; `Tests`, `Members`, `Distinct` and `Maps` by what they are of.
--- `Fronts`: the front of an array. `Passes`: a pass that writes a mark a place.
+-- `Fronts`: the front of an array. `Passes`: a pass that writes a mark a place. `Zips`: a loop over two columns side by side.
 pub mod Laws
 pub mod Tests
 pub mod Members
@@ -7,3 +7,4 @@ pub mod Distinct
 pub mod Maps
 pub mod Fronts
 pub mod Passes
+pub mod Zips

@@ -1,2 +1,2 @@
--- `Promise`: what the operations promise, case by case.
+-- `Promise`: what the operations promise of an accepted call.
 pub mod Promise

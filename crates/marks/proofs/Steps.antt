@@ -10,6 +10,7 @@ use lib.ListN.{length-set, get_or-eq_default}
 use lib.Seq.{ext_get_or, get_or-set_same, get_or-set_other}
 use Rattle.lists.specs.Words.{is_zero, up_to, has, ones}
 use Rattle.lists.proofs.Laws.{has_in, get_d-in, mark-in, mark-out, get_d-map-up_to, length-map-up_to}
+use Rattle.lists.proofs.Zips.{TurnAt}
 use Rattle.walk.specs.Close.{Within, Bits}
 use Rattle.walk.proofs.Visits.{fresh-zero, set-zeros, set-bits}
 use Rattle.tables.specs.Lookups.{greater_of}
@@ -249,6 +250,17 @@ looked-bits set column b row = go (dec_lt row (length column))
     go : Dec (row < length column) → get_or (looked 0 set column) row 0 ≤ 1
     go (yes l) = rw (looked-at 0 set column row 0 l) (b (get_or column row 0))
     go (no l) = let z : get_or (looked 0 set column) row 0 ≡ 0 = get_or-eq_default (looked 0 set column) 0 (omega (arith, length-looked 0 set column)) in omega arith
+
+-- a turn over the rows raises the owner's mark
+module _ {s t u : List ℕ} {row next : ℕ} where
+  pub owner-turn : (other : ℕ) (owner : List ℕ) {value rows : List ℕ} {at mark : ℕ} → TurnAt value rows row at mark next → at < length owner → Owners (looked other owner value) rows row s t → Raised (get_or owner at 0) mark t u
+      → Owners (looked other owner value) rows next s u
+  owner-turn other owner {value} {rows} n l g r =
+      rw n.more (owners-put (looked other owner value) rows s row t u g (looked-in other owner value row n.first_in (omega (arith, l, n.first)) ∙ ap (λ (i : ℕ). get_or owner i 0) n.first) n.second r)
+
+  pub mark-turn : (set : List ℕ) {owner value : List ℕ} {m at : ℕ} → TurnAt owner value row m at next → Owners owner (looked 0 set value) row s t → Raised m (get_or set at 0) t u → Owners owner (looked 0 set value) next s u
+  mark-turn set {owner} {value} n g r =
+      rw n.more (owners-put owner (looked 0 set value) s row t u g n.first (looked-at 0 set value row 0 n.second_in ∙ ap (λ (i : ℕ). get_or set i 0) n.second) r)
 
 -- owners of rows, from a set that holds nothing
 module _ (owner value S s t : List ℕ) (none : (m : ℕ) → has s m ≡ true → ⊥) (lengths : length value ≡ length owner) (o : Owners owner (looked 0 S value) (length owner) s t) where

@@ -37,97 +37,102 @@ place-within (y ∷ order) m =
     (both (eqb m y))
 
 module _ (order places : List ℕ) (n : ℕ) (o : Order order n) (l : length places ≡ n) (r : Ranked order places) where
-  pub ranked-at : (m : ℕ) → m < n → get_or places m 0 ≡ place_in order m
+  ranked-at : (m : ℕ) → m < n → get_or places m 0 ≡ place_in order m
   unfolding Ranked rank
   ranked-at m h = r m (omega arith)
 
-  pub ranked-few : (m : ℕ) → get_or places m 0 ≤ module_limit
+  ranked-few : (m : ℕ) → get_or places m 0 ≤ module_limit
   ranked-few m =
       ⊎_elim (λ h. omega (arith, ranked-at m h, place-within order m, o.few)) (λ h. omega (arith, get_or-eq_default places 0 {n = m} (omega arith))) (split m n)
 
-module _ (expected actual plan expected_places actual_places : List ℕ) (o : Orders expected actual (length plan))
-    (e : length expected_places ≡ length plan) (a : length actual_places ≡ length plan)
-    (re : Ranked expected expected_places) (ra : Ranked actual actual_places) where
-  pub laid-sheet : Sheet expected_places actual_places plan
-  laid-sheet = record {
-    few = o.few;
-    expected_rows = e;
-    actual_rows = a;
-    expected_few = ranked-few expected expected_places (length plan) o.expected_order e re;
-    actual_few = ranked-few actual actual_places (length plan) o.actual_order a ra;
-  }
-
-  -- a line by the written places is the line
-  line_same : (m : ℕ) → m < length plan → line_with expected_places actual_places plan m ≡ line_of expected actual (has plan) m
-  unfolding line_with line_of
-  line_same m l =
-      ap₂ (λ (i j : ℕ). line_by m i j (has plan m))
-      (ranked-at expected expected_places (length plan) o.expected_order e re m l)
-      (ranked-at actual actual_places (length plan) o.actual_order a ra m l)
-
-  module _ (others : List ℕ) (is : others ≡ others_of expected actual) where
-    pub expected-rows : Below (length plan) expected
-    expected-rows = o.expected_order.members
-
-    other-in : {x : ℕ} → Memᴰ x (others_of expected actual) → x < length plan
-    unfolding others_of
-    other-in h = below-mem actual o.actual_order.members (mem-keep _ actual h).0
-
-    pub other-rows : Below (length plan) others
-    other-rows i l = other-in (subst (Memᴰ (get_or others i 0)) is (get_d-mem others i l))
-
-    row_in : (x : ℕ) → Memᴰ x (expected ++ others_of expected actual) → x < length plan
-    row_in x h = ⊎_elim (λ t. below-mem expected expected-rows t) other-in (Memᴰ.append_cases expected h)
-
-    -- the lines fit where each module has room for one
-    pub lines_fit : length expected + length others ≤ length plan
-    unfolding modules_of
-    lines_fit =
-        omega (
-          arith,
-          ap length is,
-          length-append expected (others_of expected actual),
-          few-distinct (length plan) (modules_of expected actual) (each-once expected actual o.expected_order.once o.actual_order.once) row_in,
-        )
-
-    pub page-same : page_with expected_places actual_places plan expected others ≡ page_by expected actual (has plan)
-    unfolding page_by modules_of
-    page-same =
-        sym (lines-append (line_with expected_places actual_places plan) expected others)
-        ∙ ap (λ (xs : List ℕ). flat_map (line_with expected_places actual_places plan) (expected ++ xs)) is
-        ∙ flat-cong (line_with expected_places actual_places plan) (line_of expected actual (has plan)) (expected ++ others_of expected actual) (λ x h. line_same x (row_in x h))
-
-    pub numbered-same : (number : ℕ) → numbered_with expected_places actual_places plan expected others number ≡ line_at expected actual (has plan) number
-    unfolding line_at modules_of
-    numbered-same number =
-        ap (λ (xs : List ℕ). get_or (map (line_with expected_places actual_places plan) (expected ++ xs)) number []) is
-        ∙ ap (λ (ls : List (List ℕ)). get_or ls number []) (map-cong (line_with expected_places actual_places plan) (line_of expected actual (has plan)) (expected ++ others_of expected actual) (λ x h. line_same x (row_in x h)))
-
 -- the places are written to fresh arrays
 module _ (n : ℕ) (few : n ≤ module_limit) where
-  pub fresh-length : length {A = ℕ} (take n (replicate module_limit 0)) ≡ n
+  fresh-length : length {A = ℕ} (take n (replicate module_limit 0)) ≡ n
   fresh-length = length-take-le n (replicate module_limit 0) few
 
   pub fresh-zeros : take {A = ℕ} n (replicate module_limit 0) ≡ replicate (length {A = ℕ} (take n (replicate module_limit 0))) 0
   fresh-zeros = take-zeros n module_limit few ∙ ap (λ (k : ℕ). replicate k 0) (sym fresh-length)
 
--- what was laid out
-module _ (expected actual plan : List ℕ) {expected_places actual_places held : List ℕ} {count : ℕ} (o : Orders expected actual (length plan))
-    (e : length expected_places ≡ length plan) (a : length actual_places ≡ length plan) (w : Laid expected actual expected_places actual_places held count) where
-  pub laid-ready : Sheet expected_places actual_places plan × (Below (length plan) expected × Below (length plan) (take count held))
-  laid-ready = (
-    laid-sheet expected actual plan expected_places actual_places o e a w.expected_ranks w.actual_ranks,
-    (o.expected_order.members, other-rows expected actual plan expected_places actual_places o e a w.expected_ranks w.actual_ranks (take count held) w.rest),
-  )
+-- the places and the others by which an entry's lines can be written
+pub record Ready (expected actual plan expected_places actual_places others : List ℕ) : Type 0 where
+  pub sheet : Sheet expected_places actual_places plan
+  pub rows : Below (length plan) expected × Below (length plan) others
+  -- the lines fit where each module has room for one
+  pub room : length expected + length others ≤ length plan
+  pub page : page_with expected_places actual_places plan expected others ≡ page_by expected actual (has plan)
+  pub line : (number : ℕ) → numbered_with expected_places actual_places plan expected others number ≡ line_at expected actual (has plan) number
 
-  pub laid-room : length expected + length (take count held) ≤ length plan
-  laid-room = lines_fit expected actual plan expected_places actual_places o e a w.expected_ranks w.actual_ranks (take count held) w.rest
+-- what was laid out in them
+module _ (plan : List ℕ) {expected actual expected_places actual_places held : List ℕ} {count : ℕ} (o : Orders expected actual (length plan))
+    (e : length expected_places ≡ length {A = ℕ} (take (length plan) (replicate module_limit 0))) (a : length actual_places ≡ length {A = ℕ} (take (length plan) (replicate module_limit 0)))
+    (w : Laid expected actual expected_places actual_places held count) where
+  abbrev n : ℕ
+  n = length plan
 
-  pub laid-page : page_with expected_places actual_places plan expected (take count held) ≡ page_by expected actual (has plan)
-  laid-page = page-same expected actual plan expected_places actual_places o e a w.expected_ranks w.actual_ranks (take count held) w.rest
+  expected_rows : length expected_places ≡ n
+  expected_rows = e ∙ fresh-length n o.few
 
-  pub laid-line : (number : ℕ) → numbered_with expected_places actual_places plan expected (take count held) number ≡ line_at expected actual (has plan) number
-  laid-line = numbered-same expected actual plan expected_places actual_places o e a w.expected_ranks w.actual_ranks (take count held) w.rest
+  actual_rows : length actual_places ≡ n
+  actual_rows = a ∙ fresh-length n o.few
+
+  abbrev laid : ℕ → List ℕ
+  laid = line_with expected_places actual_places plan
+
+  -- a line by the written places is the line
+  line_same : (m : ℕ) → m < n → laid m ≡ line_of expected actual (has plan) m
+  unfolding line_with line_of
+  line_same m l =
+      ap₂ (λ (i j : ℕ). line_by m i j (has plan m))
+      (ranked-at expected expected_places n o.expected_order expected_rows w.expected_ranks m l)
+      (ranked-at actual actual_places n o.actual_order actual_rows w.actual_ranks m l)
+
+  other-in : {x : ℕ} → Memᴰ x (others_of expected actual) → x < n
+  unfolding others_of
+  other-in h = below-mem actual o.actual_order.members (mem-keep _ actual h).0
+
+  other-rows : Below n (take count held)
+  other-rows i l = other-in (subst (Memᴰ (get_or (take count held) i 0)) w.rest (get_d-mem (take count held) i l))
+
+  row_in : (x : ℕ) → Memᴰ x (expected ++ others_of expected actual) → x < n
+  row_in x h = ⊎_elim (λ t. below-mem expected o.expected_order.members t) other-in (Memᴰ.append_cases expected h)
+
+  lines_fit : length expected + length (take count held) ≤ n
+  unfolding modules_of
+  lines_fit =
+      omega (
+        arith,
+        ap length w.rest,
+        length-append expected (others_of expected actual),
+        few-distinct n (modules_of expected actual) (each-once expected actual o.expected_order.once o.actual_order.once) row_in,
+      )
+
+  page-same : page_with expected_places actual_places plan expected (take count held) ≡ page_by expected actual (has plan)
+  unfolding page_by modules_of
+  page-same =
+      sym (lines-append laid expected (take count held))
+      ∙ ap (λ (xs : List ℕ). flat_map laid (expected ++ xs)) w.rest
+      ∙ flat-cong laid (line_of expected actual (has plan)) (expected ++ others_of expected actual) (λ x h. line_same x (row_in x h))
+
+  numbered-same : (number : ℕ) → numbered_with expected_places actual_places plan expected (take count held) number ≡ line_at expected actual (has plan) number
+  unfolding line_at modules_of
+  numbered-same number =
+      ap (λ (xs : List ℕ). get_or (map laid (expected ++ xs)) number []) w.rest
+      ∙ ap (λ (ls : List (List ℕ)). get_or ls number []) (map-cong laid (line_of expected actual (has plan)) (expected ++ others_of expected actual) (λ x h. line_same x (row_in x h)))
+
+  pub laid-ready : Ready expected actual plan expected_places actual_places (take count held)
+  laid-ready = record {
+    sheet = record {
+      few = o.few;
+      expected_rows = expected_rows;
+      actual_rows = actual_rows;
+      expected_few = ranked-few expected expected_places n o.expected_order expected_rows w.expected_ranks;
+      actual_few = ranked-few actual actual_places n o.actual_order actual_rows w.actual_ranks;
+    };
+    rows = (o.expected_order.members, other-rows);
+    room = lines_fit;
+    page = page-same;
+    line = numbered-same;
+  }
 
 -- room for the page or for one line
 pub either_room : (whole : Bool) (x y z : ℕ) → x ≤ y → cond whole (41 * y) 41 ≤ z → cond whole (41 * x) 41 ≤ z

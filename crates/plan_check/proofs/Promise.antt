@@ -1,21 +1,18 @@
--- What the operation answers where the project is refused, and where the call is accepted.
+-- A plan that fits, and what an accepted call answers.
 -- Assumes nothing.
-use Rattle.std.specs.Prelude.{◌≡◌, ℕ, ◌<◌, ◌≤◌, true, eqb, ltb, leb, List, length, get_or, None, Some, Ok, Err}
+use Rattle.std.specs.Prelude.{◌≡◌, ℕ, ◌<◌, ◌≤◌, true, eqb, leb, List, length, get_or, None, Ok}
 use mathlib.Core.Path.{refl}
 use native.Mathlib.Omega.{arith}
 use lib.ListN.{get_or-eq_default}
 use native.Mathlib.Decide.{dec_lt}
-use borrow.Author.Tests.{eqb-true, leb-true, ltb-true}
+use borrow.Author.Tests.{eqb-true, leb-true}
 use Rattle.lists.specs.Words.{every}
 use Rattle.lists.proofs.Laws.{and_parts, every-mem}
 use Rattle.lists.proofs.Members.{get_d-mem}
 use Rattle.walk.specs.Close.{Bits}
 use Rattle.tables.specs.Project.{Project}
 use Rattle.tables.specs.Readings.{modules}
-use Rattle.tables.specs.Refusal.{row_limit, below}
-use Rattle.tables.specs.Accepted.{Below}
-use Rattle.tables.specs.declared.Refusal.{Refusal}
-use Rattle.tables.proofs.Answering.{answer-refused, answer-accepted}
+use Rattle.tables.proofs.Answering.{answer-accepted}
 use Rattle.table.specs.Table.{Lent}
 use Rattle.wrap_rules.specs.inner.Passes.{Marked}
 use Rattle.seeds.specs.Seeds.{seeds_fit}
@@ -35,18 +32,7 @@ plan-marked p plan e = record { size = eqb-true (length plan) (modules p) r.0; b
     go i (yes l) = leb-true (get_or plan i 0) 1 (every-mem (λ (mark : ℕ). leb mark 1) plan r.1 (get_d-mem plan i l))
     go i (no l) = let z : get_or plan i 0 ≡ 0 = get_or-eq_default plan 0 (omega arith) in omega arith
 
--- seeds that fit are modules
-pub seeds-below : (n : ℕ) (seeds : List ℕ) → seeds_fit n seeds ≡ true → Below n seeds
-unfolding below
-seeds-below n seeds fits i l =
-    let all = (and_parts (leb (length seeds) row_limit) (below n seeds) fits).1 in
-    ltb-true (get_or seeds i 0) n (every-mem (λ (x : ℕ). ltb x n) seeds all (get_d-mem seeds i l))
-
 module _ (t : Lent) (seeds plan : List ℕ) where
-  pub project-refused : {e : Refusal} → t.refused ≡ Some e → Err e ≡ judgement t seeds plan
-  unfolding judgement
-  project-refused h = answer-refused {v = check_verdict t seeds plan} (judged t.project seeds plan) (rw h refl)
-
   pub plan-judged : t.refused ≡ None → seeds_fit (modules t.project) seeds ≡ true → plan_fits (modules t.project) plan ≡ true → Ok (judged t.project seeds plan) ≡ judgement t seeds plan
   unfolding judgement
   plan-judged accepts fits form = answer-accepted {v = check_verdict t seeds plan} (rw (accepts, fits, form) refl) refl

@@ -26,16 +26,7 @@ fn close_once(sets: &RuleSets, settled: &mut [u32], leads: &mut [u32], plan: &mu
         plan,
     );
     let cyclic = pass_members(current, sets.labels, sets.sensitive, sets.eligible, plan);
-    let imports = pass_importers(
-        current,
-        sets.from,
-        sets.to,
-        sets.heads,
-        sets.nexts,
-        sets.candidates,
-        leads,
-        plan,
-    );
+    let imports = pass_importers(current, &sets.imports, sets.candidates, leads, plan);
     let readers = pass_readers(current, sets.candidates, plan);
     suffixes | (cyclic | (imports | readers))
 }

@@ -8,7 +8,8 @@ use Rattle.tables.specs.Project.{Project, missing}
 use Rattle.tables.specs.Readings.{modules}
 use Rattle.tables.specs.Accepted.{Accepted}
 use Rattle.wrap_rules.specs.Plan.{roots}
-use Rattle.import_edges.specs.inner.Spread.{ModuleGraph, record_targets}
+use Rattle.strong_connection.specs.inner.Graph.{Graph}
+use Rattle.import_edges.specs.inner.Spread.{record_targets}
 use Rattle.reached_modules.specs.inner.Roots.{roots_over, Written, Chosen, Choosing}
 use Rattle.wrap_rules.specs.inner.Passes.{candidate_marks}
 use Rattle.reached_modules.proofs.Listing.{roots_few}
@@ -41,5 +42,5 @@ module _ (p : Project) (ok : Accepted p) (importers targets root_list eligibles 
       h)))
 
   -- the graph that they are chosen by
-  pub choosing-graph : ModuleGraph importers targets (length old)
+  pub choosing-graph : Graph importers targets (length old)
   choosing-graph = rw g.size (edges-graph p ok importers targets g.lengths g.edges)

@@ -2,18 +2,18 @@
 ghost use Rattle.std.specs.Prelude.{◌≡◌, ℕ, ◌≤◌, true, length, ◌≢◌};
 ghost use Rattle.lists.specs.Words.{has};
 ghost use Rattle.tables.specs.Accepted.{Below};
-ghost use Rattle.import_edges.specs.inner.Spread.{ModuleGraph};
+ghost use Rattle.strong_connection.specs.inner.Graph.{Graph};
 ghost use Rattle.reached_modules.specs.inner.Roots.{roots_over, Written, Reaching, Chosen, Choosing};
-ghost use Rattle.tables.specs.Refusal.{module_limit};
+ghost use Rattle.tables.specs.Refusal.{module_limit, row_limit};
 ghost use Rattle.wrap_rules.specs.Plan.{roots as roots_of};
 ghost use Rattle.wrap_rules.specs.inner.Passes.{candidate_marks};
 
 use current_columns::inner::Current;
 use import_edges::inner::spread;
 use marks::inner::{add, mark_owners};
+use strong_connection::inner::Digraph;
 use table::{MODULE_LIMIT, ROW_LIMIT};
 use tables::ModuleIdx;
-use tables::inner::thread;
 
 // Lists the modules of the analysed entries. How many there are.
 #[tactic(auto, using(crate::proofs::Listing::root_steps))]
@@ -45,7 +45,9 @@ fn source_reachable_modules(
     roots: &[u32],
     reached: &mut [u32],
 )
-    requires edges { ModuleGraph importers.now targets.now (length reached.old) }
+    requires few { length reached.old ≤ module_limit }
+    requires rows { length importers.now ≤ row_limit }
+    requires edges { Graph importers.now targets.now (length reached.old) }
     requires includeds { length included.now ≡ length reached.old }
     requires roots { Below (length reached.old) roots.now }
     requires none { (m : ℕ) → has reached.old m ≢ true }
@@ -56,10 +58,9 @@ fn source_reachable_modules(
     let mut heads = [0u32; MODULE_LIMIT];
     let mut nexts = [0u32; ROW_LIMIT];
     let start = &mut start[..n];
-    let heads = &mut heads[..n];
     mark_owners(roots, roots, included, start);
-    thread(importers, heads, &mut nexts);
-    spread(importers, targets, heads, &nexts, start, reached);
+    let imports = Digraph::new(importers, targets, &mut heads[..n], &mut nexts);
+    spread(&imports, start, reached);
 }
 
 // Marks the reached eligible modules.
@@ -71,7 +72,9 @@ pub fn mark_candidates(
     eligible: &[u32],
     candidates: &mut [u32],
 )
-    requires edges { ModuleGraph importers.now targets.now (length candidates.old) }
+    requires few { length candidates.old ≤ module_limit }
+    requires rows { length importers.now ≤ row_limit }
+    requires edges { Graph importers.now targets.now (length candidates.old) }
     requires includeds { length included.now ≡ length candidates.old }
     requires roots { Below (length candidates.old) roots.now }
     requires modules { length eligible.now ≡ length candidates.old }

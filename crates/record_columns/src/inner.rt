@@ -33,7 +33,7 @@ pub fn columns_of(records: &[Record]) -> Columns
     let mut targets = [0u32; ROW_LIMIT];
     let rows = count(records);
     let end = rows_copied(rows);
-    // by number: a record's fields are read, and written to three columns, by its row
+    // by number: the scope's thin functions read a record's fields by its row
     for row in 0..end {
         importers[row] = importer_at(records, row);
         kinds[row] = kind_at(records, row);

@@ -1,171 +1,124 @@
 -- Adding edges, row by row and in turn.
 -- Assumes nothing.
-use Rattle.std.specs.Prelude.{◌≡◌, ℕ, ◌+◌, ◌<◌, ◌≤◌, ◌⊎◌, List, length, get_or, set}
-use mathlib.Core.Path.{refl, sym, ap, subst, ◌∙◌}
-use mathlib.Core.Logic.{inl, inr, ⊎_elim}
+use Rattle.std.specs.Prelude.{◌≡◌, ℕ, ◌+◌, ◌<◌, ◌≤◌, ◌⊎◌, List, [], ◌∷◌, ◌++◌, length, get_or}
+use mathlib.Core.Path.{refl, sym, subst, ◌∙◌}
+use mathlib.Core.Logic.{inl, inr, ⊎_elim, ⊎_map}
 use native.Mathlib.Decide.{ℕ_discrete, dec_lt}
 use native.Mathlib.Omega.{arith}
-use lib.ListN.{length-set}
-use lib.Seq.{get_or-set_same, get_or-set_other}
+use lib.ListN.{get_or-append}
+use Rattle.std.proofs.lemmas.List.{get_or_push, length_push}
 use Rattle.tables.specs.Refusal.{row_limit}
-use Rattle.request_edges.specs.inner.Edges.{RowsBelow, Rows, Adds}
+use Rattle.request_edges.specs.inner.Edges.{RowsBelow, Rows, EdgeRows, In, Adds}
 
-module _ (from to : List ℕ) (count : ℕ) where
-  -- no edges
-  pub adds_none : (E : ℕ → ℕ → Type 0) → ((u v : ℕ) → E u v → ⊥) → Adds E 0 from to count from to count
-  adds_none E n = record { froms = refl; tos = refl; more = omega arith; few = omega arith; front = λ i l. (refl, refl); new = λ i a b. absurd (omega arith); all = λ u v e. absurd (n u v e) }
+-- no edges
+pub adds_none : (E : ℕ → ℕ → Type 0) → ((u v : ℕ) → E u v → ⊥) → (e : EdgeRows) → Adds E 0 e e
+adds_none E n e = record { room = refl; few = omega arith; kept = omega arith; front = λ i l. (refl, refl); each = λ i k l. absurd (omega arith); new = λ u v x. absurd (n u v x) }
 
+-- the earlier edges are still there
+earlier : {E : ℕ → ℕ → Type 0} {k : ℕ} {e e' : EdgeRows} → Adds E k e e' → {u v : ℕ} → In e u v → In e' u v
+earlier a h = (h.0, omega (arith, h.1, a.kept), (a.front h.0 h.1).0 ∙ h.2, (a.front h.0 h.1).1 ∙ h.3)
+
+module _ {E F : ℕ → ℕ → Type 0} {e e' : EdgeRows} where
   -- in turn
-  pub adds_on : {E F : ℕ → ℕ → Type 0} {j k : ℕ} {from' to' from'' to'' : List ℕ} {count' count'' : ℕ} → Adds E j from to count from' to' count' → Adds F k from' to' count' from'' to'' count''
-      → Adds (λ (u v : ℕ). E u v ⊎ F u v) (j + k) from to count from'' to'' count''
-  adds_on {E} {F} {j} {k} {from'} {to'} {from''} {to''} {count'} {count''} a b = record {
-    froms = b.froms ∙ a.froms;
-    tos = b.tos ∙ a.tos;
-    more = omega (arith, a.more, b.more);
+  pub adds_on : {j k : ℕ} {e'' : EdgeRows} → Adds E j e e' → Adds F k e' e'' → Adds (λ (u v : ℕ). E u v ⊎ F u v) (j + k) e e''
+  adds_on {e'' = e''} a b = record {
+    room = b.room ∙ a.room;
     few = omega (arith, a.few, b.few);
+    kept = omega (arith, a.kept, b.kept);
     front = λ i l.
-        let p = b.front i (omega (arith, a.more)) in
-        let q = a.front i l in
-        (p.0 ∙ q.0, p.1 ∙ q.1);
-    new = λ i l r. fresh i l r (dec_lt i count');
-    all = λ u v e. ⊎_elim (λ x. let p = a.all u v x in let q = b.front p.0 p.1 in (p.0, omega (arith, p.1, b.more), q.0 ∙ p.2, q.1 ∙ p.3)) (b.all u v) e;
+        let f = b.front i (omega (arith, l, a.kept)) in
+        (f.0 ∙ (a.front i l).0, f.1 ∙ (a.front i l).1);
+    each = λ i k l. at i k l (dec_lt i (length e'.from));
+    new = λ u v x. ⊎_elim (λ y. earlier b (a.new u v y)) (b.new u v) x;
   }
     where
-      fresh : (i : ℕ) → count ≤ i → i < count'' → Dec (i < count') → E (get_or from'' i 0) (get_or to'' i 0) ⊎ F (get_or from'' i 0) (get_or to'' i 0)
-      fresh i l r (yes h) =
-          let q = b.front i h in
-          inl (subst (λ (x : ℕ). E x (get_or to'' i 0)) (sym q.0) (subst (E (get_or from' i 0)) (sym q.1) (a.new i l h)))
-      fresh i l r (no h) = inr (b.new i (omega arith) r)
+      at : (i : ℕ) → length e.from ≤ i → i < length e''.from → Dec (i < length e'.from) → E (get_or e''.from i 0) (get_or e''.to i 0) ⊎ F (get_or e''.from i 0) (get_or e''.to i 0)
+      at i k l (yes m) = rw ((b.front i m).0, (b.front i m).1) (inl (a.each i k m))
+      at i k l (no n) = inr (b.each i (omega (arith, n)) l)
 
-  -- by edges that are the same
-  pub adds-as : {E F : ℕ → ℕ → Type 0} {k : ℕ} {from' to' : List ℕ} {count' : ℕ} → ((u v : ℕ) → E u v → F u v) → ((u v : ℕ) → F u v → E u v) → Adds E k from to count from' to' count' → Adds F k from to count from' to' count'
-  adds-as {from' = from'} {to' = to'} f g a = record {
-    froms = a.froms;
-    tos = a.tos;
-    more = a.more;
-    few = a.few;
-    front = a.front;
-    new = λ i l r. f (get_or from' i 0) (get_or to' i 0) (a.new i l r);
-    all = λ u v e. a.all u v (g u v e);
+  -- by edges that are the same, counted with no fewer rows
+  pub adds-as : {j k : ℕ} → j ≤ k → ((u v : ℕ) → E u v → F u v) → ((u v : ℕ) → F u v → E u v) → Adds E j e e' → Adds F k e e'
+  adds-as l f g a = record { room = a.room; few = omega (arith, a.few, l); kept = a.kept; front = a.front; each = λ i k m. f _ _ (a.each i k m); new = λ u v x. a.new u v (g u v x) }
+
+pub adds-wide : {E : ℕ → ℕ → Type 0} {e e' : EdgeRows} {j k : ℕ} → j ≤ k → Adds E j e e' → Adds E k e e'
+adds-wide l a = adds-as l (λ u v x. x) (λ u v x. x) a
+
+-- one edge
+module _ (e : EdgeRows) (same : length e.to ≡ length e.from) (u v : ℕ) where
+  abbrev pub pushed : EdgeRows
+  pushed = record { from = e.from ++ u ∷ []; to = e.to ++ v ∷ []; room = e.room }
+
+  adds-one : Adds (λ (x y : ℕ). (u ≡ x) × (v ≡ y)) 1 e pushed
+  adds-one = record {
+    room = refl;
+    few = omega (arith, longer);
+    kept = omega (arith, longer);
+    front = λ i l. (get_or-append e.from (u ∷ []) 0 i l, get_or-append e.to (v ∷ []) 0 i (omega (arith, l, same)));
+    each = λ i k l. subst (λ (n : ℕ). (u ≡ get_or pushed.from n 0) × (v ≡ get_or pushed.to n 0)) (omega (arith, k, l, longer)) (sym last-from, sym last-to);
+    new = λ x y h. (length e.from, omega (arith, longer), last-from ∙ h.0, last-to ∙ h.1);
   }
+    where
+      longer : length pushed.from ≡ length e.from + 1
+      longer = length_push e.from u
 
-  -- counted with more rows
-  pub adds-wide : {E : ℕ → ℕ → Type 0} {j k : ℕ} {from' to' : List ℕ} {count' : ℕ} → j ≤ k → Adds E j from to count from' to' count' → Adds E k from to count from' to' count'
-  adds-wide l a = record { froms = a.froms; tos = a.tos; more = a.more; few = omega (arith, a.few, l); front = a.front; new = a.new; all = a.all }
+      last-from : get_or pushed.from (length e.from) 0 ≡ u
+      last-from = get_or_push e.from u 0 (length e.from) refl
 
-  -- the rows below `row` are added
-  module _ (sources : List ℕ) (a : ℕ) (targets : List ℕ) (b : ℕ) where
-    abbrev pub Adding : ℕ → List ℕ → List ℕ → ℕ → Type 0
-    Adding row from' to' end = Adds (RowsBelow sources a targets b row) row from to count from' to' end
-
-    pub adding-start : Adding 0 from to count
-    adding-start = adds_none (RowsBelow sources a targets b 0) (λ u v e. omega (arith, e.there))
-
-    wider : {row u v : ℕ} → RowsBelow sources a targets b row u v → RowsBelow sources a targets b (row + 1) u v
-    wider e = record { row = e.row; there = omega (arith, e.there); known = e.known; aimed = e.aimed; source = e.source; target = e.target }
-
-    module _ (row : ℕ) (from' to' : List ℕ) (end : ℕ) (g : Adding row from' to' end) where
-      -- a row without both numbers
-      pub adding-pass : ((get_or sources row 0 < row_limit) → (get_or targets row 0 < row_limit) → ⊥) → Adding (row + 1) from' to' end
-      adding-pass n = record {
-        froms = g.froms;
-        tos = g.tos;
-        more = g.more;
-        few = omega (arith, g.few);
-        front = g.front;
-        new = λ i l r. wider (g.new i l r);
-        all = λ u v e. go u v e (ℕ_discrete e.row row);
-      }
-        where
-          go : (u v : ℕ) (e : RowsBelow sources a targets b (row + 1) u v) → Dec (e.row ≡ row) → (i : ℕ) × (i < end) × (get_or from' i 0 ≡ u) × (get_or to' i 0 ≡ v)
-          go u v e (yes q) = absurd (n (subst (λ (x : ℕ). get_or sources x 0 < row_limit) q e.known) (subst (λ (x : ℕ). get_or targets x 0 < row_limit) q e.aimed))
-          go u v e (no k) = g.all u v (record { row = e.row; there = omega (arith, e.there, k); known = e.known; aimed = e.aimed; source = e.source; target = e.target })
-
-      -- a row with both
-      pub adding-put : get_or sources row 0 < row_limit → get_or targets row 0 < row_limit → end < length from → length to ≡ length from
-          → Adding (row + 1) (set from' end (get_or sources row 0 + a)) (set to' end (get_or targets row 0 + b)) (end + 1)
-      adding-put s t l n = record {
-        froms = length-set from' end (get_or sources row 0 + a) ∙ g.froms;
-        tos = length-set to' end (get_or targets row 0 + b) ∙ g.tos;
-        more = omega (arith, g.more);
-        few = omega (arith, g.few);
-        front = λ i h. let q = g.front i h in (old-from i (λ z. omega (arith, z, g.more)) ∙ q.0, old-to i (λ z. omega (arith, z, g.more)) ∙ q.1);
-        new = λ i h r. fresh i h r (ℕ_discrete i end);
-        all = λ u v e. go u v e (ℕ_discrete e.row row);
-      }
-        where
-          F : List ℕ
-          F = set from' end (get_or sources row 0 + a)
-
-          T : List ℕ
-          T = set to' end (get_or targets row 0 + b)
-
-          old-from : (i : ℕ) → (i ≡ end → ⊥) → get_or F i 0 ≡ get_or from' i 0
-          old-from i k = get_or-set_other from' end i (get_or sources row 0 + a) 0 k
-
-          old-to : (i : ℕ) → (i ≡ end → ⊥) → get_or T i 0 ≡ get_or to' i 0
-          old-to i k = get_or-set_other to' end i (get_or targets row 0 + b) 0 k
-
-          at_from : get_or F end 0 ≡ get_or sources row 0 + a
-          at_from = get_or-set_same from' end (get_or sources row 0 + a) 0 (omega (arith, g.froms))
-
-          at-to : get_or T end 0 ≡ get_or targets row 0 + b
-          at-to = get_or-set_same to' end (get_or targets row 0 + b) 0 (omega (arith, g.tos))
-
-          fresh : (i : ℕ) → count ≤ i → i < end + 1 → Dec (i ≡ end) → RowsBelow sources a targets b (row + 1) (get_or F i 0) (get_or T i 0)
-          fresh i h r (yes q) = record {
-            row = row;
-            there = omega arith;
-            known = s;
-            aimed = t;
-            source = sym (ap (λ (x : ℕ). get_or F x 0) q ∙ at_from);
-            target = sym (ap (λ (x : ℕ). get_or T x 0) q ∙ at-to);
-          }
-          fresh i h r (no k) =
-              let e = wider (g.new i h (omega arith)) in
-              record { row = e.row; there = e.there; known = e.known; aimed = e.aimed; source = e.source ∙ sym (old-from i k); target = e.target ∙ sym (old-to i k) }
-
-          go : (u v : ℕ) (e : RowsBelow sources a targets b (row + 1) u v) → Dec (e.row ≡ row) → (i : ℕ) × (i < end + 1) × (get_or F i 0 ≡ u) × (get_or T i 0 ≡ v)
-          go u v e (yes q) = (
-            end,
-            omega arith,
-            at_from ∙ ap (λ (x : ℕ). get_or sources x 0 + a) (sym q) ∙ e.source,
-            at-to ∙ ap (λ (x : ℕ). get_or targets x 0 + b) (sym q) ∙ e.target,
-          )
-          go u v e (no k) =
-              let p = g.all u v (record { row = e.row; there = omega (arith, e.there, k); known = e.known; aimed = e.aimed; source = e.source; target = e.target }) in
-              let d : p.0 ≡ end → ⊥ = λ z. omega (arith, z, p.1) in
-              (p.0, omega (arith, p.1), old-from p.0 d ∙ p.2, old-to p.0 d ∙ p.3)
-
--- the code's steps
+      last-to : get_or pushed.to (length e.from) 0 ≡ v
+      last-to = get_or_push e.to v 0 (length e.from) same
 
 -- the rows below `row` are added, in a word that does not unfold at the code's goals
-unfoldable pub AddedBelow : List ℕ → List ℕ → ℕ → List ℕ → ℕ → List ℕ → ℕ → ℕ → List ℕ → List ℕ → ℕ → Type 0
-AddedBelow from to count sources a targets b row from' to' end = Adding from to count sources a targets b row from' to' end
+unfoldable pub Adding : List ℕ → ℕ → List ℕ → ℕ → EdgeRows → ℕ → EdgeRows → Type 0
+Adding sources a targets b e row e' = Adds (RowsBelow sources a targets b row) row e e'
 
-module _ (from to : List ℕ) (count : ℕ) (sources : List ℕ) (a : ℕ) (targets : List ℕ) (b : ℕ) where
-  pub added_start : AddedBelow from to count sources a targets b 0 from to count
-  unfolding AddedBelow
-  added_start = adding-start from to count sources a targets b
+module _ (sources : List ℕ) (a : ℕ) (targets : List ℕ) (b : ℕ) (e : EdgeRows) where
+  pub adding_start : Adding sources a targets b e 0 e
+  unfolding Adding
+  adding_start = adds_none (RowsBelow sources a targets b 0) (λ u v r. omega (arith, r.there)) e
 
-  module _ (row : ℕ) (from' to' : List ℕ) (end : ℕ) (g : AddedBelow from to count sources a targets b row from' to' end) where
-    pub added_end : row ≡ length sources → Adds (Rows sources a targets b) (length sources) from to count from' to' end
-    unfolding AddedBelow
-    added_end e = subst (λ (n : ℕ). Adding from to count sources a targets b n from' to' end) e g
+  module _ (row : ℕ) (e' : EdgeRows) (g : Adding sources a targets b e row e') where
+    pub adding_end : row ≡ length sources → Adds (Rows sources a targets b) (length sources) e e'
+    unfolding Adding
+    adding_end q = subst (λ (n : ℕ). Adds (RowsBelow sources a targets b n) n e e') q g
+
+    pub adding_room : row < length sources → length e.from + length sources ≤ e.room → length e'.from + 1 ≤ e'.room
+    unfolding Adding
+    adding_room l r = omega (arith, g.room, g.few, l, r)
+
+    below : {n m u v : ℕ} (r : RowsBelow sources a targets b n u v) → r.row < m → RowsBelow sources a targets b m u v
+    below r l = record { row = r.row; there = l; known = r.known; aimed = r.aimed; source = r.source; target = r.target }
+
+    -- the edge of one row; with it, the edges of one row more
+    abbrev Row : ℕ → ℕ → ℕ → Type 0
+    Row i u v = (get_or sources i 0 < row_limit) × (get_or targets i 0 < row_limit) × (get_or sources i 0 + a ≡ u) × (get_or targets i 0 + b ≡ v)
+
+    last : {u v : ℕ} → RowsBelow sources a targets b (row + 1) u v → RowsBelow sources a targets b row u v ⊎ Row row u v
+    last {u} {v} r = at_row (ℕ_discrete r.row row)
+      where
+        at_row : Dec (r.row ≡ row) → RowsBelow sources a targets b row u v ⊎ Row row u v
+        at_row (yes q) = inr (subst (λ (i : ℕ). Row i u v) q (r.known, r.aimed, r.source, r.target))
+        at_row (no k) = inl (below r (omega (arith, r.there, k)))
 
     -- a row that has no number in the one column, or in the other
-    pub added_unsourced : row_limit ≤ get_or sources row 0 → AddedBelow from to count sources a targets b (row + 1) from' to' end
-    unfolding AddedBelow
-    added_unsourced m = adding-pass from to count sources a targets b row from' to' end g (λ s t. omega arith)
+    passed : ((get_or sources row 0 < row_limit) → (get_or targets row 0 < row_limit) → ⊥) → Adding sources a targets b e (row + 1) e'
+    unfolding Adding
+    passed n =
+        adds-as (omega arith) (λ u v r. below r (omega (arith, r.there))) (λ u v r. ⊎_elim (λ o. o) (λ h. absurd (n h.0 h.1)) (last r)) g
 
-    pub added_unaimed : row_limit ≤ get_or targets row 0 → AddedBelow from to count sources a targets b (row + 1) from' to' end
-    unfolding AddedBelow
-    added_unaimed m = adding-pass from to count sources a targets b row from' to' end g (λ s t. omega arith)
+    pub adding_unsourced : row_limit ≤ get_or sources row 0 → Adding sources a targets b e (row + 1) e'
+    adding_unsourced m = passed (λ s t. omega arith)
+
+    pub adding_unaimed : row_limit ≤ get_or targets row 0 → Adding sources a targets b e (row + 1) e'
+    adding_unaimed m = passed (λ s t. omega arith)
 
     -- one that has both
-    pub added_put : get_or sources row 0 < row_limit → get_or targets row 0 < row_limit → end < length from → length to ≡ length from
-        → AddedBelow from to count sources a targets b (row + 1) (set from' end (get_or sources row 0 + a)) (set to' end (get_or targets row 0 + b)) (end + 1)
-    unfolding AddedBelow
-    added_put s t l n = adding-put from to count sources a targets b row from' to' end g s t l n
+    pub adding_put : get_or sources row 0 < row_limit → get_or targets row 0 < row_limit → length e'.to ≡ length e'.from
+        → {e'' : EdgeRows} → e'' ≡ record { from = e'.from ++ (get_or sources row 0 + a) ∷ []; to = e'.to ++ (get_or targets row 0 + b) ∷ []; room = e'.room } → Adding sources a targets b e (row + 1) e''
+    unfolding Adding
+    adding_put s t same q =
+        rw q
+        (adds-as (omega arith) (λ u v x. ⊎_elim (λ r. below r (omega (arith, r.there))) (λ h. record { row = row; there = omega arith; known = s; aimed = t; source = h.0; target = h.1 }) x)
+        (λ u v r. ⊎_map (λ o. o) (λ h. (h.2, h.3)) (last r))
+        (adds_on g (adds-one e' same (get_or sources row 0 + a) (get_or targets row 0 + b))))
 
-pub ruleset adding_steps = (added_start, added_unsourced, added_unaimed, added_put, added_end)
+pub ruleset adding_steps = (adding_start, adding_room, adding_unsourced, adding_unaimed, adding_put, adding_end)

@@ -1,12 +1,12 @@
 // For crates above, on tested tables.
-ghost use Rattle.std.specs.Prelude.{◌≡◌, ◌+◌, ◌≤◌, length};
+ghost use Rattle.std.specs.Prelude.{◌≡◌, ◌≤◌, ◌∷◌, [], ◌++◌, length};
 ghost use Rattle.tables.specs.Project.{missing};
 ghost use Rattle.tables.specs.Refusal.{row_limit};
-ghost use Rattle.tables.specs.Threads.{Threads};
 ghost use Rattle.marks.specs.Steps.{looked};
-ghost use Rattle.request_edges.specs.inner.Edges.{edge_limit, numbered, choice, chosen, Rows, Adds, Threadable};
+ghost use Rattle.request_edges.specs.inner.Edges.{edge_limit, numbered, choice, chosen, Rows, Room, Adds};
 
 use marks::inner::look_up;
+use std::marker::Model;
 use table::ROW_LIMIT;
 use tables::ModuleIdx;
 
@@ -43,126 +43,137 @@ pub fn number_chosen(first: &[u32], second: &[u32], out: &mut [u32])
     }
 }
 
-// Adds an edge for each row of two columns that both have a row number: from the first one's place after `a` to the second one's after `b`.
-// How many edges there are then.
-#[tactic(auto, using(crate::proofs::Adding::adding_steps))]
-pub fn add_edges(
-    sources: &[u32],
-    targets: &[u32],
-    from: &mut [u32],
-    to: &mut [u32],
+// A list of edges that grows in two slices. Contracts see their sources and targets, and how many there is room for.
+#[derive(Drop)]
+pub struct EdgeList<'a> {
+    from: &'a mut [u32],
+    to: &'a mut [u32],
     count: usize,
-    a: u32,
-    b: u32,
-) -> usize
-    requires rows { length targets.now ≡ length sources.now }
-    requires room { count + length sources.now ≤ length from.old }
-    requires same { length to.old ≡ length from.old }
-    requires source { a ≤ edge_limit }
-    requires target { b ≤ edge_limit }
-    ensures { Adds (Rows sources.now a targets.now b) (length sources.now) from.old to.old count from.new to.new result }
-{
-    let mut end = count;
-    for (&source, &target) in sources.iter().zip(targets) {
-        if ROW_LIMIT <= source as usize {
-            continue;
-        }
-        if ROW_LIMIT <= target as usize {
-            continue;
-        }
-        from[end] = source + a;
-        to[end] = target + b;
-        end += 1;
+}
+
+impl<'a> Model for EdgeList<'a> {
+    ghost use Rattle.std.specs.Prelude.{◌≡◌, ◌≤◌, length, take};
+    ghost use Rattle.request_edges.specs.inner.Edges.{EdgeRows};
+
+    ghost Value = { EdgeRows };
+
+    ghost view = { λ e. record { from = take e.count e.from.now; to = take e.count e.to.now; room = length e.from.now } };
+
+    ghost invariant = { λ e. (length e.to.now ≡ length e.from.now) × (e.count ≤ length e.from.now) };
+}
+
+impl<'a> EdgeList<'a> {
+    // An empty one in two slices.
+    pub fn new(from: &'a mut [u32], to: &'a mut [u32]) -> EdgeList<'a>
+        requires { length to.old ≡ length from.old }
+        ensures { result ≡ record { from = []; to = []; room = length from.old } }
+    {
+        EdgeList { from, to, count: 0 }
     }
-    end
-}
 
-// Threads the edges of each place: `heads` gets its first edge, `nexts` the next edge of the same place, or the end.
-pub fn thread_edges(from: &[u32], heads: &mut [u32], nexts: &mut [u32])
-    requires { Threadable from.now heads.old nexts.old }
-    ensures { Threads from.now heads.new nexts.new }
-{
-    heads.fill(from.len() as u32);
-    // by number: it writes each row's own place and number
-    for row in (0..from.len()).rev() {
-        let m = from[row] as usize;
-        nexts[row] = heads[m];
-        heads[m] = row as u32;
+    // Where they come from.
+    pub fn sources<'b>(&'b self) -> &'b [u32]
+        ensures { result.now ≡ self.now.from }
+    {
+        &self.from[..self.count]
     }
-}
 
-// The same, where the second column's numbers are looked up in a table.
-pub fn add_to_looked(
-    sources: &[u32],
-    column: &[u32],
-    table: &[u32],
-    from: &mut [u32],
-    to: &mut [u32],
-    count: usize,
-    a: u32,
-    b: u32,
-) -> usize
-    requires rows { length column.now ≡ length sources.now }
-    requires few { length column.now ≤ row_limit }
-    requires room { count + length sources.now ≤ length from.old }
-    requires same { length to.old ≡ length from.old }
-    requires source { a ≤ edge_limit }
-    requires target { b ≤ edge_limit }
-    ensures { Adds (Rows sources.now a (looked missing table.now column.now) b) (length sources.now) from.old to.old count from.new to.new result }
-{
-    let rows = column.len();
-    let mut targets = [0u32; ROW_LIMIT];
-    look_up(column, table, &mut targets[..rows], ModuleIdx::MISSING);
-    add_edges(sources, &targets[..rows], from, to, count, a, b)
-}
+    // Where they lead to.
+    pub fn targets<'b>(&'b self) -> &'b [u32]
+        ensures targets { result.now ≡ self.now.to }
+        ensures same { length self.now.to ≡ length self.now.from }
+    {
+        &self.to[..self.count]
+    }
 
-// The same, where the first column's numbers are looked up in a table.
-pub fn add_from_looked(
-    column: &[u32],
-    table: &[u32],
-    targets: &[u32],
-    from: &mut [u32],
-    to: &mut [u32],
-    count: usize,
-    a: u32,
-    b: u32,
-) -> usize
-    requires rows { length targets.now ≡ length column.now }
-    requires few { length column.now ≤ row_limit }
-    requires room { count + length column.now ≤ length from.old }
-    requires same { length to.old ≡ length from.old }
-    requires source { a ≤ edge_limit }
-    requires target { b ≤ edge_limit }
-    ensures { Adds (Rows (looked missing table.now column.now) a targets.now b) (length column.now) from.old to.old count from.new to.new result }
-{
-    let rows = column.len();
-    let mut sources = [0u32; ROW_LIMIT];
-    look_up(column, table, &mut sources[..rows], ModuleIdx::MISSING);
-    add_edges(&sources[..rows], targets, from, to, count, a, b)
-}
+    // Adds an edge from u to v.
+    pub fn push(&mut self, u: u32, v: u32)
+        requires { Room 1 self.old }
+        ensures edge { self.new ≡ record { from = self.old.from ++ u ∷ []; to = self.old.to ++ v ∷ []; room = self.old.room } }
+        ensures same { length self.old.to ≡ length self.old.from }
+    {
+        self.from[self.count] = u;
+        self.to[self.count] = v;
+        self.count += 1;
+    }
 
-// The same, where both columns' numbers are looked up.
-pub fn add_looked(
-    first: &[u32],
-    sources: &[u32],
-    second: &[u32],
-    targets: &[u32],
-    from: &mut [u32],
-    to: &mut [u32],
-    count: usize,
-    a: u32,
-    b: u32,
-) -> usize
-    requires rows { length second.now ≡ length first.now }
-    requires few { length first.now ≤ row_limit }
-    requires room { count + length first.now ≤ length from.old }
-    requires same { length to.old ≡ length from.old }
-    requires source { a ≤ edge_limit }
-    requires target { b ≤ edge_limit }
-    ensures { Adds (Rows (looked missing sources.now first.now) a (looked missing targets.now second.now) b) (length first.now) from.old to.old count from.new to.new result }
-{
-    let rows = second.len();
-    let mut looked = [0u32; ROW_LIMIT];
-    look_up(second, targets, &mut looked[..rows], ModuleIdx::MISSING);
-    add_from_looked(first, sources, &looked[..rows], from, to, count, a, b)
+    // Adds an edge for each row of two columns that both have a row number: from the first one's place after `a` to the second one's after `b`.
+    #[tactic(auto, using(crate::proofs::Adding::adding_steps))]
+    pub fn add(&mut self, sources: &[u32], targets: &[u32], a: u32, b: u32)
+        requires rows { length targets.now ≡ length sources.now }
+        requires room { Room (length sources.now) self.old }
+        requires source { a ≤ edge_limit }
+        requires target { b ≤ edge_limit }
+        ensures { Adds (Rows sources.now a targets.now b) (length sources.now) self.old self.new }
+    {
+        for (&source, &target) in sources.iter().zip(targets) {
+            if ROW_LIMIT <= source as usize {
+                continue;
+            }
+            if ROW_LIMIT <= target as usize {
+                continue;
+            }
+            self.push(source + a, target + b);
+        }
+    }
+
+    // The same, where the second column's numbers are looked up in a table.
+    pub fn add_to_looked(&mut self, sources: &[u32], column: &[u32], table: &[u32], a: u32, b: u32)
+        requires rows { length column.now ≡ length sources.now }
+        requires few { length column.now ≤ row_limit }
+        requires room { Room (length sources.now) self.old }
+        requires source { a ≤ edge_limit }
+        requires target { b ≤ edge_limit }
+        ensures { Adds (Rows sources.now a (looked missing table.now column.now) b) (length sources.now) self.old self.new }
+    {
+        let rows = column.len();
+        let mut targets = [0u32; ROW_LIMIT];
+        look_up(column, table, &mut targets[..rows], ModuleIdx::MISSING);
+        self.add(sources, &targets[..rows], a, b);
+    }
+
+    // The same, where the first column's numbers are looked up in a table.
+    pub fn add_from_looked(
+        &mut self,
+        column: &[u32],
+        table: &[u32],
+        targets: &[u32],
+        a: u32,
+        b: u32,
+    )
+        requires rows { length targets.now ≡ length column.now }
+        requires few { length column.now ≤ row_limit }
+        requires room { Room (length column.now) self.old }
+        requires source { a ≤ edge_limit }
+        requires target { b ≤ edge_limit }
+        ensures { Adds (Rows (looked missing table.now column.now) a targets.now b) (length column.now) self.old self.new }
+    {
+        let rows = column.len();
+        let mut sources = [0u32; ROW_LIMIT];
+        look_up(column, table, &mut sources[..rows], ModuleIdx::MISSING);
+        self.add(&sources[..rows], targets, a, b);
+    }
+
+    // The same, where both columns' numbers are looked up.
+    pub fn add_looked(
+        &mut self,
+        first: &[u32],
+        sources: &[u32],
+        second: &[u32],
+        targets: &[u32],
+        a: u32,
+        b: u32,
+    )
+        requires rows { length second.now ≡ length first.now }
+        requires few { length first.now ≤ row_limit }
+        requires room { Room (length first.now) self.old }
+        requires source { a ≤ edge_limit }
+        requires target { b ≤ edge_limit }
+        ensures { Adds (Rows (looked missing sources.now first.now) a (looked missing targets.now second.now) b) (length first.now) self.old self.new }
+    {
+        let rows = second.len();
+        let mut looked = [0u32; ROW_LIMIT];
+        look_up(second, targets, &mut looked[..rows], ModuleIdx::MISSING);
+        self.add_from_looked(first, sources, &looked[..rows], a, b);
+    }
 }

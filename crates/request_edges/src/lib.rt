@@ -1,4 +1,4 @@
-// Edges between numbered places, made of the rows of two columns, and their threads.
+// Edges between numbered places, made of the rows of two columns.
 #![tactic(auto)]
 
 pub mod inner;

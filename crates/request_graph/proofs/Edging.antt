@@ -11,7 +11,7 @@ use Rattle.tables.specs.Accepted.{Accepted}
 use Rattle.tables.specs.Refusal.{row_limit}
 use Rattle.import_edges.specs.inner.Spread.{record_targets}
 use Rattle.import_edges.proofs.Edging.{length-targets}
-use Rattle.request_edges.specs.inner.Edges.{numbered, chosen, Rows, Adds}
+use Rattle.request_edges.specs.inner.Edges.{numbered, chosen, Rows, EdgeRows, Adds}
 use Rattle.request_edges.proofs.Adding.{adds_on, adds-as}
 use Rattle.request_graph.specs.inner.Requests.{ImportRows, at_lead, LeadRows, ComponentEdge, SymbolEdge, RequestEdge, Basis, Requests}
 
@@ -58,11 +58,11 @@ numbered-at n i d l = get_d-map-up_to (λ (i : ℕ). i) n i d l
 
 -- the edges of (ii), then those of (iii), then those of (iv)
 pub requests-on : (p : Project) → Accepted p → {labels sensitives eligibles candidates importers targets : List ℕ} → Basis p labels sensitives eligibles candidates → ImportRows p importers targets
-    → {from to from₁ to₁ from₂ to₂ from₃ to₃ : List ℕ} {count₁ count₂ count₃ : ℕ} → Adds (ComponentEdge p labels (numbered (modules p)) (chosen sensitives eligibles)) 20480 from to 0 from₁ to₁ count₁
-    → Adds (LeadRows importers targets p.dependency_module p.dependency (numbered (modules p))) 36864 from₁ to₁ count₁ from₂ to₂ count₂ → Adds (SymbolEdge p candidates) 98304 from₂ to₂ count₂ from₃ to₃ count₃ → Requests p from to from₃ to₃ count₃
+    → {e e₁ e₂ e₃ : EdgeRows} → Adds (ComponentEdge p labels (numbered (modules p)) (chosen sensitives eligibles)) 20480 e e₁
+    → Adds (LeadRows importers targets p.dependency_module p.dependency (numbered (modules p))) 36864 e₁ e₂ → Adds (SymbolEdge p candidates) 98304 e₂ e₃ → Requests p e e₃
 unfolding RequestEdge
-requests-on p ok {labels} {sensitives} {eligibles} {candidates} {importers} {targets} b g {from} {to} {from₁} {to₁} {from₂} {to₂} {from₃} {to₃} {count₁} {count₂} {count₃} v w z =
-    adds_on from to 0 {j = 20480} {k = 135168} (rw (b.label, b.sensitive_set, b.eligible_set) at v)
-    (adds_on from₁ to₁ count₁ {j = 36864} {k = 98304}
-    (adds-as from₁ to₁ count₁ (λ u v. ⊎_map (λ x. x) (⊎_map (import-rows p ok importers targets g u v) (λ x. x))) (λ u v. ⊎_map (λ x. x) (⊎_map (rows-import p ok importers targets g u v) (λ x. x))) w)
+requests-on p ok {labels} {sensitives} {eligibles} {candidates} {importers} {targets} b g v w z =
+    adds_on {j = 20480} {k = 135168} (rw (b.label, b.sensitive_set, b.eligible_set) at v)
+    (adds_on {j = 36864} {k = 98304}
+    (adds-as (omega arith) (λ u v. ⊎_map (λ x. x) (⊎_map (import-rows p ok importers targets g u v) (λ x. x))) (λ u v. ⊎_map (λ x. x) (⊎_map (rows-import p ok importers targets g u v) (λ x. x))) w)
     (rw b.candidate_set at z))

@@ -2,14 +2,12 @@
 ghost use Rattle.std.specs.Prelude.{◌≡◌, ◌≤◌, length};
 ghost use Rattle.tables.specs.Readings.{modules};
 ghost use Rattle.tables.specs.Refusal.{module_limit, row_limit};
-ghost use Rattle.request_edges.specs.inner.Edges.{Adds};
-ghost use Rattle.request_graph.specs.inner.Requests.{Room, ImportRows, ComponentRows, LeadRows, ChainEdge, ReadEdge, readers_of, SymbolEdge, Basis, Requests};
+ghost use Rattle.request_edges.specs.inner.Edges.{Room, Adds};
+ghost use Rattle.request_graph.specs.inner.Requests.{ImportRows, ComponentRows, LeadRows, ChainEdge, ReadEdge, readers_of, SymbolEdge, Basis, Requests};
 
 use current_columns::inner::Current;
 use marks::inner::look_up;
-use request_edges::inner::{
-    add_edges, add_from_looked, add_looked, add_to_looked, number, number_chosen,
-};
+use request_edges::inner::{EdgeList, number, number_chosen};
 use table::{MODULE_LIMIT, ROW_LIMIT};
 use tables::ModuleIdx;
 
@@ -39,27 +37,15 @@ fn add_component_edges(
     labels: &[u32],
     numbers: &[u32],
     asked: &[u32],
-    from: &mut [u32],
-    to: &mut [u32],
-    count: usize,
-) -> usize
+    edges: &mut EdgeList,
+)
     requires chunks { (length chunks.now ≡ length numbers.now) × (length numbers.now ≤ module_limit) }
     requires members { (length members.now ≡ length member_chunks.now) × (length member_chunks.now ≤ row_limit) }
-    requires room { Room 20480 from.old to.old count }
-    ensures { Adds (ComponentRows chunks.now member_chunks.now members.now labels.now numbers.now asked.now) 20480 from.old to.old count from.new to.new result }
+    requires room { Room 20480 edges.old }
+    ensures { Adds (ComponentRows chunks.now member_chunks.now members.now labels.now numbers.now asked.now) 20480 edges.old edges.new }
 {
-    let own = add_to_looked(numbers, chunks, labels, from, to, count, 0, LABEL);
-    add_looked(
-        member_chunks,
-        labels,
-        members,
-        asked,
-        from,
-        to,
-        own,
-        LABEL,
-        REQUEST,
-    )
+    edges.add_to_looked(numbers, chunks, labels, 0, LABEL);
+    edges.add_looked(member_chunks, labels, members, asked, LABEL, REQUEST);
 }
 
 // Adds the edges of rule (iii): from a module to what leads to it by the import records, and to what depends on it.
@@ -69,45 +55,34 @@ fn add_import_edges(
     dependents: &[u32],
     dependencies: &[u32],
     numbers: &[u32],
-    from: &mut [u32],
-    to: &mut [u32],
-    count: usize,
-) -> usize
+    edges: &mut EdgeList,
+)
     requires modules { length numbers.now ≤ module_limit }
     requires records { (length targets.now ≡ length importers.now) × (length importers.now ≤ row_limit) }
     requires dependencies { (length dependencies.now ≡ length dependents.now) × (length dependents.now ≤ row_limit) }
-    requires room { Room 36864 from.old to.old count }
-    ensures { Adds (LeadRows importers.now targets.now dependents.now dependencies.now numbers.now) 36864 from.old to.old count from.new to.new result }
+    requires room { Room 36864 edges.old }
+    ensures { Adds (LeadRows importers.now targets.now dependents.now dependencies.now numbers.now) 36864 edges.old edges.new }
 {
-    let own = add_edges(numbers, numbers, from, to, count, 0, LEAD);
-    let led = add_edges(targets, importers, from, to, own, LEAD, LEAD);
-    add_edges(dependencies, dependents, from, to, led, 0, DEPENDENT)
+    edges.add(numbers, numbers, 0, LEAD);
+    edges.add(targets, importers, LEAD, LEAD);
+    edges.add(dependencies, dependents, 0, DEPENDENT);
 }
 
 // Adds the first edges of rule (iv): from a module to the chains of its symbols, and of those with a link that it owns.
 #[tactic(auto, unfolding(current_columns::specs::AsProject::project))]
-fn add_chain_edges(
-    current: &Current,
-    symbols: &[u32],
-    from: &mut [u32],
-    to: &mut [u32],
-    count: usize,
-) -> usize
-    requires room { Room 32768 from.old to.old count }
+fn add_chain_edges(current: &Current, symbols: &[u32], edges: &mut EdgeList)
+    requires room { Room 32768 edges.old }
     requires symbols { length symbols.now ≡ length current.now.owner }
-    ensures { Adds (ChainEdge current.now symbols.now) 32768 from.old to.old count from.new to.new result }
+    ensures { Adds (ChainEdge current.now symbols.now) 32768 edges.old edges.new }
 {
-    let own = add_edges(current.owner, symbols, from, to, count, 0, CHAIN);
-    add_from_looked(
+    edges.add(current.owner, symbols, 0, CHAIN);
+    edges.add_from_looked(
         current.chain_link,
         current.owner,
         current.chain_symbol,
-        from,
-        to,
-        own,
         0,
         CHAIN,
-    )
+    );
 }
 
 // Writes each reference's module, where that is a candidate that reads at the top level, else the mark.
@@ -133,55 +108,39 @@ fn find_readers(current: &Current, candidates: &[u32], readers: &mut [u32])
 
 // Adds the last edges of rule (iv): from the chain of a symbol, or of its canonical, to the readers of the references that name it.
 #[tactic(auto, unfolding(current_columns::specs::AsProject::project))]
-fn add_read_edges(
-    current: &Current,
-    readers: &[u32],
-    from: &mut [u32],
-    to: &mut [u32],
-    count: usize,
-) -> usize
-    requires room { Room 65536 from.old to.old count }
+fn add_read_edges(current: &Current, readers: &[u32], edges: &mut EdgeList)
+    requires room { Room 65536 edges.old }
     requires readers { length readers.now ≡ length current.now.reference_statement }
-    ensures { Adds (ReadEdge current.now readers.now) 65536 from.old to.old count from.new to.new result }
+    ensures { Adds (ReadEdge current.now readers.now) 65536 edges.old edges.new }
 {
     let symbols = current.reference_symbol;
     let canonical = current.canonical;
-    let own = add_edges(symbols, readers, from, to, count, CHAIN, REQUEST);
-    let first = add_from_looked(symbols, canonical, readers, from, to, own, CHAIN, REQUEST);
+    edges.add(symbols, readers, CHAIN, REQUEST);
+    edges.add_from_looked(symbols, canonical, readers, CHAIN, REQUEST);
     let depended = current.depended;
     let references = current.depended_reference;
-    let more = add_to_looked(
-        depended, references, readers, from, to, first, CHAIN, REQUEST,
-    );
-    add_looked(
-        depended, canonical, references, readers, from, to, more, CHAIN, REQUEST,
-    )
+    edges.add_to_looked(depended, references, readers, CHAIN, REQUEST);
+    edges.add_looked(depended, canonical, references, readers, CHAIN, REQUEST);
 }
 
 // Adds the edges of rule (iv).
 #[tactic(auto, unfolding(current_columns::specs::AsProject::project))]
-fn add_symbol_edges(
-    current: &Current,
-    candidates: &[u32],
-    from: &mut [u32],
-    to: &mut [u32],
-    count: usize,
-) -> usize
-    requires room { Room 98304 from.old to.old count }
+fn add_symbol_edges(current: &Current, candidates: &[u32], edges: &mut EdgeList)
+    requires room { Room 98304 edges.old }
     requires candidates { length candidates.now ≡ modules current.now }
-    ensures { Adds (SymbolEdge current.now candidates.now) 98304 from.old to.old count from.new to.new result }
+    ensures { Adds (SymbolEdge current.now candidates.now) 98304 edges.old edges.new }
 {
     let mut names = [0u32; ROW_LIMIT];
     let mut readers = [0u32; ROW_LIMIT];
     let names = &mut names[..current.owner.len()];
     let readers = &mut readers[..current.reference_statement.len()];
     number(names);
-    let chains = add_chain_edges(current, names, from, to, count);
+    add_chain_edges(current, names, edges);
     find_readers(current, candidates, readers);
-    add_read_edges(current, readers, from, to, chains)
+    add_read_edges(current, readers, edges);
 }
 
-// Writes the edges of a table. How many there are.
+// Adds the edges of a table.
 #[tactic(auto, unfolding(current_columns::specs::AsProject::project))]
 pub fn request_edges(
     current: &Current,
@@ -191,13 +150,12 @@ pub fn request_edges(
     sensitive: &[u32],
     eligible: &[u32],
     candidates: &[u32],
-    from: &mut [u32],
-    to: &mut [u32],
-) -> usize
-    requires room { Room 155648 from.old to.old 0 }
-    requires edges { ImportRows current.now edge_from.now edge_to.now }
+    edges: &mut EdgeList,
+)
+    requires room { Room 155648 edges.old }
+    requires imports { ImportRows current.now edge_from.now edge_to.now }
     requires made { Basis current.now labels.now sensitive.now eligible.now candidates.now }
-    ensures { Requests current.now from.old to.old from.new to.new result }
+    ensures { Requests current.now edges.old edges.new }
 {
     let n = current.modules();
     let mut numbers = [0u32; MODULE_LIMIT];
@@ -206,26 +164,22 @@ pub fn request_edges(
     let asked = &mut asked[..n];
     number(numbers);
     number_chosen(sensitive, eligible, asked);
-    let components = add_component_edges(
+    add_component_edges(
         current.chunk,
         current.member_chunk,
         current.member,
         labels,
         numbers,
         asked,
-        from,
-        to,
-        0,
+        edges,
     );
-    let leads = add_import_edges(
+    add_import_edges(
         edge_from,
         edge_to,
         current.dependency_module,
         current.dependency,
         numbers,
-        from,
-        to,
-        components,
+        edges,
     );
-    add_symbol_edges(current, candidates, from, to, leads)
+    add_symbol_edges(current, candidates, edges);
 }

@@ -8,6 +8,7 @@ ghost use Rattle.risk_of_orders.specs.inner.Steps.{join, listed, puts, puts_of, 
 use table::MODULE_LIMIT;
 
 // Marks the members of an order that are in a set.
+#[tactic(auto, using(crate::proofs::Flagging::listing))]
 fn mark_listed(order: &[u32], which: &[u32], marks: &mut [u32])
     requires members { Order order.now (length marks.old) }
     requires rows { length which.now ≡ length marks.old }
@@ -64,6 +65,7 @@ fn flag(hosts: &[u32], eligible: &[u32], out: &mut [u32], m: u32)
 }
 
 // Flags the sensitive modules of an order that have no mark in the other.
+#[tactic(auto, using(crate::proofs::Flagging::unmetting))]
 fn flag_unmet(
     order: &[u32],
     sensitive: &[u32],
@@ -90,6 +92,7 @@ fn flag_unmet(
 }
 
 // Flags the sensitive modules of the expected order with an earlier one at a greater place. One without a place counts nowhere.
+#[tactic(auto, using(crate::proofs::Flagging::overtaking))]
 fn flag_overtaken(
     expected: &[u32],
     sensitive: &[u32],

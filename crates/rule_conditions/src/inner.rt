@@ -57,16 +57,7 @@ pub fn lacking_importer(sets: &RuleSets, plan: &[u32], copy: &mut [u32]) -> Opti
     let mut leads = [0u32; MODULE_LIMIT];
     let leads = &mut leads[..sets.current.modules()];
     copy.copy_from_slice(plan);
-    pass_importers(
-        sets.current,
-        sets.from,
-        sets.to,
-        sets.heads,
-        sets.nexts,
-        sets.candidates,
-        leads,
-        copy,
-    );
+    pass_importers(sets.current, &sets.imports, sets.candidates, leads, copy);
     lowest_lacking(copy, plan)
 }
 

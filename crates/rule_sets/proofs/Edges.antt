@@ -7,7 +7,8 @@ use lib.Seq.{length-take-le}
 use Rattle.tables.specs.Project.{Project}
 use Rattle.tables.specs.Readings.{modules}
 use Rattle.tables.specs.Accepted.{Accepted}
-use Rattle.import_edges.specs.inner.Spread.{ModuleGraph, record_targets, EdgesOf}
+use Rattle.strong_connection.specs.inner.Graph.{Graph}
+use Rattle.import_edges.specs.inner.Spread.{record_targets, EdgesOf}
 use Rattle.import_edges.proofs.Edging.{edges-part}
 use Rattle.import_edges.proofs.OfProject.{edges-graph}
 
@@ -27,5 +28,5 @@ module _ (p : Project) (ok : Accepted p) (from to : List ℕ) (count : ℕ) (e :
   pub front-edges : EdgesOf p (take count from) (take count to) (length (take count from))
   front-edges = subst (EdgesOf p (take count from) (take count to)) (sym from-length) (edges-part p.record_module (record_targets p) e)
 
-  pub front-graph : ModuleGraph (take count from) (take count to) (modules p)
+  pub front-graph : Graph (take count from) (take count to) (modules p)
   front-graph = edges-graph p ok (take count from) (take count to) front-lengths front-edges

@@ -9,8 +9,8 @@ use lists::inner::fill;
 use reached_modules::inner::{choose_candidates, list_table_roots};
 use sensitivity::inner::mark_table_sensitive;
 use std::marker::Model;
+use strong_connection::inner::Digraph;
 use table::{CHUNK_LIMIT, MODULE_LIMIT, ROW_LIMIT};
-use tables::inner::thread;
 
 // Room for what the rules read.
 #[derive(Drop)]
@@ -41,7 +41,7 @@ impl RuleSpace {
 }
 
 // What the four rules read of a table: the chunks' labels, the analysed entries' roots, the marks of the sensitive, of the eligible and of the reached eligible
-// modules, and the import records as edges, threaded by their targets. Contracts see the project that it is of.
+// modules, and the import records as edges from target to importer. Contracts see the project that it is of.
 #[derive(Drop)]
 pub struct RuleSets<'a, 'c> {
     pub current: &'a Current<'c>,
@@ -50,10 +50,7 @@ pub struct RuleSets<'a, 'c> {
     pub sensitive: &'a [u32],
     pub eligible: &'a [u32],
     pub candidates: &'a [u32],
-    pub from: &'a [u32],
-    pub to: &'a [u32],
-    pub heads: &'a [u32],
-    pub nexts: &'a [u32],
+    pub imports: Digraph<'a>,
 }
 
 impl<'a, 'c> Model for RuleSets<'a, 'c> {
@@ -97,8 +94,7 @@ pub fn read_sets<'a, 'c>(current: &'a Current<'c>, space: &'a mut RuleSpace) -> 
     let heads = &mut space.heads;
     let heads = &mut heads[..n];
     let nexts = &mut space.nexts;
-    let nexts = &mut nexts[..edges];
-    thread(to, heads, nexts);
+    let imports = Digraph::new(to, from, heads, nexts);
     RuleSets {
         current,
         labels,
@@ -106,9 +102,6 @@ pub fn read_sets<'a, 'c>(current: &'a Current<'c>, space: &'a mut RuleSpace) -> 
         sensitive,
         eligible,
         candidates,
-        from,
-        to,
-        heads,
-        nexts,
+        imports,
     }
 }

@@ -1,7 +1,7 @@
 // Reads the names of projects' files from standard input, a name a line, and prints each project's share as it is made, then the totals.
 #![tactic(auto)]
 
-ghost use Rattle.std.specs.Prelude.{◌≡◌, ◌-◌, ◌≤◌, length, IfOk, IfSome};
+ghost use Rattle.std.specs.Prelude.{◌≡◌, ◌≤◌, length, IfOk, IfSome};
 ghost use Rattle.share_totals.specs.Sums.{added};
 ghost use Rattle.share_totals.specs.Within.{Fits, Within};
 ghost use Rattle.season.specs.Sound.{Sound, Room, Acted};
@@ -16,6 +16,7 @@ use std::fs::File;
 use std::io::Read;
 use std::rt::Files;
 use std::{io, str};
+use streams::read_full;
 use tables::Refusal;
 
 // How many bytes of a file are read: one more than a text may have.
@@ -26,6 +27,7 @@ const TEXT_BYTES: usize = 65537;
 pub struct Season {
     pub names: Names,
     pub totals: Totals,
+    ghost sound: { Sound names totals },
 }
 
 // What is known after a piece of the input, and whether more may come.
@@ -80,34 +82,12 @@ fn read_some(input: &mut impl Read, part: &mut [u8]) -> Option<usize>
     input.read(part).ok()
 }
 
-// Reads once, behind the first n bytes.
-fn read_behind(input: &mut impl Read, text: &mut [u8], n: usize) -> Option<usize>
-    requires { n ≤ length text.old }
-    ensures { IfSome result (λ more. more ≤ length text.old - n) }
-{
-    read_some(input, &mut text[n..])
-}
-
-// Reads until `text` is full or the file ends: how many bytes, or none where a read failed.
-fn read_text(input: &mut impl Read, text: &mut [u8]) -> Option<usize> {
-    let mut n = 0;
-    // a reader
-    while n < text.len() {
-        let more = read_behind(input, text, n)?;
-        if more == 0 {
-            return Some(n);
-        }
-        n += more;
-    }
-    Some(n)
-}
-
 // The outcome of an open file.
 fn share_of_descriptor(file: &mut impl Read) -> Result<Share, Refusal>
     ensures { Fits result }
 {
     let mut text = [0u8; TEXT_BYTES];
-    let Some(n) = read_text(file, &mut text) else {
+    let Ok(n) = read_full(file, &mut text) else {
         return Err(Refusal::Text);
     };
     share_of_text(first_of(&text, n))
@@ -158,10 +138,7 @@ fn take(
     season: Season,
     name: &mut [u8; NAME_BYTES],
     b: u8,
-) -> io::Result<Season>
-    requires { Sound season.names season.totals }
-    ensures { IfOk result (λ s. Sound s.names s.totals) }
-{
+) -> io::Result<Season> {
     let names = season.names;
     let totals = season.totals;
     let step = take_byte(names, name, b);
@@ -179,10 +156,7 @@ fn take_piece(
     season: Season,
     name: &mut [u8; NAME_BYTES],
     piece: &[u8],
-) -> io::Result<Season>
-    requires { Sound season.names season.totals }
-    ensures { IfOk result (λ s. Sound s.names s.totals) }
-{
+) -> io::Result<Season> {
     let mut now = season;
     for &b in piece {
         now = take(rt, now, name, b)?;
@@ -196,10 +170,7 @@ fn take_some(
     input: &mut impl Read,
     season: Season,
     name: &mut [u8; NAME_BYTES],
-) -> io::Result<Taken>
-    requires { Sound season.names season.totals }
-    ensures { IfOk result (λ t. Sound t.season.names t.season.totals) }
-{
+) -> io::Result<Taken> {
     let mut piece = [0u8; 4096];
     let n = read_some(input, &mut piece).unwrap_or(0);
     let next = take_piece(rt, season, name, &piece[..n])?;
@@ -210,20 +181,16 @@ fn take_some(
     })
 }
 
-// Takes the whole input. A proved loop has to end, so it counts its turns down, from a number that no run uses up.
+// Takes the whole input. A proved loop has to end, so it counts its turns, up to a number that no run reaches.
 fn take_all(
     rt: &(impl Files + Print),
     input: &mut impl Read,
     season: Season,
     name: &mut [u8; NAME_BYTES],
-) -> io::Result<Season>
-    requires { Sound season.names season.totals }
-    ensures { IfOk result (λ s. Sound s.names s.totals) }
-{
+) -> io::Result<Season> {
     let mut now = season;
-    let mut turns = u64::MAX;
     // turns are counted, so that it ends whatever is read
-    while turns > 0 {
+    for _ in 0..u64::MAX {
         let taken = take_some(rt, input, now, name)?;
         let next = taken.season;
         let more = taken.more;
@@ -231,14 +198,12 @@ fn take_all(
         if !more {
             return Ok(now);
         }
-        turns -= 1;
     }
     Ok(now)
 }
 
 // Does what is due at the end of the input.
 fn end(rt: &(impl Files + Print), season: Season, name: &[u8; NAME_BYTES]) -> io::Result<Totals>
-    requires { Sound season.names season.totals }
     ensures { IfOk result (λ t. t.planned ≤ t.eligible) }
 {
     let names = season.names;

@@ -36,3 +36,5 @@ module _ (p : Project) (ok : Accepted p) where
 
   pub statements-fit : Statements p.statement_module p.statement_included
   statements-fit = record { rising = ok.rises.statement_module; includeds = ok.sizes.statement_included; few = ok.sizes.statement_module }
+
+pub ruleset fits = (made-sensitive, flags-fit, records-fit, uses-fit, statements-fit)

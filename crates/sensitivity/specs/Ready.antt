@@ -3,20 +3,19 @@
 use Rattle.std.specs.Prelude.{◌≡◌, ℕ, ◌≤◌, List, length}
 use Rattle.tables.specs.Refusal.{row_limit}
 use Rattle.tables.specs.Lookups.{Rising}
-use Rattle.tables.specs.Threads.{Threads}
 use Rattle.tables.specs.Accepted.{Below}
+use Rattle.threads.specs.inner.Rows.{Column}
 
 -- the columns that say what a record wakes fit each other
 pub record Records (normal wrap record_kind record_target : List ℕ) : Type 0 where
   pub wraps : length wrap ≡ length normal
   pub targets : length record_target ≡ length record_kind
 
--- the uses are threaded by statement, and each names a record
-pub record Uses (statement_included use_statement use_record heads nexts : List ℕ) (records : ℕ) : Type 0 where
-  pub statements : length statement_included ≤ length heads
-  pub rows : length use_statement ≡ length use_record
+-- each statement has its uses in a column, and each use names a record
+pub record Uses (statement_included : List ℕ) (uses : Column) (use_record : List ℕ) (records : ℕ) : Type 0 where
+  pub statements : length statement_included ≤ uses.places
+  pub rows : length uses.values ≡ length use_record
   pub named : Below records use_record
-  pub threads : Threads use_statement heads nexts
 
 -- a module's flags are there
 pub record Flags (normal included flag : List ℕ) : Type 0 where

@@ -10,7 +10,8 @@ ghost use Rattle.sensitivity.specs.Ready.{Records, Uses, Flags, Statements, UseR
 use current_columns::inner::Current;
 use table::{MODULE_LIMIT, ROW_LIMIT};
 use tables::Target;
-use tables::inner::{first_rows, resolve, thread};
+use tables::inner::{first_rows, resolve};
+use threads::inner::Threads;
 
 // Whether a record row is a kind 0 record to a normal target with wrap not 0.
 #[tactic(auto, unfolding(tables::specs::Readings::resolved, crate::specs::Marks::wakes))]
@@ -35,45 +36,43 @@ fn row_wakes(
     wrap[at] != 0
 }
 
-// Whether one of the statements `first` to `end` is included and uses such a record; the first that does stops the search. The
-// uses of a statement are threaded.
+// Whether one of the statements `first` to `end` is included and uses such a record; the first that does stops the search.
+#[tactic(auto, using(crate::proofs::Searches::search_steps))]
 fn search_uses(
     normal: &[u32],
     wrap: &[u32],
     record_kind: &[u32],
     record_target: &[u32],
     statement_included: &[u32],
-    use_statement: &[u32],
+    uses: &Threads,
     use_record: &[u32],
-    heads: &[u32],
-    nexts: &[u32],
-    first: usize,
-    end: usize,
+    first: u32,
+    end: u32,
 ) -> bool
     requires records { Records normal.now wrap.now record_kind.now record_target.now }
-    requires uses { Uses statement_included.now use_statement.now use_record.now heads.now nexts.now (length record_kind.now) }
-    requires range { (first ≤ end) × (end ≤ length statement_included.now) }
-    ensures { result ≡ any (statement_wakes normal.now wrap.now record_kind.now record_target.now statement_included.now use_statement.now use_record.now) (count_from first (end - first)) }
+    requires uses { Uses statement_included.now uses.now use_record.now (length record_kind.now) }
+    requires end { end ≤ length statement_included.now }
+    ensures { result ≡ any (statement_wakes normal.now wrap.now record_kind.now record_target.now statement_included.now uses.now.values use_record.now) (count_from first (end - first)) }
 {
-    // by number: a statement is looked up in two columns
-    for s in first..end {
-        if statement_included[s] == 1 {
-            let mut u = heads[s] as usize;
-            // a thread: each use names the next
-            while u < use_statement.len() {
+    let mut found = false;
+    // by number: a statement's uses are looked up by it
+    'search: for s in first..end {
+        if statement_included[s as usize] == 1 {
+            for u in uses.rows(s) {
                 let row = use_record[u] as usize;
                 if row_wakes(normal, wrap, record_kind, record_target, row) {
-                    return true;
+                    found = true;
+                    break 'search;
                 }
-                u = nexts[u] as usize;
             }
         }
     }
-    false
+    found
 }
 
 // Whether a module uses, in an included statement, such a record. Its statements are the rows from its start to the next one's
 // (`statement_module` is named by the contract alone).
+#[tactic(auto, using(crate::proofs::Searches::module_rows), unfolding(crate::specs::Marks::uses_wrapped))]
 fn eagerly_triggers_interop_module(
     normal: &[u32],
     wrap: &[u32],
@@ -82,32 +81,26 @@ fn eagerly_triggers_interop_module(
     statement_module: &[u32],
     starts: &[u32],
     statement_included: &[u32],
-    use_statement: &[u32],
+    uses: &Threads,
     use_record: &[u32],
-    heads: &[u32],
-    nexts: &[u32],
     m: usize,
 ) -> bool
     requires records { Records normal.now wrap.now record_kind.now record_target.now }
-    requires uses { Uses statement_included.now use_statement.now use_record.now heads.now nexts.now (length record_kind.now) }
+    requires uses { Uses statement_included.now uses.now use_record.now (length record_kind.now) }
     requires statements { Statements statement_module.now statement_included.now × (m < length normal.now) }
     requires starts { FirstRows statement_module.now starts.now × (length starts.now ≡ length normal.now + 1) }
-    ensures { result ≡ uses_wrapped normal.now wrap.now record_kind.now record_target.now statement_module.now statement_included.now use_statement.now use_record.now m }
+    ensures { result ≡ uses_wrapped normal.now wrap.now record_kind.now record_target.now statement_module.now statement_included.now uses.now.values use_record.now m }
 {
-    let first = starts[m] as usize;
-    let end = starts[m + 1] as usize;
     search_uses(
         normal,
         wrap,
         record_kind,
         record_target,
         statement_included,
-        use_statement,
+        uses,
         use_record,
-        heads,
-        nexts,
-        first,
-        end,
+        starts[m],
+        starts[m + 1],
     )
 }
 
@@ -134,19 +127,17 @@ fn is_order_sensitive(
     statement_module: &[u32],
     starts: &[u32],
     statement_included: &[u32],
-    use_statement: &[u32],
+    uses: &Threads,
     use_record: &[u32],
-    heads: &[u32],
-    nexts: &[u32],
     runtime: u32,
     m: usize,
 ) -> u32
     requires flags { Flags normal.now included.now sensitive.now }
     requires records { Records normal.now wrap.now record_kind.now record_target.now }
-    requires uses { Uses statement_included.now use_statement.now use_record.now heads.now nexts.now (length record_kind.now) }
+    requires uses { Uses statement_included.now uses.now use_record.now (length record_kind.now) }
     requires statements { Statements statement_module.now statement_included.now × (m < length normal.now) }
     requires starts { FirstRows statement_module.now starts.now × (length starts.now ≡ length normal.now + 1) }
-    ensures { result ≡ ground_at runtime normal.now included.now sensitive.now (uses_wrapped normal.now wrap.now record_kind.now record_target.now statement_module.now statement_included.now use_statement.now use_record.now) m }
+    ensures { result ≡ ground_at runtime normal.now included.now sensitive.now (uses_wrapped normal.now wrap.now record_kind.now record_target.now statement_module.now statement_included.now uses.now.values use_record.now) m }
 {
     if m == (runtime as usize) {
         return 0;
@@ -166,16 +157,14 @@ fn is_order_sensitive(
         statement_module,
         starts,
         statement_included,
-        use_statement,
+        uses,
         use_record,
-        heads,
-        nexts,
         m,
     );
     ground_by(acts, wakes)
 }
 
-// Writes the ground of each module. The uses of each statement are threaded, and each module's statements start where `starts` says.
+// Writes the ground of each module, whose statements start where `starts` says.
 fn mark_with_threads(
     normal: &[u32],
     included: &[u32],
@@ -186,19 +175,17 @@ fn mark_with_threads(
     statement_module: &[u32],
     starts: &[u32],
     statement_included: &[u32],
-    use_statement: &[u32],
+    uses: &Threads,
     use_record: &[u32],
-    heads: &[u32],
-    nexts: &[u32],
     marks: &mut [u32],
     runtime: u32,
 )
     requires flags { Flags normal.now included.now sensitive.now }
     requires records { Records normal.now wrap.now record_kind.now record_target.now }
-    requires uses { Uses statement_included.now use_statement.now use_record.now heads.now nexts.now (length record_kind.now) }
+    requires uses { Uses statement_included.now uses.now use_record.now (length record_kind.now) }
     requires statements { Statements statement_module.now statement_included.now × (length marks.old ≡ length normal.now) }
     requires starts { FirstRows statement_module.now starts.now × (length starts.now ≡ length normal.now + 1) }
-    ensures { marks.new ≡ map (ground_at runtime normal.now included.now sensitive.now (uses_wrapped normal.now wrap.now record_kind.now record_target.now statement_module.now statement_included.now use_statement.now use_record.now)) (up_to (length marks.old)) }
+    ensures { marks.new ≡ map (ground_at runtime normal.now included.now sensitive.now (uses_wrapped normal.now wrap.now record_kind.now record_target.now statement_module.now statement_included.now uses.now.values use_record.now)) (up_to (length marks.old)) }
 {
     for (m, mark) in marks.iter_mut().enumerate() {
         *mark = is_order_sensitive(
@@ -211,10 +198,8 @@ fn mark_with_threads(
             statement_module,
             starts,
             statement_included,
-            use_statement,
+            uses,
             use_record,
-            heads,
-            nexts,
             runtime,
             m,
         );
@@ -248,7 +233,7 @@ pub fn mark_sensitive(
     let mut starts = [0u32; MODULE_LIMIT + 1];
     let heads = &mut heads[..statement_included.len()];
     let starts = &mut starts[..marks.len() + 1];
-    thread(use_statement, heads, &mut nexts);
+    let uses = Threads::new(use_statement, heads, &mut nexts);
     first_rows(statement_module, starts);
     mark_with_threads(
         normal,
@@ -260,16 +245,15 @@ pub fn mark_sensitive(
         statement_module,
         starts,
         statement_included,
-        use_statement,
+        &uses,
         use_record,
-        heads,
-        &nexts,
         marks,
         runtime,
     );
 }
 
 // Marks the sensitive modules of a table by their grounds.
+#[tactic(auto, using(crate::proofs::OfTable::fits), unfolding(current_columns::specs::AsProject::project))]
 pub fn mark_table_sensitive(current: &Current, marks: &mut [u32])
     requires places { length marks.old ≡ modules current.now }
     ensures { marks.new ≡ sensitive_marks current.now }

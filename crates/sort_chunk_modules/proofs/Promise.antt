@@ -1,38 +1,28 @@
 -- What the operation promises where its project is refused, and what is known of a table that is accepted.
 -- Assumes nothing.
-use Rattle.std.specs.Prelude.{◌≡◌, ℕ, Bool, true, ltb, List, length, Option, None, Some, Result, Ok, Err}
+use Rattle.std.specs.Prelude.{◌≡◌, ℕ, true, ltb, List, length, Option, None, Some, Ok}
 use Rattle.std.specs.Result.{result_err}
-use mathlib.Core.Path.{refl, sym, ap, ◌∙◌}
+use mathlib.Core.Path.{refl, sym, ap}
 use native.Mathlib.Omega.{arith}
 use borrow.Author.Tests.{ltb-true}
 use Rattle.tables.specs.Project.{Project}
 use Rattle.tables.specs.Readings.{modules}
+use Rattle.tables.specs.Accepted.{Accepted}
 use Rattle.tables.specs.declared.Refusal.{Refusal}
 use Rattle.tables.specs.Answers.{tested}
-use Rattle.tables.proofs.Answering.{verdict-project, answer-refused, after-refused}
 use Rattle.names.specs.Names.{names_fit}
 use Rattle.table.specs.declared.Table.{Table}
-use Rattle.table.specs.Table.{current, tested_too, Lent}
+use Rattle.table.specs.Table.{current}
 use Rattle.table.specs.Lending.{as_lent, written}
 use Rattle.table.proofs.Laws.{none-tested}
-use Rattle.table.proofs.Lending.{names-fit}
-use Rattle.arrangement.specs.OfProject.{arranged_of}
+use Rattle.table.proofs.Lending.{names-fit, written-accepted, current-accepted}
 use Rattle.arrangement.proofs.OfProject.{in-fit}
-use Rattle.sort_chunk_modules.specs.Promise.{named_refusal, SortChunkModules}
+use Rattle.sort_chunk_modules.specs.Promise.{named_refusal}
 
--- a refused project changes nothing
-pub project-refused : (t : Lent) (names out : List ℕ) {e : Refusal} → named_refusal t names ≡ Some e → SortChunkModules t names out (Err e) out
-project-refused t names out h =
-    let r = verdict-project _ _ h in
-    record { answered = answer-refused (length t.project.member) r; arranged = after-refused out (arranged_of t.project names) r }
-
--- what a test answers, and one more test with it
-pub test-named : (r : Option Refusal) (named : Bool) {a : Result (Unit {0}) Refusal} {e n : Option Refusal} → a ≡ tested r → e ≡ result_err a → n ≡ tested_too e true named → n ≡ tested_too r true named
-test-named r named h k l = l ∙ ap (λ (e : Option Refusal). tested_too e true named) (k ∙ ap result_err h ∙ err r)
-  where
-    err : (r : Option Refusal) → result_err (tested r) ≡ r
-    err None = refl
-    err (Some x) = refl
+-- a test's refusal is what refuses
+pub err-tested : (r : Option Refusal) → result_err (tested r) ≡ r
+err-tested None = refl
+err-tested (Some x) = refl
 
 -- a table that passes both
 module _ (t : Table) (accepts : named_refusal (as_lent t) t.names.now ≡ None) where
@@ -48,8 +38,17 @@ module _ (t : Table) (accepts : named_refusal (as_lent t) t.names.now ≡ None) 
   some : length names ≡ 0 → ⊥
   some z = omega (arith, z, ltb-true 0 (length names) both.2)
 
-  pub passed : Ok tt ≡ tested (as_lent t).refused
+  passed : Ok tt ≡ tested (as_lent t).refused
   passed = sym (ap tested both.0)
+
+  pub as_written : Accepted (written t)
+  as_written = written-accepted t passed
+
+  pub as_current : Accepted q
+  as_current = current-accepted t passed
 
   pub named-fit : names_fit (modules q) names ≡ true
   named-fit = in-fit (modules q) names (names-fit t passed) some
+
+-- of a table that passes
+pub ruleset passing = (err-tested, as_written, as_current, named-fit)

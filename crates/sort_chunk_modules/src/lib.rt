@@ -11,7 +11,7 @@ use table::Table;
 use tables::Refusal;
 
 // The members of each chunk, arranged, at the chunk's member rows. The count is that of the member rows.
-#[tactic(auto, unfolding(current_columns::specs::AsProject::project))]
+#[tactic(auto, using(crate::proofs::Promise::passing), unfolding(current_columns::specs::AsProject::project))]
 pub fn sort_chunk_modules(table: &Table, out: &mut [u32]) -> Result<usize, Refusal>
     ensures { SortChunkModules (as_lent table.now) table.now.names.now out.old result out.new }
 {

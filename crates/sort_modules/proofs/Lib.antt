@@ -1,3 +1,3 @@
--- `Numbers`: what a walk that numbers makes. `Promise`: the operation's cases.
+-- `Numbers`: what a walk that numbers makes. `Fits`: the columns of an accepted project.
 pub mod Numbers
-pub mod Promise
+pub mod Fits

@@ -55,6 +55,7 @@ fn sort<'a>(
 }
 
 // The module numbers and the sorted list of an accepted project. `marks` is working space, a place a module.
+#[tactic(auto, using(crate::proofs::Fits::accepted_fit), unfolding(current_columns::specs::AsProject::project, crate::specs::OfProject::numbers_of, crate::specs::OfProject::sorted_of))]
 pub fn sort_table(
     current: &Current,
     marks: &mut [u32],

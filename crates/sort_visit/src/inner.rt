@@ -32,7 +32,7 @@ fn visit<'a>(
     let at = m as usize;
     let start = starts[at] as usize;
     let end = starts[at + 1] as usize;
-    // by number: each row is read in two columns
+    // by number: a row's target is looked up by it
     for row in start..end {
         if let Some(t) = unmet(normal, record_kind, record_target, marks, dynamic, row) {
             visit(

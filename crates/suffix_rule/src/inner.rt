@@ -159,8 +159,8 @@ pub fn pass_suffixes(
     requires settled { Settling current.now settled.old plan.old }
     ensures { SuffixPassed current.now plan.old settled.new plan.new result }
 {
-    // tells the proof that the table passed its tests
-    current.modules();
+    // by which the proof knows besides that the table passed its tests
+    prove!(plan.len() == current.modules());
     if count_marked(settled) == settled.len() {
         return false;
     }

@@ -115,7 +115,8 @@ sizes-fit p e =
 
 -- 2
 
-below_rows : (n : ℕ) (column : List ℕ) → below n column ≡ true → Below n column
+-- a column that passes
+pub below_rows : (n : ℕ) (column : List ℕ) → below n column ≡ true → Below n column
 unfolding below
 below_rows n column e i h = ltb-true _ _ (every-at (λ (x : ℕ). ltb x n) column 0 e i h)
 

@@ -4,7 +4,6 @@ pub mod Rise
 pub mod Greater
 pub mod Starts
 pub mod OwnerRows
-pub mod Threads
 pub mod Targets
 pub mod Accepted
 pub mod Scan

@@ -4,5 +4,4 @@ pub mod Readings
 pub mod Refusal
 pub mod Answers
 pub mod Lookups
-pub mod Threads
 pub mod Accepted

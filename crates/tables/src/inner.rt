@@ -2,7 +2,6 @@
 ghost use Rattle.std.specs.Prelude.{◌≡◌, ◌<◌, ◌≤◌, length};
 ghost use Rattle.tables.specs.Lookups.{Rising, FirstRow, FirstRows, RowEnds};
 ghost use Rattle.tables.specs.Readings.{is_static, resolved};
-ghost use Rattle.tables.specs.Threads.{Threadable, Threads};
 
 use crate::{ModuleIdx, Target};
 
@@ -41,21 +40,6 @@ pub fn first_rows(column: &[u32], starts: &mut [u32])
     // by number: each place is written from the one before it
     for x in 1..starts.len() {
         starts[x] = starts[x - 1].max(starts[x]);
-    }
-}
-
-// Threads the rows of each place: `heads` gets its first row, `nexts` the next row of the same place, or the end.
-#[tactic(auto, using(crate::proofs::Threads::thread_steps))]
-pub fn thread(from: &[u32], heads: &mut [u32], nexts: &mut [u32])
-    requires { Threadable from.now heads.old nexts.old }
-    ensures { Threads from.now heads.new nexts.new }
-{
-    heads.fill(from.len() as u32);
-    // by number: it writes each row's own place and number
-    for row in (0..from.len()).rev() {
-        let m = from[row] as usize;
-        nexts[row] = heads[m];
-        heads[m] = row as u32;
     }
 }
 

@@ -106,7 +106,7 @@ fn read_input(input: &mut impl Read, text: &mut [u8]) -> usize
     ensures { result ≤ length text.new }
 {
     let mut n = 0;
-    // a reader
+    // not `streams::read_full`, since a failed read keeps what was read
     while n < text.len() {
         let more = read_some(input, &mut text[n..]);
         if more == 0 {

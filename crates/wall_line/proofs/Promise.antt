@@ -1,14 +1,13 @@
--- The promise of the operation of one line: of a project that is refused, and of a call that is accepted.
+-- The promise of the operation of one line, of a call that is accepted.
 -- Assumes nothing.
-use Rattle.std.specs.Prelude.{◌≡◌, ℕ, ◌≤◌, true, List, length, None, Some, Ok, Err}
+use Rattle.std.specs.Prelude.{◌≡◌, ℕ, ◌≤◌, true, List, length, None, Ok}
 use mathlib.Core.Path.{◌∙◌}
 use native.Mathlib.Omega.{arith}
 use borrow.Author.Tests.{le-leb}
 use Rattle.lists.proofs.Fronts.{sets-front}
 use Rattle.tables.specs.Readings.{is_analysed}
 use Rattle.tables.specs.Accepted.{Accepted}
-use Rattle.tables.specs.declared.Refusal.{Refusal}
-use Rattle.tables.proofs.Answering.{verdict-project, verdict-none, answer-refused, answer-accepted, after-refused, after-accepted}
+use Rattle.tables.proofs.Answering.{verdict-none, answer-accepted, after-accepted}
 use Rattle.table.specs.Table.{Lent}
 use Rattle.lines.specs.Lines.{PutAt}
 use Rattle.wall_line.specs.Promise.{page_line_of, PageLine}
@@ -17,12 +16,6 @@ use Rattle.wall_line.proofs.Lines.{line-fits}
 module _ (t : Lent) (root number : ℕ) (line : List ℕ) where
   abbrev text : List ℕ
   text = page_line_of t.project root number
-
-  -- a refusal leaves all as it was
-  pub project-refused : {e : Refusal} → t.refused ≡ Some e → PageLine t root number line (Err e) line
-  project-refused h =
-      let r = verdict-project _ _ h in
-      record { answered = answer-refused (length text) r; written = after-refused line text r }
 
   pub line-put : t.refused ≡ None → is_analysed t.project root ≡ true → 41 ≤ length line → Accepted t.project → {line' : List ℕ} {r : ℕ} → PutAt line 0 text line' r
       → PageLine t root number line (Ok r) line'

@@ -1,6 +1,6 @@
--- The promise of the operation of an entry's page: of a project that is refused, and of a call that is accepted.
+-- The promise of the operation of an entry's page, of a call that is accepted.
 -- Assumes nothing.
-use Rattle.std.specs.Prelude.{◌≡◌, ℕ, ◌*◌, ◌≤◌, true, leb, List, length, take, None, Some, Ok, Err}
+use Rattle.std.specs.Prelude.{◌≡◌, ℕ, ◌*◌, ◌≤◌, true, leb, List, length, take, None, Ok}
 use mathlib.Core.Path.{ap, ◌∙◌}
 use native.Mathlib.Omega.{arith}
 use borrow.Author.Tests.{le-leb}
@@ -9,8 +9,7 @@ use Rattle.lists.proofs.Fronts.{sets-front}
 use Rattle.tables.specs.Project.{Project}
 use Rattle.tables.specs.Readings.{modules, is_analysed}
 use Rattle.tables.specs.Accepted.{Accepted}
-use Rattle.tables.specs.declared.Refusal.{Refusal}
-use Rattle.tables.proofs.Answering.{verdict-project, verdict-none, answer-refused, answer-accepted, after-refused, after-accepted}
+use Rattle.tables.proofs.Answering.{verdict-none, answer-accepted, after-accepted}
 use Rattle.table.specs.Table.{Lent}
 use Rattle.lines.specs.Lines.{PutAt}
 use Rattle.lines.proofs.Puts.{put_as}
@@ -27,12 +26,6 @@ module _ (t : Lent) (root : ℕ) (grounds plan page : List ℕ) where
 
   abbrev text : List ℕ
   text = page_with p grounds plan root
-
-  -- a refusal leaves all as it was
-  pub project-refused : {e : Refusal} → t.refused ≡ Some e → EntryPage t root grounds plan page (Err e) page
-  project-refused h =
-      let r = verdict-project _ _ h in
-      record { answered = answer-refused (length text) r; written = after-refused page text r }
 
   pub page-put : t.refused ≡ None → is_analysed p root ≡ true → {i : ℕ} → i ≡ n → i ≤ length grounds → i ≤ length plan → 41 * i ≤ length page → Accepted p → {page' : List ℕ} {r : ℕ}
       → PutAt page 0 (marked_page p (take i grounds) (take i plan) root) page' r → EntryPage t root grounds plan page (Ok r) page'

@@ -1,20 +1,19 @@
 -- What is noted for rule (i), and when nothing new has to be.
 -- Assumes nothing.
-use Rattle.std.specs.Prelude.{◌≡◌, ℕ, ◌+◌, ◌-◌, ◌<◌, ◌≤◌, true, ◌⊎◌, List, length, get_or, take, drop, replicate}
+use Rattle.std.specs.Prelude.{◌≡◌, ℕ, ◌+◌, ◌-◌, ◌<◌, ◌≤◌, true, ◌⊎◌, List, length, get_or, drop, replicate}
 use mathlib.Core.Path.{sym, ap, subst, ◌∙◌}
 use mathlib.Core.Logic.{inl, ⊎_elim}
 use mathlib.Core.List.{Memᴰ}
 use native.Mathlib.Omega.{arith}
 use native.Mathlib.Decide.{dec_lt}
 use lib.ListN.{get_or-replicate, get_or-eq_default, length-replicate, length-drop}
-use lib.Seq.{get_or-drop, get_or-take, length-take-le}
+use lib.Seq.{get_or-drop}
 use Rattle.lists.specs.Words.{has}
 use Rattle.lists.proofs.Laws.{has_in}
 use Rattle.lists.proofs.Members.{mem-at, get_d-mem}
 use Rattle.tables.specs.Project.{Project}
 use Rattle.tables.specs.Readings.{modules}
 use Rattle.tables.specs.Accepted.{Accepted}
-use Rattle.tables.specs.Threads.{Threads}
 use Rattle.sensitivity.specs.Marks.{sensitive_marks}
 use Rattle.eligibility.specs.Eligible.{eligible_marks}
 use Rattle.expected_order.specs.OfProject.{expected_of}
@@ -24,19 +23,8 @@ use Rattle.wrap_rules.proofs.Sets.{eligible-has, parts-candidate}
 use Rattle.wrap_rules.proofs.Roots.{expected-reached}
 use Rattle.request_queue.specs.inner.Growing.{Listed}
 use Rattle.suffix_places.specs.inner.Places.{never, Small, Lowest, Stands}
-use Rattle.worklist_taking.specs.inner.State.{Batch}
+use Rattle.worklist_taking.specs.inner.State.{RuleNotes, Batch}
 use Rattle.worklist_taking.proofs.Places.{place}
-
--- the places from a to b of a list
-module _ (xs : List ℕ) (a b : ℕ) (l : a ≤ b) (h : b ≤ length xs) where
-  pub part_length : length (take (b - a) (drop a xs)) ≡ b - a
-  part_length = length-take-le (b - a) (drop a xs) (omega (arith, length-drop a xs))
-
-  pub part_at : (i : ℕ) → a ≤ i → i < b → get_or (take (b - a) (drop a xs)) (i - a) 0 ≡ get_or xs i 0
-  part_at i u v = get_or-take (b - a) (drop a xs) (i - a) 0 (omega arith) ∙ get_or-drop a xs (i - a) 0 ∙ ap (λ (j : ℕ). get_or xs j 0) (let z : a + (i - a) ≡ i = omega arith in z)
-
-  pub part-from : (j : ℕ) → j < length (take (b - a) (drop a xs)) → get_or (take (b - a) (drop a xs)) j 0 ≡ get_or xs (a + j) 0
-  part-from j u = get_or-take (b - a) (drop a xs) j 0 (omega (arith, u, part_length)) ∙ get_or-drop a xs j 0
 
 -- filled with `never`
 pub all_small : (xs : List ℕ) (n : ℕ) → xs ≡ replicate n never → Small xs
@@ -48,13 +36,11 @@ all_small xs n e m = rw e (go (dec_lt m n))
     go (no l) = let z : get_or (replicate n never) m 0 ≡ 0 = get_or-eq_default (replicate n never) 0 (omega (arith, l, length-replicate {A = ℕ} n never)) in omega (arith, z)
 
 -- all that is listed was looked at
-pub lowest-batch : (p : Project) (placed asked settled' asked' heads nexts : List ℕ) → length asked' ≡ modules p → asked ≡ replicate (modules p) never
-    → Lowest p (roots p) (sensitive_marks p) (eligible_marks p) placed asked settled' asked' → length heads ≡ never + 1 → length nexts ≡ modules p → Threads asked' heads nexts → (end : ℕ) → Batch p placed asked' heads nexts end
-lowest-batch p placed asked settled' asked' heads nexts n e h r q t end = record {
+pub lowest-batch : (p : Project) (placed asked settled' asked' : List ℕ) → length asked' ≡ modules p → asked ≡ replicate (modules p) never
+    → Lowest p (roots p) (sensitive_marks p) (eligible_marks p) placed asked settled' asked' → (end : ℕ) → Batch p placed (record { settled = settled'; asked = asked' }) end
+lowest-batch p placed asked settled' asked' n e h end = record {
+  settling = record { size = h.size; settles = h.settles };
   len = n;
-  room = r;
-  places = q;
-  threads = t;
   sound = λ m l s.
       ⊎_elim
       (λ z. absurd (omega (arith, s, z ∙ ap (λ (xs : List ℕ). get_or xs m 0) e ∙ get_or-replicate (modules p) m never 0 (omega (arith, l, lib.ListN.length-replicate {A = ℕ} (modules p) never)))))
@@ -65,22 +51,23 @@ lowest-batch p placed asked settled' asked' heads nexts n e h r q t end = record
       h.all a.0 a.1 x m (subst (λ (y : ℕ). Stands (expected_of p y) (sensitive_marks p) x m) (sym a.2) s) c g;
 }
 
-module _ (p : Project) (ok : Accepted p) (placed list asked heads nexts : List ℕ) (count end : ℕ) (h : Listed placed list count) (b : Batch p placed asked heads nexts end) where
+module _ (p : Project) (ok : Accepted p) (placed list : List ℕ) (notes : RuleNotes) (end : ℕ) (h : Listed placed list) (b : Batch p placed notes end) where
   -- none of the batch is sensitive
-  pub none-sensitive : ((i : ℕ) → end ≤ i → i < count → has (sensitive_marks p) (get_or list i 0) ≡ true → ⊥) → Batch p placed asked heads nexts count
-  none-sensitive none = record { len = b.len; room = b.room; places = b.places; threads = b.threads; sound = b.sound; all = λ root x m i s c l g. go root x m i s c g (dec_lt end (get_or placed x 0)) }
+  pub none-sensitive : ((i : ℕ) → i < length (drop end list) → has (sensitive_marks p) (get_or (drop end list) i 0) ≡ true → ⊥) → Batch p placed notes (length list)
+  none-sensitive none = record { settling = b.settling; len = b.len; sound = b.sound; all = λ root x m i s c l g. go root x m i s c g (dec_lt end (get_or placed x 0)) }
     where
-      go : (root x m : ℕ) → Memᴰ root (roots p) → Stands (expected_of p root) (sensitive_marks p) x m → has placed x ≡ true → has (eligible_marks p) m ≡ true → Dec (end < get_or placed x 0) → (has placed m ≡ true) ⊎ (get_or asked m 0 ≤ get_or placed x 0)
+      go : (root x m : ℕ) → Memᴰ root (roots p) → Stands (expected_of p root) (sensitive_marks p) x m → has placed x ≡ true → has (eligible_marks p) m ≡ true → Dec (end < get_or placed x 0) → (has placed m ≡ true) ⊎ (get_or notes.asked m 0 ≤ get_or placed x 0)
       go root x m i s c g (no a) = b.all root x m i s c (omega arith) g
-      go root x m i s c g (yes a) = let r = place h x c in absurd (none r.0 (omega (arith, a, r.3)) r.1 (subst (λ (y : ℕ). has (sensitive_marks p) y ≡ true) (sym r.2) s.early))
+      go root x m i s c g (yes a) =
+          let r = place h x c in
+          let z : end + (r.0 - end) ≡ r.0 = omega (arith, a, r.3) in
+          absurd (none (r.0 - end) (omega (arith, a, r.1, r.3, length-drop end list)) (subst (λ (y : ℕ). has (sensitive_marks p) y ≡ true) (sym (get_or-drop end list (r.0 - end) 0 ∙ ap (λ (j : ℕ). get_or list j 0) z ∙ r.2)) s.early))
 
   -- every sensitive candidate is listed
-  pub none_open : ((m : ℕ) → m < length placed → has (sensitive_marks p) m ≡ true → has (candidate_marks p) m ≡ true → has placed m ≡ true) → length placed ≡ modules p → Batch p placed asked heads nexts count
+  pub none_open : ((m : ℕ) → m < length placed → has (sensitive_marks p) m ≡ true → has (candidate_marks p) m ≡ true → has placed m ≡ true) → length placed ≡ modules p → Batch p placed notes (length list)
   none_open shut n = record {
+    settling = b.settling;
     len = b.len;
-    room = b.room;
-    places = b.places;
-    threads = b.threads;
     sound = b.sound;
     all = λ root x m i s c l g.
         let e = sym (eligible-has p m) ∙ g in

@@ -1,14 +1,18 @@
 // For crates above, on tested tables.
-ghost use Rattle.std.specs.Prelude.{◌≡◌, ℕ, ◌<◌, ◌≤◌, true, false, length, ◌≢◌, slice_index};
+ghost use Rattle.std.specs.Prelude.{◌≡◌, ℕ, ◌+◌, ◌<◌, ◌≤◌, true, false, length, ◌≢◌, slice_index, replicate};
 ghost use Rattle.lists.specs.Words.{has};
 ghost use Rattle.tables.specs.Accepted.{Below};
-ghost use Rattle.worklist_batch.specs.inner.Noting.{Noting, Noted, Batching, Advanced};
+ghost use Rattle.suffix_places.specs.inner.Places.{never};
+ghost use Rattle.worklist_taking.specs.inner.State.{Batch};
+ghost use Rattle.worklist_batch.specs.inner.Noting.{NoteRoom, Noting, Batching, Advanced};
 
 use lists::inner::fill;
 use marks::inner::any_open;
+use request_queue::inner::Queue;
 use rule_sets::inner::RuleSets;
+use std::marker::Model;
 use suffix_places::inner::{NEVER, lower_entries};
-use tables::inner::thread;
+use threads::inner::{Threads, thread};
 
 // Whether a module of a list is sensitive.
 fn any_sensitive(part: &[u32], sensitive: &[u32]) -> bool
@@ -24,57 +28,99 @@ fn any_sensitive(part: &[u32], sensitive: &[u32]) -> bool
     false
 }
 
-// Notes after how many takings rule (i) asks for each module, for all that are listed.
-fn note_asked(
-    sets: &RuleSets,
-    placed: &[u32],
-    settled: &mut [u32],
-    asked: &mut [u32],
-    heads: &mut [u32],
-    nexts: &mut [u32],
-)
-    requires noting { Noting sets.now placed.now settled.old asked.old heads.old nexts.old }
-    ensures { Noted sets.now placed.now settled.new asked.new heads.new nexts.new }
-{
-    fill(asked, NEVER);
-    lower_entries(
-        sets.current,
-        sets.roots,
-        sets.sensitive,
-        sets.eligible,
-        placed,
-        settled,
-        asked,
-    );
-    thread(asked, heads, nexts);
+// What is noted for rule (i), in lent slices: the settled roots, and of each module the number of takings after which the rule asks for it, threaded.
+// Contracts see it without the threads.
+#[derive(Drop)]
+pub struct Notes<'a> {
+    settled: &'a mut [u32],
+    asked: &'a mut [u32],
+    heads: &'a mut [u32],
+    nexts: &'a mut [u32],
+}
+
+impl<'a> Model for Notes<'a> {
+    ghost use Rattle.worklist_taking.specs.inner.State.{RuleNotes};
+    ghost use Rattle.worklist_batch.specs.inner.Noting.{Led};
+
+    ghost Value = { RuleNotes };
+
+    ghost view = { λ n. record { settled = n.settled.now; asked = n.asked.now } };
+
+    ghost invariant = { λ n. Led n.asked.now n.heads.now n.nexts.now };
+}
+
+impl<'a> Notes<'a> {
+    // The rule asks for nothing; `settled` is as it is lent.
+    pub fn new(
+        settled: &'a mut [u32],
+        asked: &'a mut [u32],
+        heads: &'a mut [u32],
+        nexts: &'a mut [u32],
+    ) -> Notes<'a>
+        requires { NoteRoom asked.old heads.old nexts.old }
+        ensures { result ≡ record { settled = settled.old; asked = replicate (length asked.old) never } }
+    {
+        fill(asked, NEVER);
+        thread(asked, heads, nexts);
+        Notes {
+            settled,
+            asked,
+            heads,
+            nexts,
+        }
+    }
+
+    // The modules by the number of takings.
+    pub fn threads<'b>(&'b self) -> Threads<'b>
+        ensures { result ≡ record { values = self.now.asked; places = never + 1 } }
+    {
+        Threads {
+            column: self.asked,
+            heads: self.heads,
+            nexts: self.nexts,
+        }
+    }
+
+    // Notes after how many takings the rule asks for each module, for all that are listed.
+    fn note(&mut self, sets: &RuleSets, placed: &[u32])
+        requires noting { Noting sets.now placed.now self.old }
+        ensures { (end : ℕ) → Batch sets.now placed.now self.new end }
+    {
+        // one by one: Rattle doesn't cover a call with two fields of `self`
+        let settled = &mut *self.settled;
+        let asked = &mut *self.asked;
+        let heads = &mut *self.heads;
+        let nexts = &mut *self.nexts;
+        fill(asked, NEVER);
+        lower_entries(
+            sets.current,
+            sets.roots,
+            sets.sensitive,
+            sets.eligible,
+            placed,
+            settled,
+            asked,
+        );
+        thread(asked, heads, nexts);
+    }
 }
 
 // Where place k starts a new batch, notes what rule (i) asks for: nothing new where none of the batch is sensitive, or every sensitive candidate is listed.
 // The place where the batch ends.
-pub fn advance(
-    sets: &RuleSets,
-    placed: &[u32],
-    list: &[u32],
-    settled: &mut [u32],
-    asked: &mut [u32],
-    heads: &mut [u32],
-    nexts: &mut [u32],
-    count: usize,
-    k: usize,
-    end: usize,
-) -> usize
-    requires batch { Batching sets.now placed.now list.now settled.old asked.old heads.old nexts.old count k end }
-    ensures { Advanced sets.now placed.now count k settled.new asked.new heads.new nexts.new result }
+pub fn advance(sets: &RuleSets, list: &Queue, notes: &mut Notes, k: usize, end: usize) -> usize
+    requires batch { Batching sets.now list.now notes.old k end }
+    ensures { Advanced sets.now list.now k notes.new result }
 {
     if k < end {
         return end;
     }
-    if !any_sensitive(&list[end..count], sets.sensitive) {
+    let count = list.len();
+    if !any_sensitive(list.since(end), sets.sensitive) {
         return count;
     }
-    if !any_open(sets.sensitive, sets.candidates, placed) {
+    if !any_open(sets.sensitive, sets.candidates, list.marks()) {
         return count;
     }
-    note_asked(sets, placed, settled, asked, heads, nexts);
+    notes.note(sets, list.marks());
     count
 }

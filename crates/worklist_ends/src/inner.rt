@@ -1,51 +1,39 @@
 // For crates above, on tested tables.
-ghost use Rattle.std.specs.Prelude.{◌≡◌, ℕ, ◌≤◌, length, slice_index};
+ghost use Rattle.std.specs.Prelude.{◌≡◌, ◌≤◌, ◌++◌, length, drop};
 ghost use Rattle.lists.specs.Words.{has, marks_of};
 ghost use Rattle.tables.specs.Accepted.{Below};
-ghost use Rattle.tables.specs.Refusal.{module_limit};
-ghost use Rattle.request_queue.specs.inner.Growing.{Listed};
-ghost use Rattle.worklist_ends.specs.inner.Ends.{Seeded, ListWritten};
+ghost use Rattle.request_queue.specs.inner.Growing.{Grown, given, chosen};
 
-use request_queue::inner::push;
+use request_queue::inner::Queue;
 
-// Lists the eligible seeds. How many are listed.
-#[tactic(auto, using(crate::proofs::Ends::seeded_pass))]
-pub fn list_seeds(seeds: &[u32], eligible: &[u32], placed: &mut [u32], list: &mut [u32]) -> usize
+// Lists the eligible seeds.
+pub fn list_seeds(seeds: &[u32], eligible: &[u32], list: &mut Queue)
     requires seeds { Below (length eligible.now) seeds.now }
-    requires eligible { length placed.old ≡ length eligible.now }
-    requires few { length eligible.now ≤ module_limit }
-    requires none { Listed placed.old list.old 0 }
-    ensures { Seeded seeds.now eligible.now placed.old list.old placed.new list.new result }
+    requires eligible { length list.old.marks ≡ length eligible.now }
+    ensures { Grown (given (chosen eligible.now) seeds.now) list.old list.new }
 {
-    let mut end = 0;
     for &m in seeds {
         if eligible[m as usize] == 0 {
             continue;
         }
-        end = push(placed, list, end, m);
-    }
-    end
-}
-
-// Makes the places of a list marks.
-pub fn mark_listed(placed: &mut [u32])
-    ensures { placed.new ≡ marks_of (has placed.old) (length placed.old) }
-{
-    for place in placed.iter_mut() {
-        *place = u32::from(*place != 0);
+        list.push(m);
     }
 }
 
-// Writes the list that has these places.
-pub fn write_listed(placed: &[u32], list: &mut [u32])
-    requires few { length placed.now ≤ module_limit }
-    requires room { (m : ℕ) → slice_index placed.now m ≤ length list.old }
-    ensures { ListWritten placed.now list.old list.new }
+// Marks the listed ones.
+pub fn mark_members(list: &Queue, marks: &mut [u32])
+    requires { length marks.old ≡ length list.now.marks }
+    ensures { marks.new ≡ marks_of (has list.now.marks) (length marks.old) }
 {
-    for (m, &end) in placed.iter().enumerate() {
-        if end == 0 {
-            continue;
-        }
-        list[end as usize - 1] = m as u32;
+    for (m, &place) in list.marks().iter().enumerate() {
+        marks[m] = u32::from(place != 0);
     }
+}
+
+// Writes the list from place 0.
+pub fn write_listed(list: &Queue, out: &mut [u32])
+    requires { length list.now.list ≤ length out.old }
+    ensures { out.new ≡ list.now.list ++ drop (length list.now.list) out.old }
+{
+    out[..list.len()].copy_from_slice(list.since(0));
 }

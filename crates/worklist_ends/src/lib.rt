@@ -1,4 +1,4 @@
-// The ends of a worklist: the eligible seeds are listed first, and the places of the last list are made marks.
+// The ends of a worklist: the eligible seeds are listed first, and the last list is marked and written.
 #![tactic(auto)]
 
 pub mod inner;

@@ -1,16 +1,15 @@
 -- The edges that are written are those of the request graph.
 -- Assumes nothing.
-use Rattle.std.specs.Prelude.{◌≡◌, ℕ, ◌<◌, ◌≤◌, List, length, get_or, take}
-use mathlib.Core.Path.{sym, subst, ◌∙◌}
+use Rattle.std.specs.Prelude.{◌≡◌, ℕ, ◌<◌, ◌≤◌, List, [], length, get_or}
+use mathlib.Core.Path.{refl, subst}
 use mathlib.Core.Logic.{⊎_elim}
 use mathlib.Core.List.{Memᴰ}
 use native.Mathlib.Omega.{arith}
-use lib.Seq.{get_or-take, length-take-le}
 use Rattle.tables.specs.Project.{Project}
 use Rattle.tables.specs.Readings.{values_of}
-use Rattle.tables.specs.Threads.{Threads}
 use Rattle.tables.proofs.OwnerRows.{values-row, row-values}
-use Rattle.request_edges.specs.inner.Edges.{RowsBelow, Threadable}
+use Rattle.strong_connection.specs.inner.Graph.{Graph}
+use Rattle.request_edges.specs.inner.Edges.{RowsBelow, EdgeRows}
 use Rattle.request_graph.specs.inner.Requests.{RequestEdge, Requests}
 use Rattle.worklist_step.specs.inner.Step.{nodes}
 use Rattle.worklist_taking.specs.inner.State.{GraphOf}
@@ -35,49 +34,21 @@ edge_in p u v e =
     q)
     e
 
-module _ (p : Project) (old old' from to : List ℕ) (count : ℕ) (a : Requests p old old' from to count) (room : count ≤ length from) (same : length to ≡ length from) where
-  abbrev from' : List ℕ
-  from' = take count from
+-- the edges that are added to none
+module _ (p : Project) (room : ℕ) (e : EdgeRows) (a : Requests p (record { from = []; to = []; room = room }) e) where
+  edge_at : (i : ℕ) → i < length e.from → RequestEdge p (get_or e.from i 0) (get_or e.to i 0)
+  edge_at i l = a.each i (omega arith) l
 
-  abbrev to' : List ℕ
-  to' = take count to
+  pub edges-graph : length e.to ≡ length e.from → Graph e.from e.to nodes
+  edges-graph same = record { lengths = same; froms = λ i l. (edge_in p _ _ (edge_at i l)).0; tos = λ i l. (edge_in p _ _ (edge_at i l)).1 }
 
-  pub from-length : length from' ≡ count
-  from-length = length-take-le count from room
-
-  pub to-length : length to' ≡ count
-  to-length = length-take-le count to (omega (arith, room, same))
-
-  from_at : (i : ℕ) → i < count → get_or from' i 0 ≡ get_or from i 0
-  from_at i l = get_or-take count from i 0 l
-
-  to_at : (i : ℕ) → i < count → get_or to' i 0 ≡ get_or to i 0
-  to_at i l = get_or-take count to i 0 l
-
-  edge_at : (i : ℕ) → i < count → RequestEdge p (get_or from i 0) (get_or to i 0)
-  edge_at i l = a.new i (omega arith) l
-
-  pub edges-threadable : (heads nexts : List ℕ) → length heads ≡ nodes → length nexts ≡ count → Threadable from' heads nexts
-  edges-threadable heads nexts n m = record {
-    rows = omega (arith, from-length, a.few);
-    room = omega (arith, from-length, m);
-    froms = λ i l. let b : i < count = omega (arith, l, from-length) in omega (arith, n, from_at i b, (edge_in p (get_or from i 0) (get_or to i 0) (edge_at i b)).0);
-  }
-
-  pub edges-graph : (heads nexts : List ℕ) → length heads ≡ nodes → Threads from' heads nexts → GraphOf p from' to' heads nexts
-  edges-graph heads nexts n t = record {
-    linked = record {
-      lengths = to-length ∙ sym from-length;
-      tos = λ i l. let b : i < count = omega (arith, l, from-length) in omega (arith, to_at i b, (edge_in p (get_or from i 0) (get_or to i 0) (edge_at i b)).1);
-      threads = t;
-      heads-room = omega (arith, n);
-    };
-    there = λ u v e.
-        let r = a.all u v e in
-        subst (λ (x : ℕ). Memᴰ x (values_of from' to' u)) (to_at r.0 r.1 ∙ r.3)
-        (subst (λ (x : ℕ). Memᴰ (get_or to' r.0 0) (values_of from' to' x)) (from_at r.0 r.1 ∙ r.2) (row-values from' to' r.0 (omega (arith, r.1, from-length))));
+  pub graph-of : GraphOf p (record { from = e.from; to = e.to; places = nodes })
+  graph-of = record {
+    places = refl;
+    there = λ u v x.
+        let r = a.new u v x in
+        subst (λ (y : ℕ). Memᴰ y (values_of e.from e.to u)) r.3 (subst (λ (y : ℕ). Memᴰ (get_or e.to r.0 0) (values_of e.from e.to y)) r.2 (row-values e.from e.to r.0 r.1));
     back = λ u v i.
-        let r = values-row from' to' u v i in
-        let b : r.0 < count = omega (arith, r.1, from-length) in
-        subst (λ (x : ℕ). RequestEdge p x v) (sym (from_at r.0 b) ∙ r.2) (subst (λ (x : ℕ). RequestEdge p (get_or from r.0 0) x) (sym (to_at r.0 b) ∙ r.3) (edge_at r.0 b));
+        let r = values-row e.from e.to u v i in
+        subst (λ (y : ℕ). RequestEdge p y v) r.2 (subst (RequestEdge p (get_or e.from r.0 0)) r.3 (edge_at r.0 r.1));
   }

@@ -1,76 +1,63 @@
 -- A run as it is written to two slices.
 -- Assumes nothing.
-use Rattle.std.specs.Prelude.{◌≡◌, ℕ, ◌<◌, ◌≤◌, List, ◌++◌, length, get_or, take, drop}
-use mathlib.Core.Path.{refl, sym, ap, subst, ◌∙◌}
+use Rattle.std.specs.Prelude.{◌≡◌, ℕ, ◌+◌, ◌-◌, ◌<◌, ◌≤◌, List, ◌++◌, length, get_or, take, drop}
+use mathlib.Core.Path.{sym, ap, ◌∙◌}
 use native.Mathlib.Omega.{arith}
-use native.Mathlib.Decide.{ℕ_discrete}
-use lib.Seq.{get_or-take, take-take, length-take-le}
-use Rattle.lists.proofs.Laws.{mark-in}
+use lib.ListN.{length-drop, take-append-drop}
+use lib.Seq.{get_or-take, get_or-drop, length-take-le, ext_get_or}
 use Rattle.tables.specs.Project.{Project}
 use Rattle.tables.specs.Readings.{modules}
-use Rattle.takings.specs.Taking.{Takes}
 use Rattle.request_queue.specs.inner.Growing.{Listed}
-use Rattle.request_queue.proofs.Growing.{count_fits}
-use Rattle.worklist_taking.specs.inner.State.{rule_of, start_of}
-use Rattle.worklist_taking.proofs.Places.{front_length}
-use Rattle.worklist_ends.specs.inner.Ends.{ListWritten}
-use Rattle.worklist_ends.proofs.Ends.{front_rest, list_written}
-use Rattle.worklist.specs.inner.Taking.{Noted, TakenAll}
+use Rattle.request_queue.proofs.Growing.{listed-fits}
+use Rattle.worklist_taking.proofs.Places.{place, at_place}
+use Rattle.worklist.specs.inner.Taking.{Noted}
 use Rattle.worklist_run.specs.inner.Run.{Ran}
 use Rattle.worklist_plan.specs.inner.Written.{RunWritten}
 
--- no place is past the end of its list
-pub place-fits : {placed list : List ℕ} {count : ℕ} → Listed placed list count → (m : ℕ) → get_or placed m 0 ≤ count
-place-fits {placed} {list} {count} h m = go (ℕ_discrete (get_or placed m 0) 0)
+-- marks have one list
+listed-same : {marks xs ys : List ℕ} → Listed marks xs → Listed marks ys → xs ≡ ys
+listed-same {marks} {xs} {ys} h k =
+    ext_get_or 0 xs ys (sym h.all ∙ k.all)
+    (λ i l.
+    let r = place k (get_or xs i 0) (at_place h i l) in
+    let e : r.0 ≡ i = omega (arith, (h.placed i l).1, r.3) in
+    sym r.2 ∙ ap (λ (j : ℕ). get_or ys j 0) e)
+
+pub run-written : {p : Project} {seeds marks list lengths lengths' : List ℕ} {count : ℕ} (out : List ℕ) → Listed marks list → Ran p seeds marks lengths lengths' count → modules p ≤ length lengths
+    → RunWritten p seeds out lengths (list ++ drop (length list) out) lengths' (length list)
+run-written {p} {seeds} {marks} {list} {lengths} {lengths'} {count} out h r room = record {
+  members = r.list;
+  sizes = sizes;
+  run = record {
+    sized = sizes-length;
+    within = λ k l. rw (size-at k l) (noted.within k l);
+    each = λ k l. rw (size-at k l) (noted.takes k l);
+    all = rw r.taken.count at r.taken.takes;
+  };
+  count = ap length same;
+  listed = ap (λ (xs : List ℕ). xs ++ drop (length xs) out) same;
+  measured = sym (take-append-drop n lengths') ∙ ap (λ (xs : List ℕ). sizes ++ xs) rest ∙ ap (λ (j : ℕ). sizes ++ drop j lengths) (sym sizes-length);
+}
   where
-    go : Dec (get_or placed m 0 ≡ 0) → get_or placed m 0 ≤ count
-    go (yes z) = omega arith
-    go (no n) = let r = h.listed m (mark-in (get_or placed m 0) n) in omega (arith, r.1, (h.placed r.0 r.1).1, ap (λ (x : ℕ). get_or placed x 0) r.2)
+    same : list ≡ r.list
+    same = listed-same h r.taken.listed
 
--- no more are listed than there are modules
-pub run_fits : {p : Project} {seeds placed lengths lengths' : List ℕ} {count : ℕ} → Ran p seeds placed lengths lengths' count → count ≤ modules p
-run_fits r = omega (arith, count_fits r.taken.listed, r.taken.listed.size, r.taken.size)
+    n : ℕ
+    n = length r.list
 
-pub run-written : (p : Project) (seeds placed lengths lengths' out out' : List ℕ) (count : ℕ) → Ran p seeds placed lengths lengths' count → modules p ≤ length out → modules p ≤ length lengths → ListWritten placed out out'
-    → RunWritten p seeds out lengths out' lengths' count
-run-written p seeds placed lengths lengths' out out' count r room room' w =
-    record {
-      members = members;
-      sizes = sizes;
-      run = record {
-        sized = sizes-length ∙ sym (front_length t.listed);
-        within = λ k l. omega (arith, noted.within k (before k l), size-at k (before k l), front_length t.listed);
-        each = λ k l. subst (λ (xs : List ℕ). Takes (rule_of p) (start_of p seeds) xs k) (sym (front_at k (before k l))) (noted.takes k (before k l));
-        all = subst (Takes (rule_of p) (start_of p seeds) members) (sym (front_length t.listed)) t.takes;
-      };
-      count = sym (front_length t.listed);
-      listed = list_written w t.listed (omega (arith, fits)) ∙ ap (λ (j : ℕ). members ++ drop j out) (sym (front_length t.listed));
-      measured = front_rest lengths' lengths lengths' count (omega (arith, fits, noted.room)) (omega (arith, fits)) noted.room (λ i l. refl) noted.rest ∙ ap (λ (j : ℕ). sizes ++ drop j lengths) (sym sizes-length);
-    }
-  where
-    t : TakenAll p seeds placed r.list lengths lengths' count
-    t = r.taken
-
-    noted : Noted p seeds r.list count lengths lengths' count
-    noted = r.taken.noted
-
-    members : List ℕ
-    members = take count r.list
+    noted : Noted p seeds r.list lengths lengths' n
+    noted = rw r.taken.count at r.taken.noted
 
     sizes : List ℕ
-    sizes = take count lengths'
+    sizes = take n lengths'
 
-    fits : count ≤ modules p
-    fits = run_fits r
+    sizes-length : length sizes ≡ n
+    sizes-length = length-take-le n lengths' (omega (arith, listed-fits r.taken.listed, r.taken.size, room, noted.room))
 
-    before : (k : ℕ) → k < length members → k < count
-    before k l = omega (arith, l, front_length t.listed)
+    size-at : (k : ℕ) → k < n → get_or sizes k 0 ≡ get_or lengths' k 0
+    size-at k l = get_or-take n lengths' k 0 l
 
-    sizes-length : length sizes ≡ count
-    sizes-length = length-take-le count lengths' (omega (arith, fits, room', noted.room))
-
-    size-at : (k : ℕ) → k < count → get_or sizes k 0 ≡ get_or lengths' k 0
-    size-at k l = get_or-take count lengths' k 0 l
-
-    front_at : (k : ℕ) → k < count → take (get_or sizes k 0) members ≡ take (get_or lengths' k 0) r.list
-    front_at k l = ap (λ (j : ℕ). take j members) (size-at k l) ∙ take-take (get_or lengths' k 0) count r.list (noted.within k l)
+    rest : drop n lengths' ≡ drop n lengths
+    rest =
+        ext_get_or 0 (drop n lengths') (drop n lengths) (length-drop n lengths' ∙ ap (λ (k : ℕ). k - n) noted.room ∙ sym (length-drop n lengths))
+        (λ i l. get_or-drop n lengths' i 0 ∙ noted.rest (n + i) (omega arith) ∙ sym (get_or-drop n lengths i 0))

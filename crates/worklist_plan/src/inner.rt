@@ -2,6 +2,7 @@
 ghost use Rattle.std.specs.Prelude.{◌≡◌, ◌≤◌, length};
 ghost use Rattle.lists.specs.Words.{ones};
 ghost use Rattle.tables.specs.Readings.{modules};
+ghost use Rattle.tables.specs.Accepted.{Below};
 ghost use Rattle.wrap_plan.specs.Promise.{plan_of};
 ghost use Rattle.wrap_plan.specs.inner.Seeded.{Seeds};
 ghost use Rattle.worklist_run.specs.inner.Run.{Ran};
@@ -9,53 +10,51 @@ ghost use Rattle.worklist_plan.specs.inner.Written.{RunWritten};
 
 use current_columns::inner::Current;
 use lists::inner::count_marked;
-use request_edges::inner::thread_edges;
-use request_graph::inner::request_edges;
+use request_edges::inner::EdgeList;
+use request_graph::inner::{EDGES, NODES, request_edges};
+use request_queue::inner::Queue;
 use rule_sets::inner::{RuleSets, RuleSpace, read_sets};
+use strong_connection::inner::Digraph;
 use table::MODULE_LIMIT;
-use worklist_ends::inner::{mark_listed, write_listed};
-use worklist_run::inner::{NODES, run_linked};
-
-// The most edges that a request graph has.
-const EDGES: usize = 155648;
+use worklist_ends::inner::{mark_members, write_listed};
+use worklist_run::inner::run_linked;
 
 // Makes the request graph, and takes the modules of a worklist over it.
-fn run_sets(sets: &RuleSets, seeds: &[u32], placed: &mut [u32], lengths: &mut [u32]) -> usize
-    requires seeds { Seeds sets.now seeds.now (length placed.old) }
-    requires room { length placed.old ≤ length lengths.old }
-    ensures { Ran sets.now seeds.now placed.new lengths.old lengths.new result }
+fn run_sets(sets: &RuleSets, seeds: &[u32], list: &mut Queue, lengths: &mut [u32]) -> usize
+    requires seeds { Below (modules sets.now) seeds.now }
+    requires size { length list.old.marks ≡ modules sets.now }
+    requires room { modules sets.now ≤ length lengths.old }
+    ensures { Ran sets.now seeds.now list.new.marks lengths.old lengths.new result }
 {
     let mut from = [0u32; EDGES];
     let mut to = [0u32; EDGES];
-    let count = request_edges(
+    let mut edges = EdgeList::new(&mut from, &mut to);
+    request_edges(
         sets.current,
-        sets.from,
-        sets.to,
+        sets.imports.to(),
+        sets.imports.from(),
         sets.labels,
         sets.sensitive,
         sets.eligible,
         sets.candidates,
-        &mut from,
-        &mut to,
+        &mut edges,
     );
-    let from = &from[..count];
-    let to = &to[..count];
     let mut heads = [0u32; NODES];
     let mut nexts = [0u32; EDGES];
-    let nexts = &mut nexts[..count];
-    thread_edges(from, &mut heads, nexts);
-    run_linked(sets, from, to, &heads, nexts, seeds, placed, lengths)
+    let graph = Digraph::new(edges.sources(), edges.targets(), &mut heads, &mut nexts);
+    run_linked(sets, &graph, seeds, list, lengths)
 }
 
 // Takes the modules of a worklist, of a table.
-fn run_table(current: &Current, seeds: &[u32], placed: &mut [u32], lengths: &mut [u32]) -> usize
-    requires seeds { Seeds current.now seeds.now (length placed.old) }
-    requires room { length placed.old ≤ length lengths.old }
-    ensures { Ran current.now seeds.now placed.new lengths.old lengths.new result }
+fn run_table(current: &Current, seeds: &[u32], list: &mut Queue, lengths: &mut [u32]) -> usize
+    requires seeds { Below (modules current.now) seeds.now }
+    requires size { length list.old.marks ≡ modules current.now }
+    requires room { modules current.now ≤ length lengths.old }
+    ensures { Ran current.now seeds.now list.new.marks lengths.old lengths.new result }
 {
     let mut space = RuleSpace::EMPTY;
     let sets = read_sets(current, &mut space);
-    run_sets(&sets, seeds, placed, lengths)
+    run_sets(&sets, seeds, list, lengths)
 }
 
 // The plan from seeds by a worklist, as marks. How many are marked.
@@ -64,10 +63,13 @@ pub fn plan_by_takings(current: &Current, seeds: &[u32], plan: &mut [u32]) -> us
     ensures plan { plan.new ≡ plan_of current.now seeds.now }
     ensures count { result ≡ ones (plan_of current.now seeds.now) }
 {
+    let n = current.modules();
+    let mut placed = [0u32; MODULE_LIMIT];
+    let mut queue = [0u32; MODULE_LIMIT];
+    let mut taken = Queue::new(&mut placed[..n], &mut queue[..n]);
     let mut lengths = [0u32; MODULE_LIMIT];
-    let lengths = &mut lengths[..current.modules()];
-    run_table(current, seeds, plan, lengths);
-    mark_listed(plan);
+    run_table(current, seeds, &mut taken, &mut lengths);
+    mark_members(&taken, plan);
     count_marked(plan)
 }
 
@@ -83,9 +85,12 @@ pub fn list_takings(
     requires lengths { modules current.now ≤ length lengths.old }
     ensures { RunWritten current.now seeds.now list.old lengths.old list.new lengths.new result }
 {
+    let n = current.modules();
     let mut placed = [0u32; MODULE_LIMIT];
-    let placed = &mut placed[..current.modules()];
-    let count = run_table(current, seeds, placed, lengths);
-    write_listed(placed, list);
+    let mut queue = [0u32; MODULE_LIMIT];
+    let mut taken = Queue::new(&mut placed[..n], &mut queue[..n]);
+    run_table(current, seeds, &mut taken, lengths);
+    let count = taken.len();
+    write_listed(&taken, list);
     count
 }

@@ -1,7 +1,7 @@
 -- A complete chain of takings is the plan.
 -- Assumes nothing.
-use Rattle.std.specs.Prelude.{◌≡◌, ℕ, List, length, take}
-use mathlib.Core.Path.{sym, ap, subst, ◌∙◌}
+use Rattle.std.specs.Prelude.{◌≡◌, ℕ, List, length}
+use mathlib.Core.Path.{sym, ap, ◌∙◌}
 use Rattle.lists.specs.Words.{elem, has, marks_of}
 use Rattle.lists.proofs.Laws.{iff-eq, marks_of-cong}
 use Rattle.tables.specs.Project.{Project}
@@ -14,7 +14,7 @@ use Rattle.wrap_plan.specs.Promise.{plan_of}
 use Rattle.takings.specs.Taking.{set_of, Takes}
 use Rattle.takings.proofs.Takings.{taken-closes}
 use Rattle.worklist_taking.specs.inner.State.{rule_of, start_of}
-use Rattle.worklist_taking.proofs.Places.{front_length, elem-listed, listed-elem}
+use Rattle.worklist_taking.proofs.Places.{elem-listed, listed-elem}
 use Rattle.worklist_run.specs.inner.Run.{Ran}
 
 -- a list whose members are all taken, each when its turn came, is the plan
@@ -25,11 +25,9 @@ takings-plan p seeds list t =
     ∙ taken-closes (rule_of p) (asked-monotone (orders_of p) (labels_of p) p) (start_of p seeds) (start-bits (orders_of p) (labels_of p) p seeds) t
 
 -- so the listed modules are
-pub taken-plan : (p : Project) (seeds placed lengths lengths' : List ℕ) (count : ℕ) → Ran p seeds placed lengths lengths' count → marks_of (has placed) (length placed) ≡ plan_of p seeds
+pub taken-plan : (p : Project) (seeds placed lengths lengths' : List ℕ) (count : ℕ) → Ran p seeds placed lengths lengths' count → marks_of (has placed) (modules p) ≡ plan_of p seeds
 taken-plan p seeds placed lengths lengths' count r =
     let t = r.taken in
-    let list = r.list in
-    ap (marks_of (has placed)) t.size
-    ∙ marks_of-cong (has placed) (λ (m : ℕ). elem m (take count list)) (modules p)
-    (λ m l. iff-eq (has placed m) (elem m (take count list)) (listed-elem t.listed m) (elem-listed t.listed m))
-    ∙ takings-plan p seeds (take count list) (subst (Takes (rule_of p) (start_of p seeds) (take count list)) (sym (front_length t.listed)) t.takes)
+    marks_of-cong (has placed) (λ (m : ℕ). elem m r.list) (modules p)
+    (λ m l. iff-eq (has placed m) (elem m r.list) (listed-elem t.listed m) (elem-listed t.listed m))
+    ∙ takings-plan p seeds r.list (rw t.count at t.takes)

@@ -1,48 +1,38 @@
--- Where a run starts: nothing is listed, met, settled or noted.
+-- Where a run starts: the part of a zeroed array that is lent for the roots is blank, and the first notes are right where nothing is listed.
 -- Assumes nothing.
-use Rattle.std.specs.Prelude.{◌≡◌, ℕ, zero, suc, ◌+◌, true, List, [], ◌∷◌, length, get_or, replicate}
-use mathlib.Core.Path.{refl, sym, ap, ◌∙◌}
+use Rattle.std.specs.Prelude.{◌≡◌, ℕ, zero, suc, ◌≤◌, List, ◌∷◌, length, take, replicate}
+use mathlib.Core.Path.{refl, ap, ◌∙◌}
 use native.Mathlib.Omega.{arith}
-use lib.ListN.{get_or-replicate, length-replicate}
-use Rattle.lists.specs.Words.{has, ones}
+use lib.ListN.{length-replicate, get_or-replicate}
 use Rattle.tables.specs.Project.{Project}
 use Rattle.tables.specs.Readings.{modules}
-use Rattle.tables.specs.Threads.{Threads}
 use Rattle.wrap_rules.specs.Plan.{roots}
 use Rattle.suffix_rule.specs.inner.Suffix.{Settled}
-use Rattle.request_queue.specs.inner.Growing.{Listed}
+use Rattle.strong_connection.specs.inner.Graph.{EdgeColumns}
+use Rattle.reached_modules.proofs.Choosing.{few-roots}
+use Rattle.rule_sets.specs.inner.Sets.{Sets}
+use Rattle.rule_sets.proofs.Blank.{blank-none}
 use Rattle.suffix_places.specs.inner.Places.{never}
-use Rattle.worklist_step.specs.inner.Step.{nodes}
-use Rattle.worklist.specs.inner.Taking.{Fresh}
+use Rattle.worklist_taking.specs.inner.State.{Batch}
 
--- a set without members
-abbrev pub None : List ℕ → Type 0
-None s = (x : ℕ) → has s x ≡ true → ⊥
+take-zeros : (n K : ℕ) → n ≤ K → take {A = ℕ} n (replicate K 0) ≡ replicate n 0
+take-zeros zero K l = refl
+take-zeros (suc n) zero l = absurd (omega arith)
+take-zeros (suc n) (suc K) l = ap (λ (xs : List ℕ). 0 ∷ xs) (take-zeros n K (omega arith))
 
-none-ones : (s : List ℕ) → None s → ones s ≡ 0
-none-ones [] h = refl
-none-ones (zero ∷ s) h = none-ones s (λ x. h (suc x))
-none-ones (suc y ∷ s) h = absurd (h 0 refl)
+module _ {p : Project} {labels root_list sensitives eligibles candidates : List ℕ} {imports : EdgeColumns} (s : Sets p labels root_list sensitives eligibles candidates imports) where
+  pub roots_fit : length root_list ≤ 16384
+  roots_fit = omega (arith, ap length s.root, few-roots p s.accepted)
 
-pub none-listed : (marks queue : List ℕ) → length queue ≡ length marks → None marks → Listed marks queue 0
-none-listed marks queue n h = record { size = n; all = none-ones marks h; placed = λ i l. absurd (omega arith); listed = λ x e. absurd (h x e) }
+  pub none-settled : take {A = ℕ} (length root_list) (replicate 16384 0) ≡ replicate (length (roots p)) 0
+  none-settled = take-zeros (length root_list) 16384 roots_fit ∙ ap (λ (xs : List ℕ). replicate {A = ℕ} (length xs) 0) s.root
 
-module _ (p : Project) (marks queue placed list settled asked heads nexts : List ℕ) where
-  pub fresh : length marks ≡ nodes → length queue ≡ nodes → None marks → length placed ≡ modules p → length list ≡ modules p → None placed → length settled ≡ length (roots p) → None settled
-      → asked ≡ replicate (modules p) never → length heads ≡ never + 1 → length nexts ≡ modules p → Threads asked heads nexts → Fresh p marks queue placed list settled asked heads nexts
-  unfolding Settled
-  fresh m q none n l empty s unsettled a h r t = record {
-    size = n;
-    places = m;
-    none = none-listed marks queue (q ∙ sym m) none;
-    empty = none-listed placed list (l ∙ sym n) empty;
-    settling = record { size = s; settles = λ k i e. absurd (unsettled k e) };
-    batch = record {
-      len = ap length a ∙ length-replicate {A = ℕ} (modules p) never;
-      room = h;
-      places = r;
-      threads = t;
-      sound = λ i b e. absurd (omega (arith, e, ap (λ (xs : List ℕ). get_or xs i 0) a, get_or-replicate (modules p) i never 0 (omega (arith, b, length-replicate {A = ℕ} (modules p) never))));
-      all = λ root x i u v e. absurd (empty x e);
-    };
-  }
+-- no root is settled, and rule (i) asks for nothing
+pub batch-none : (p : Project) → Batch p (replicate (modules p) 0) (record { settled = replicate (length (roots p)) 0; asked = replicate (modules p) never }) 0
+unfolding Settled
+batch-none p = record {
+  settling = record { size = length-replicate {A = ℕ} (length (roots p)) 0; settles = λ k l e. absurd (blank-none (length (roots p)) k e) };
+  len = length-replicate {A = ℕ} (modules p) never;
+  sound = λ m l e. absurd (omega (arith, e, get_or-replicate (modules p) m never 0 l));
+  all = λ root x m i s c. absurd (blank-none (modules p) x c);
+}

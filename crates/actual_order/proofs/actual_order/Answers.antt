@@ -1,12 +1,8 @@
--- `actual_order::actual_order` keeps its promise: a refusal changes nothing, and an accepted call writes the entry's run.
+-- `actual_order::actual_order` keeps its promise: an accepted call writes the entry's run.
 -- Assumes nothing.
 use Rattle.std.proofs.Common.{arith}
-use Rattle.std.proofs.lemmas.Result.{err_from_is_err_and}
-use Rattle.actual_order.proofs.Promise.{project-refused, run-counted}
+use Rattle.actual_order.proofs.Promise.{run-counted}
 use Rattle.actual_order.proofs.actual_order.Goals as goal
-
-pub returns-in_err-current : goal.returns-in_err-current
-returns-in_err-current c = let p = err_from_is_err_and c.from_residual.result c.from_residual.ensures.1 in rw (p.1, p.2) (project-refused _ _ _ _ c.in_err-current.ensures)
 
 pub returns : goal.returns
 returns c =

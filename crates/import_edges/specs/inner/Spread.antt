@@ -5,8 +5,8 @@ use Rattle.lists.specs.Words.{up_to, has}
 use Rattle.walk.specs.Close.{Within}
 use Rattle.tables.specs.Project.{Project, missing}
 use Rattle.tables.specs.Readings.{is_import}
-use Rattle.tables.specs.Refusal.{module_limit, row_limit}
-use Rattle.strong_connection.specs.inner.Graph.{Linked}
+use Rattle.tables.specs.Refusal.{module_limit}
+use Rattle.strong_connection.specs.inner.Graph.{EdgeColumns}
 
 -- one row
 abbrev pub AlongRow : List ℕ → List ℕ → List ℕ → ℕ → Type 0
@@ -27,21 +27,13 @@ pub record Spreads (from to s t : List ℕ) : Type 0 where
   pub along : Along from to t
   pub under : Under from to s t
 
--- marks to spread a set on from: closed along threaded rows, and within what the set leads to
-pub record Spreadable (from to heads nexts s t : List ℕ) : Type 0 where
+-- marks to spread a set on from: closed along a graph's edges, and within what the set leads to
+pub record Spreadable (g : EdgeColumns) (s t : List ℕ) : Type 0 where
   pub few : length s ≤ module_limit
+  pub size : length s ≡ g.places
   pub len : length t ≡ length s
-  pub linked : Linked from to heads nexts (length s)
-  pub along : Along from to t
-  pub under : Under from to s t
-
--- two columns of one length, each row an edge between two of n modules, within 01's limits
-pub record ModuleGraph (from to : List ℕ) (n : ℕ) : Type 0 where
-  pub few : n ≤ module_limit
-  pub rows : length from ≤ row_limit
-  pub lengths : length to ≡ length from
-  pub froms : (i : ℕ) → i < length from → slice_index from i < n
-  pub tos : (i : ℕ) → i < length from → slice_index to i < n
+  pub along : Along g.from g.to t
+  pub under : Under g.from g.to s t
 
 -- the targets of the kind 0 records, the mark in the other rows
 unfoldable pub import_targets : List ℕ → List ℕ → List ℕ

@@ -5,12 +5,12 @@ use Rattle.lists.specs.Words.{has}
 use Rattle.tables.specs.Project.{Project}
 use Rattle.tables.specs.Readings.{modules}
 use Rattle.tables.specs.Accepted.{Below}
-use Rattle.tables.specs.Threads.{Threads}
+use Rattle.strong_connection.specs.inner.Graph.{EdgeColumns, Graph}
 use Rattle.eligibility.specs.Eligible.{eligible}
 use Rattle.marks.specs.Steps.{Row, Added}
 use Rattle.wrap_rules.specs.Rules.{import_asks}
 use Rattle.wrap_rules.specs.Plan.{reached}
-use Rattle.import_edges.specs.inner.Spread.{Along, Under, Spreads, ModuleGraph, record_targets, EdgesOf}
+use Rattle.import_edges.specs.inner.Spread.{Along, Under, Spreads, record_targets, EdgesOf}
 
 -- a candidate with a planned dependency and a kind 0 target that leads to the plan
 pub record Importer (importers targets dependency_module dependency candidates S leads : List ℕ) (m : ℕ) : Type 0 where
@@ -19,9 +19,7 @@ pub record Importer (importers targets dependency_module dependency candidates S
   pub leading : Row importers targets leads m
 
 -- the columns fit each other, over n modules
-pub record Importing (importers targets dependency_module dependency candidates : List ℕ) (n : ℕ) : Type 0 where
-  pub importing : Below n importers
-  pub imported : Below n targets
+pub record Importing (dependency_module dependency candidates : List ℕ) (n : ℕ) : Type 0 where
   pub dependencies : length dependency ≡ length dependency_module
   pub dependents : Below n dependency_module
   pub depended : Below n dependency
@@ -33,12 +31,11 @@ pub record Leading (p : Project) (leads plan : List ℕ) : Type 0 where
   pub along : Along (record_targets p) p.record_module leads
   pub under : Under (record_targets p) p.record_module plan leads
 
--- the edges of the import records, threaded by their targets
-pub record Edged (p : Project) (from to heads nexts : List ℕ) : Type 0 where
-  pub edges : EdgesOf p from to (length from)
-  pub graph : ModuleGraph to from (modules p)
-  pub threads : Threads to heads nexts
-  pub head_size : length heads ≡ modules p
+-- the import records as edges from target to importer
+pub record Edged (p : Project) (g : EdgeColumns) : Type 0 where
+  pub edges : EdgesOf p g.to g.from (length g.to)
+  pub graph : Graph g.from g.to (modules p)
+  pub places : g.places ≡ modules p
 
 -- what a pass leaves: just what the rule asks for with the plan as it was is added
 pub record ImportPassed (p : Project) (plan leads' plan' : List ℕ) (changed : Bool) : Type 0 where

@@ -33,18 +33,25 @@ pub record RowsBelow (sources : List ℕ) (a : ℕ) (targets : List ℕ) (b : �
 abbrev pub Rows : List ℕ → ℕ → List ℕ → ℕ → ℕ → ℕ → Type 0
 Rows sources a targets b u v = RowsBelow sources a targets b (length sources) u v
 
--- the edges E, at most so many as there are rows, are added to `count` edges
-pub record Adds (E : ℕ → ℕ → Type 0) (rows : ℕ) (from to : List ℕ) (count : ℕ) (from' to' : List ℕ) (count' : ℕ) : Type 0 where
-  pub froms : length from' ≡ length from
-  pub tos : length to' ≡ length to
-  pub more : count ≤ count'
-  pub few : count' ≤ count + rows
-  pub front : (i : ℕ) → i < count → (slice_index from' i ≡ slice_index from i) × (slice_index to' i ≡ slice_index to i)
-  pub new : (i : ℕ) → count ≤ i → i < count' → E (slice_index from' i) (slice_index to' i)
-  pub all : (u v : ℕ) → E u v → (i : ℕ) × (i < count') × (slice_index from' i ≡ u) × (slice_index to' i ≡ v)
+-- a list of edges, and how many it has room for
+pub record EdgeRows : Type 0 where
+  pub from : List ℕ
+  pub to : List ℕ
+  pub room : ℕ
 
--- a column that can be threaded through slices of these lengths
-pub record Threadable (from heads nexts : List ℕ) : Type 0 where
-  pub rows : length from ≤ edge_limit
-  pub room : length from ≤ length nexts
-  pub froms : (i : ℕ) → i < length from → slice_index from i < length heads
+-- room for so many edges more
+abbrev pub Room : ℕ → EdgeRows → Type 0
+Room rows e = length e.from + rows ≤ e.room
+
+-- an edge from u to v is in the list
+abbrev pub In : EdgeRows → ℕ → ℕ → Type 0
+In e u v = (i : ℕ) × (i < length e.from) × (slice_index e.from i ≡ u) × (slice_index e.to i ≡ v)
+
+-- the edges E, at most so many as there are rows, are added behind the earlier ones, which keep their places
+pub record Adds (E : ℕ → ℕ → Type 0) (rows : ℕ) (e e' : EdgeRows) : Type 0 where
+  pub room : e'.room ≡ e.room
+  pub few : length e'.from ≤ length e.from + rows
+  pub kept : length e.from ≤ length e'.from
+  pub front : (i : ℕ) → i < length e.from → (slice_index e'.from i ≡ slice_index e.from i) × (slice_index e'.to i ≡ slice_index e.to i)
+  pub each : (i : ℕ) → length e.from ≤ i → i < length e'.from → E (slice_index e'.from i) (slice_index e'.to i)
+  pub new : (u v : ℕ) → E u v → In e' u v

@@ -1,6 +1,6 @@
 -- What the rules (ii) to (iv) ask for as a graph, at a project.
 -- Assumes nothing.
-use Rattle.std.specs.Prelude.{◌≡◌, ℕ, ◌+◌, ◌≤◌, ◌⊎◌, List, length}
+use Rattle.std.specs.Prelude.{◌≡◌, ℕ, ◌⊎◌, List, length}
 use Rattle.tables.specs.Project.{Project, missing}
 use Rattle.tables.specs.Readings.{modules}
 use Rattle.chunk_cycles.specs.Cycles.{labels_of}
@@ -9,7 +9,7 @@ use Rattle.eligibility.specs.Eligible.{eligible_marks}
 use Rattle.marks.specs.Steps.{looked}
 use Rattle.wrap_rules.specs.inner.Passes.{candidate_marks}
 use Rattle.import_edges.specs.inner.Spread.{record_targets, EdgesOf}
-use Rattle.request_edges.specs.inner.Edges.{numbered, chosen, Rows, Adds}
+use Rattle.request_edges.specs.inner.Edges.{numbered, chosen, Rows, EdgeRows, Adds}
 
 -- where the places of each kind start: the requests, "is planned or leads to a planned module", "has a planned dependency", the labels, the chains
 abbrev pub at_request : ℕ
@@ -26,11 +26,6 @@ at_label = 16384
 
 abbrev pub at_chain : ℕ
 at_chain = 32768
-
--- room for so many edges more
-pub record Room (rows : ℕ) (from to : List ℕ) (count : ℕ) : Type 0 where
-  pub room : count + rows ≤ length from
-  pub same : length to ≡ length from
 
 -- the import records as edges
 pub record ImportRows (p : Project) (importers targets : List ℕ) : Type 0 where
@@ -89,6 +84,6 @@ pub record Basis (p : Project) (labels sensitives eligibles candidates : List �
   pub eligible_set : eligibles ≡ eligible_marks p
   pub candidate_set : candidates ≡ candidate_marks p
 
--- all edges are written
-abbrev pub Requests : Project → List ℕ → List ℕ → List ℕ → List ℕ → ℕ → Type 0
-Requests p from to from' to' count = Adds (RequestEdge p) 155648 from to 0 from' to' count
+-- all edges are added
+abbrev pub Requests : Project → EdgeRows → EdgeRows → Type 0
+Requests p e e' = Adds (RequestEdge p) 155648 e e'

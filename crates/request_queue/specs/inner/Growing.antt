@@ -1,48 +1,62 @@
 -- A list that grows in a slice, each member once, and what it grows by.
 -- Assumes nothing.
-use Rattle.std.specs.Prelude.{◌≡◌, ℕ, ◌+◌, ◌<◌, ◌≤◌, true, ◌⊎◌, List, length, slice_index}
+use Rattle.std.specs.Prelude.{◌≡◌, ℕ, ◌+◌, ◌<◌, ◌≤◌, true, ◌⊎◌, List, length, take, slice_index}
 use mathlib.Core.List.{Memᴰ}
 use Rattle.lists.specs.Words.{has, ones}
 use Rattle.walk.specs.Reach.{Reach⁺}
-use Rattle.tables.specs.Readings.{values_of}
 
 -- no list is longer
 abbrev pub node_limit : ℕ
 node_limit = 65536
 
--- the first `count` places of `queue` are a list of places of `marks`, each once: a member's mark is one more than its place in the list, every other mark 0
-pub record Listed (marks queue : List ℕ) (count : ℕ) : Type 0 where
-  pub size : length queue ≡ length marks
-  pub all : ones marks ≡ count
-  pub placed : (i : ℕ) → i < count → (slice_index queue i < length marks) × (slice_index marks (slice_index queue i) ≡ i + 1)
-  pub listed : (x : ℕ) → has marks x ≡ true → (i : ℕ) × (i < count) × (slice_index queue i ≡ x)
+-- a list of places, and the marks of all places
+pub record Listing : Type 0 where
+  pub marks : List ℕ
+  pub list : List ℕ
+
+-- each member stands once: its mark is one more than its place in the list, every other mark 0
+pub record Listed (marks list : List ℕ) : Type 0 where
+  pub all : ones marks ≡ length list
+  pub placed : (i : ℕ) → i < length list → (slice_index list i < length marks) × (slice_index marks (slice_index list i) ≡ i + 1)
+  pub listed : (x : ℕ) → has marks x ≡ true → (i : ℕ) × (i < length list) × (slice_index list i ≡ x)
+
+-- the list is the front of a slice with room for all places
+pub record Standing (marks queue : List ℕ) (count : ℕ) : Type 0 where
+  pub few : length marks ≤ node_limit
+  pub room : length queue ≡ length marks
+  pub within : count ≤ length queue
+  pub listed : Listed marks (take count queue)
 
 -- the list has grown, only by those of which f holds
-pub record Grew (f : ℕ → Type 0) (marks queue : List ℕ) (count : ℕ) (marks' queue' : List ℕ) (count' : ℕ) : Type 0 where
-  pub size : length marks' ≡ length marks
-  pub room : length queue' ≡ length queue
-  pub more : count ≤ count'
-  pub front : (i : ℕ) → i < count → slice_index queue' i ≡ slice_index queue i
-  pub old : (x : ℕ) → has marks x ≡ true → slice_index marks' x ≡ slice_index marks x
-  pub only : (x : ℕ) → has marks' x ≡ true → (has marks x ≡ true) ⊎ f x
-  pub listed : Listed marks' queue' count'
+pub record Grew (f : ℕ → Type 0) (q q' : Listing) : Type 0 where
+  pub size : length q'.marks ≡ length q.marks
+  pub more : length q.list ≤ length q'.list
+  pub front : (i : ℕ) → i < length q.list → slice_index q'.list i ≡ slice_index q.list i
+  pub old : (x : ℕ) → has q.marks x ≡ true → slice_index q'.marks x ≡ slice_index q.marks x
+  pub only : (x : ℕ) → has q'.marks x ≡ true → (has q.marks x ≡ true) ⊎ f x
+  pub listed : Listed q.marks q.list → Listed q'.marks q'.list
 
--- it has grown by x at most, and x is in
-pub record Pushed (x : ℕ) (marks queue : List ℕ) (count : ℕ) (marks' queue' : List ℕ) (count' : ℕ) : Type 0 where
-  pub grew : Grew (λ (y : ℕ). y ≡ x) marks queue count marks' queue' count'
-  pub here : has marks' x ≡ true
+-- and all of those are in
+pub record Grown (f : ℕ → Type 0) (q q' : Listing) : Type 0 where
+  pub grew : Grew f q q'
+  pub all : (x : ℕ) → f x → has q'.marks x ≡ true
 
--- it has grown by what the rows of x lead to, and that is in
-pub record Followed (from to : List ℕ) (x : ℕ) (marks queue : List ℕ) (count : ℕ) (marks' queue' : List ℕ) (count' : ℕ) : Type 0 where
-  pub grew : Grew (λ (y : ℕ). Memᴰ y (values_of from to x)) marks queue count marks' queue' count'
-  pub here : (y : ℕ) → Memᴰ y (values_of from to x) → has marks' y ≡ true
+-- a member of a list, and what its members give, a marked one itself
+abbrev pub among : List ℕ → ℕ → Type 0
+among xs x = Memᴰ x xs
 
--- with a member all that its rows lead to is in
-unfoldable pub Along : List ℕ → List ℕ → List ℕ → Type 0
-Along from to marks = (x : ℕ) → has marks x ≡ true → (y : ℕ) → Memᴰ y (values_of from to x) → has marks y ≡ true
+abbrev pub given : (ℕ → ℕ → Type 0) → List ℕ → ℕ → Type 0
+given gives xs x = (v : ℕ) × Memᴰ v xs × gives v x
 
--- it has grown by what x leads to by one or more rows, all of it is in, and it is closed along the rows
-pub record Reached (from to : List ℕ) (x : ℕ) (marks queue : List ℕ) (count : ℕ) (marks' queue' : List ℕ) (count' : ℕ) : Type 0 where
-  pub grew : Grew (Reach⁺ (values_of from to) x) marks queue count marks' queue' count'
-  pub here : (y : ℕ) → Reach⁺ (values_of from to) x y → has marks' y ≡ true
-  pub along : Along from to marks'
+abbrev pub chosen : List ℕ → ℕ → ℕ → Type 0
+chosen marks v x = (x ≡ v) × (has marks v ≡ true)
+
+module _ (succ : ℕ → List ℕ) where
+  -- with a member all that it leads to is in
+  unfoldable pub Along : List ℕ → Type 0
+  Along marks = (x : ℕ) → has marks x ≡ true → (y : ℕ) → Memᴰ y (succ x) → has marks y ≡ true
+
+  -- it has grown by what x leads to by one or more edges, and is closed along the edges
+  pub record Reached (x : ℕ) (q q' : Listing) : Type 0 where
+    pub grown : Grown (Reach⁺ succ x) q q'
+    pub along : Along q'.marks

@@ -8,14 +8,15 @@ use Rattle.sensitivity.specs.Marks.{sensitive_marks}
 use Rattle.eligibility.specs.Eligible.{eligible_marks}
 use Rattle.wrap_rules.specs.Plan.{roots}
 use Rattle.wrap_rules.specs.inner.Passes.{candidate_marks}
+use Rattle.strong_connection.specs.inner.Graph.{EdgeColumns}
 use Rattle.import_rule.specs.inner.Imports.{Edged}
 
--- labels, roots, the sensitive, the eligible and the reached eligible modules, and the import records as edges, threaded by their targets
-pub record Sets (p : Project) (labels root_list sensitives eligibles candidates from to heads nexts : List ℕ) : Type 0 where
+-- labels, roots, the sensitive, the eligible and the reached eligible modules, and the import records as edges from target to importer
+pub record Sets (p : Project) (labels root_list sensitives eligibles candidates : List ℕ) (imports : EdgeColumns) : Type 0 where
   pub accepted : Accepted p
   pub label : labels ≡ labels_of p
   pub root : root_list ≡ roots p
   pub sensitive_set : sensitives ≡ sensitive_marks p
   pub eligible_set : eligibles ≡ eligible_marks p
   pub candidate_set : candidates ≡ candidate_marks p
-  pub edged : Edged p from to heads nexts
+  pub edged : Edged p imports

@@ -8,4 +8,4 @@ abbrev pub project_of : Inside → Project
 project_of s = s.current.now
 
 abbrev pub AreRead : Inside → Type 0
-AreRead s = Sets s.current.now s.labels.now s.roots.now s.sensitive.now s.eligible.now s.candidates.now s.from.now s.to.now s.heads.now s.nexts.now
+AreRead s = Sets s.current.now s.labels.now s.roots.now s.sensitive.now s.eligible.now s.candidates.now s.imports

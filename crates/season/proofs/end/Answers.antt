@@ -14,5 +14,5 @@ pub returns : goal.returns
 returns g c =
     let s = c.args.season in
     on-ok _ _ c.act.result
-    (λ t h. end-planned s.names s.totals c.requires c.if-names.false t (subst (λ (x : Turn). Acted x s.totals t) c.finish-turn.ensures h))
+    (λ t h. end-planned s.names s.totals s.sound c.if-names.false t (subst (λ (x : Turn). Acted x s.totals t) c.finish-turn.ensures h))
     c.act.ensures

@@ -10,12 +10,15 @@ use Rattle.season.proofs.take.Goals as goal
 pub act-requires : goal.act-requires
 act-requires g c =
     let s = c.args.season in
-    subst (λ (x : Turn). Room x s.totals) (sym (ap (λ (z : Step). z.turn) c.take_byte-step.ensures.value)) (byte-room s.names s.totals c.requires c.args.b)
+    subst (λ (x : Turn). Room x s.totals) (sym (ap (λ (z : Step). z.turn) c.take_byte-step.ensures.value)) (byte-room s.names s.totals s.sound c.args.b)
 
-pub returns : goal.returns
-returns g c =
+pub invariant_of-result : goal.invariant_of-result
+invariant_of-result g c =
     let s = c.args.season in
     let stepped = c.take_byte-step.ensures.value in
     let r = c.in_ok-act.field-0 in
-    subst (λ (n : Names). Sound n r) (sym (ap (λ (z : Step). z.names) stepped))
-    (byte-sound s.names s.totals c.requires c.args.b r (subst (λ (x : Turn). Acted x s.totals r) (ap (λ (z : Step). z.turn) stepped) c.in_ok-act.ensures))
+    record {
+      sound =
+          subst (λ (n : Names). Sound n r) (sym (ap (λ (z : Step). z.names) stepped))
+          (byte-sound s.names s.totals s.sound c.args.b r (subst (λ (x : Turn). Acted x s.totals r) (ap (λ (z : Step). z.turn) stepped) c.in_ok-act.ensures));
+    }

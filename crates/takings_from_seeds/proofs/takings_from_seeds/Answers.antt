@@ -2,7 +2,7 @@
 -- Assumes nothing.
 use Rattle.std.proofs.Common.{refl, sym, ◌∙◌, arith}
 use Rattle.std.proofs.lemmas.Result.{err_from_is_err_and}
-use Rattle.wrap_plan.proofs.Promise.{seeds-below}
+use Rattle.seeds.proofs.Fits.{fits_below}
 use Rattle.takings_from_seeds.proofs.Promise.{project-refused, run-shown}
 use Rattle.takings_from_seeds.proofs.takings_from_seeds.Goals as goal
 
@@ -14,7 +14,7 @@ list_takings-count-requires c =
     let count = c.modules-n.ensures.count in
     let fits = rw count at (sym c.seeds_fit.ensures ∙ c.if-not-seeds_fit.false) in
     record {
-      seeds = record { size = refl; inside = seeds-below _ _ fits };
+      seeds = record { size = refl; inside = fits_below _ _ fits };
       list = omega (arith, count, c.if-list-n.false);
       lengths = omega (arith, count, c.if-lengths-n.false);
     }

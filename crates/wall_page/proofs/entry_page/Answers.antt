@@ -1,12 +1,8 @@
--- `wall_page::entry_page` keeps its promise: a refusal changes nothing, and an accepted call writes the page.
+-- `wall_page::entry_page` keeps its promise: an accepted call writes the page.
 -- Assumes nothing.
 use Rattle.std.proofs.Common.{arith}
-use Rattle.std.proofs.lemmas.Result.{err_from_is_err_and}
-use Rattle.wall_page.proofs.Promise.{project-refused, page-put}
+use Rattle.wall_page.proofs.Promise.{page-put}
 use Rattle.wall_page.proofs.entry_page.Goals as goal
-
-pub returns-in_err-current : goal.returns-in_err-current
-returns-in_err-current c = let p = err_from_is_err_and c.from_residual.result c.from_residual.ensures.1 in rw (p.1, p.2) (project-refused _ _ _ _ _ c.in_err-current.ensures)
 
 pub returns : goal.returns
 returns c =

@@ -1,5 +1,6 @@
 -- `label_table`: the import rows of an accepted project are a graph over its chunks.
-use Rattle.std.proofs.Common.{length, sym, subst}
+use Rattle.std.proofs.Common.{◌≡◌, length, sym, subst}
+use Rattle.tables.specs.Readings.{chunks}
 use Rattle.current_columns.specs.AsProject.{project}
 use Rattle.strong_connection.specs.inner.Graph.{Graph}
 use Rattle.chunk_cycles.proofs.OverTable.{accepted-fit, table-labelled}
@@ -9,7 +10,13 @@ pub label_chunks-requires : goal.label_chunks-requires
 unfolding project
 label_chunks-requires c =
     let p = project c.current.inside in
-    subst (Graph p.import_chunk p.imports) (sym (rw (← c.current.view_is) at c.requires.places)) (accepted-fit p c.current.invariant)
+    let n : length c.args.labels.now ≡ chunks p = rw (← c.current.view_is) at c.requires.places in
+    let fit = accepted-fit p c.current.invariant in
+    record {
+      few = rw n fit.few;
+      rows = fit.rows;
+      graph = subst (Graph p.import_chunk p.imports) (sym n) fit.graph;
+    }
 
 pub returns : goal.returns
 unfolding project

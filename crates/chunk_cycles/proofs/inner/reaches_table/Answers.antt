@@ -11,8 +11,11 @@ reaches_cyclic-requires c =
     let p = project c.current.inside in
     let q = rw (← c.current.view_is) at c.requires.labels in
     let n = reaching-length p c.args.labels.now c.args.chunk q in
+    let fit = accepted-fit p c.current.invariant in
     record {
-      graph = subst (Graph p.import_chunk p.imports) (sym n) (accepted-fit p c.current.invariant);
+      few = rw n fit.few;
+      rows = fit.rows;
+      graph = subst (Graph p.import_chunk p.imports) (sym n) fit.graph;
       labels = reaching-labels p c.args.labels.now c.args.chunk q;
       chunk = rw n q.there;
     }

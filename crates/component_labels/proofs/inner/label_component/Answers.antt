@@ -1,8 +1,7 @@
 -- `component_labels::inner::label_component`: an edge of c that leads back to c makes it cyclic, and what both walks meet is its component,
 -- whose lowest row is the first that they meet.
 -- Assumes nothing.
-use Rattle.std.specs.Prelude.{◌≡◌, ℕ, length, take, replicate}
-use mathlib.Core.Path.{refl, sym, ◌∙◌}
+use Rattle.std.proofs.Common.{◌≡◌, ℕ, length, take, replicate, sym, ◌∙◌, arith}
 use lib.Seq.{length-take-le}
 use Rattle.component_labels.proofs.Components.{led-back, component-cyclic, component-none}
 use Rattle.component_labels.proofs.inner.label_component.Goals as goal
@@ -10,21 +9,19 @@ use Rattle.component_labels.proofs.inner.label_component.Goals as goal
 pub returns-then-not-leads : goal.returns-then-not-leads
 returns-then-not-leads c =
     let a = c.args in
-    let n : ℕ = length a.labels.now in
-    let g = c.requires.rows.graph in
-    let part : length {A = ℕ} (take n (replicate 1024 0)) ≡ n = length-take-le n (replicate 1024 0) g.few in
-    let led = led-back a.from.now a.to.now n g a.c c.requires.chunk (rw part at c.reach.ensures) c.leads.ensures in
-    component-none a.from.now a.to.now n g a.c c.requires.chunk a.labels.now refl (sym led ∙ c.if-not-leads.true)
+    let g = a.graph.now in
+    let ok = c.places-n.ensures.graph in
+    let behind = rw (c.requires.back) at c.reach.ensures in
+    let led = led-back g.from g.to g.places ok a.c c.requires.chunk behind c.leads.ensures in
+    component-none g.from g.to g.places ok a.c c.requires.chunk a.labels.now c.requires.size (sym led ∙ c.if-not-leads.true)
 
 pub returns : goal.returns
 returns c =
     let a = c.args in
-    let n : ℕ = length a.labels.now in
-    let g = c.requires.rows.graph in
-    let part : length {A = ℕ} (take n (replicate 1024 0)) ≡ n = length-take-le n (replicate 1024 0) g.few in
-    let behind = rw part at c.reach.ensures in
-    let ahead = rw part at c.reach-2.ensures in
-    let size : length c.reach-2.new.marks ≡ n = c.reach-2.auto.marks ∙ part in
-    let led = led-back a.from.now a.to.now n g a.c c.requires.chunk behind c.leads.ensures in
+    let g = a.graph.now in
+    let ok = c.places-n.ensures.graph in
+    let part : length {A = ℕ} (take c.places-n.result (replicate 1024 0)) ≡ g.places = length-take-le c.places-n.result (replicate 1024 0) (omega arith) ∙ c.places-n.ensures.count in
+    let behind = rw (c.requires.back) at c.reach.ensures in
+    let led = led-back g.from g.to g.places ok a.c c.requires.chunk behind c.leads.ensures in
     c.label_both.ensures
-    ∙ rw (c.first_both-lowest.ensures, size, ahead, behind) (component-cyclic a.from.now a.to.now n g a.c c.requires.chunk a.labels.now refl (sym led ∙ c.if-not-leads.false))
+    ∙ rw (c.first_both-lowest.ensures, c.reach-2.auto.marks ∙ part, c.reach-2.ensures, behind) (component-cyclic g.from g.to g.places ok a.c c.requires.chunk a.labels.now c.requires.size (sym led ∙ c.if-not-leads.false))

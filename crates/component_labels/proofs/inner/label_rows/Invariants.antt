@@ -5,4 +5,4 @@ use Rattle.component_labels.proofs.Components.{LabelledBelow}
 use Rattle.component_labels.proofs.inner.label_rows.Given as goal
 
 abbrev pub invariant-loop-source : goal.invariant-loop-source
-invariant-loop-source l = LabelledBelow l.from l.to l.numbers l.labels (length l.fn.labels) (length l.yielded)
+invariant-loop-source l = LabelledBelow l.graph.from l.graph.to l.numbers l.labels l.graph.places (length l.yielded)

@@ -5,4 +5,4 @@ use Rattle.walk.proofs.Visits.{zeros-le}
 use Rattle.component_labels.proofs.inner.number_all.Goals as goal
 
 pub loop-c-init : goal.loop-c-init
-loop-c-init c = omega (arith, zeros-le c.args.numbers.now, c.requires.rows.graph.few)
+loop-c-init c = omega (arith, zeros-le c.args.numbers.now, c.requires.few, c.requires.size)

@@ -4,4 +4,4 @@ use Rattle.import_edges.proofs.Spreading.{Spreading}
 use Rattle.import_edges.proofs.inner.spread.Given as goal
 
 abbrev pub invariant-loop-m : goal.invariant-loop-m
-invariant-loop-m l = Spreading l.from l.to l.set l.m l.marks
+invariant-loop-m l = Spreading l.graph.from l.graph.to l.set l.m l.marks

@@ -8,7 +8,7 @@ pub close_static_importers-requires-clause-columns : goal.close_static_importers
 unfolding project
 close_static_importers-requires-clause-columns c =
     let r = rw (← c.current.view_is) at c.requires in
-    rw (r.sets.candidate_set, r.plan.size) (importing-fit _ c.current.invariant r.edges.graph)
+    rw (r.sets.candidate_set, r.plan.size) (importing-fit _ c.current.invariant)
 
 pub close_static_importers-requires-clause-leads : goal.close_static_importers-requires-clause-leads
 unfolding project

@@ -1,5 +1,4 @@
 -- `mark_risks`: from nothing marked, the risk of each root is added.
-use Rattle.std.proofs.Common.{◌∙◌}
 use Rattle.order_analysis.proofs.Analyses.{risks-marked}
 use Rattle.reached_modules.proofs.Choosing.{written_read}
 use Rattle.order_analysis.proofs.inner.mark_risks.Goals as goal

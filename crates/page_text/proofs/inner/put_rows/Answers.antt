@@ -1,7 +1,7 @@
 use Rattle.std.proofs.Common.{sym, arith}
 use Rattle.lines.proofs.Puts.{put-none, put_as, put_then}
 use Rattle.page_text.specs.inner.Sheets.{line_with}
-use Rattle.page_text.proofs.Lines.{lines_none, lines_more, lines-all, first-length}
+use Rattle.page_text.proofs.Lines.{lines_none, lines_more, first-length}
 use Rattle.page_text.proofs.inner.put_rows.Goals as goal
 
 pub loop-m-init : goal.loop-m-init
@@ -21,8 +21,3 @@ loop-m-preserved c =
     let a = c.args in
     let l = c.loop-m in
     put_as (lines_more (line_with a.expected_places.now a.actual_places.now a.plan.now) a.rows.now l.m-index c.loop-m-test.true) (put_then l.invariant c.put_row-p.ensures)
-
-pub returns : goal.returns
-returns c =
-    let a = c.args in
-    put_as (lines-all (line_with a.expected_places.now a.actual_places.now a.plan.now) a.rows.now c.loop-m.m-index c.loop-m-test.false) c.loop-m.invariant

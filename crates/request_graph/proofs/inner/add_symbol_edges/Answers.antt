@@ -11,8 +11,7 @@ use Rattle.request_graph.proofs.inner.add_symbol_edges.Goals as goal
 pub returns : goal.returns
 unfolding project
 returns c =
-    let a = c.args in
-    let own : c.number.new.out ≡ numbered (length a.current.now.owner) =
+    let own : c.number.new.out ≡ numbered (length c.args.current.now.owner) =
     c.number.ensures ∙ ap numbered (part_length 16384 _ c.current.invariant.sizes.owner) ∙ ap (λ (p : Project). numbered (length p.owner)) c.current.view_is
     in
-    adds_on a.from.now a.to.now a.count {j = 32768} {k = 65536} (rw own at c.add_chain_edges-chains.ensures) (rw c.find_readers.ensures at c.add_read_edges.ensures)
+    adds_on (rw own at c.add_chain_edges.ensures) (rw c.find_readers.ensures at c.add_read_edges.ensures)

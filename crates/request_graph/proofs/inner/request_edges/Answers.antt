@@ -33,5 +33,5 @@ returns c =
     let r = rw (← c.current.view_is) at c.requires in
     let own : c.number.new.out ≡ numbered (modules (project c.current.inside)) = c.number.ensures ∙ ap numbered (part_length 4096 _ n.few ∙ n.count) in
     rw (← c.current.view_is)
-    (requests-on (project c.current.inside) c.current.invariant r.made r.edges (rw (own, c.number_chosen.ensures) at c.add_component_edges-components.ensures) (rw own at c.add_import_edges-leads.ensures)
+    (requests-on (project c.current.inside) c.current.invariant r.made r.imports (rw (own, c.number_chosen.ensures) at c.add_component_edges.ensures) (rw own at c.add_import_edges.ensures)
     (rw (← c.current.view_is) at c.add_symbol_edges.ensures))

@@ -1,8 +1,7 @@
 -- What the members so far put at risk, if they are sensitive and have no mark in the other order, is flagged.
 -- Assumes nothing.
-use Rattle.risk_of_orders.specs.inner.Steps.{puts, unmet}
-use Rattle.risk_of_orders.proofs.Joins.{Added}
+use Rattle.risk_of_orders.proofs.Flagging.{UnmetBelow}
 use Rattle.risk_of_orders.proofs.inner.flag_unmet.Given as goal
 
 abbrev pub invariant-loop-m : goal.invariant-loop-m
-invariant-loop-m l = Added (unmet l.sensitive l.other) (puts l.eligible l.hosts) l.order l.initial.out l.m-index l.out
+invariant-loop-m l = UnmetBelow l.eligible l.hosts l.sensitive l.other l.order l.initial.out l.m-index l.out

@@ -1,8 +1,9 @@
 -- `read_sets`: the edges are threaded by their targets, and the candidates chosen in blank marks.
 -- Assumes nothing.
-use Rattle.std.proofs.Common.{arith}
+use Rattle.std.proofs.Common.{arith, subst}
+use Rattle.strong_connection.specs.inner.Graph.{Graph}
 use Rattle.walk.proofs.Visits.{bits-replicate}
-use Rattle.import_edges.proofs.Edging.{graph-back, graph-threadable}
+use Rattle.strong_connection.proofs.Rows.{graph-back}
 use Rattle.reached_modules.proofs.Choosing.{written_read}
 use Rattle.rule_sets.proofs.Blank.{blank-none}
 use Rattle.rule_sets.proofs.Edges.{front-lengths, front-edges, front-graph}
@@ -25,11 +26,16 @@ choose_candidates-requires c =
       };
     }
 
-pub thread-requires : goal.thread-requires
-thread-requires c =
+pub new-imports-requires : goal.new-imports-requires
+new-imports-requires c =
+    let p = c.args.current.now in
     let l = c.list_edges-edges in
     let accepted = c.modules-n.ensures.accepted in
-    graph-threadable (graph-back (front-graph c.args.current.now accepted _ _ _ l.ensures (omega arith) (omega arith))) (omega arith) (omega arith)
+    record {
+      graph = subst (Graph _ _) (omega arith) (graph-back (front-graph p accepted _ _ _ l.ensures (omega arith) (omega arith)));
+      few = omega arith;
+      room = omega arith;
+    }
 
 pub invariant_of-result : goal.invariant_of-result
 invariant_of-result c =
@@ -43,10 +49,9 @@ invariant_of-result c =
       sensitive_set = c.mark_table_sensitive.ensures;
       eligible_set = c.mark_table_eligible.ensures;
       candidate_set = c.choose_candidates.ensures;
-      edged = record {
+      edged = rw c.new-imports.ensures (record {
         edges = front-edges p accepted _ _ _ l.ensures (omega arith) (omega arith);
         graph = graph-back (front-graph p accepted _ _ _ l.ensures (omega arith) (omega arith));
-        threads = c.thread.ensures;
-        head_size = omega arith;
-      };
+        places = omega arith;
+      });
     }

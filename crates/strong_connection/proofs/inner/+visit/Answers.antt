@@ -1,48 +1,39 @@
--- `strong_connection::inner::visit` meets its contract.
+-- `strong_connection::inner::visit`: m is marked, and then what its edges lead to, one target after the other.
 -- Assumes nothing.
-use Rattle.std.proofs.Common.{◌≡◌, ℕ, ◌<◌, List, length, get_or, set, refl, sym, subst, ◌∙◌, arith, length-set}
+use Rattle.std.proofs.Common.{◌≡◌, ℕ, ◌<◌, List, length, get_or, set, ◌∙◌, arith, length-set}
 use Rattle.lists.specs.Words.{zeros}
 use Rattle.walk.proofs.Visits.{set-zeros, fresh-zero, fresh-not}
-use Rattle.tables.specs.Readings.{values_of}
-use Rattle.strong_connection.specs.inner.Graph.{Linked}
-use Rattle.strong_connection.proofs.Visiting.{marked-old, Visiting, visiting-start, visiting-next, visiting-grown, visiting-end}
+use Rattle.threads.proofs.Turns.{at-end, turn-below}
+use Rattle.strong_connection.specs.inner.Graph.{successors}
+use Rattle.strong_connection.proofs.Visiting.{marked-old, Visiting, visiting-next, visiting-grown, visiting-end}
 use Rattle.strong_connection.proofs.inner.+visit.Goals as goal
 
--- what is known of the marks between two rows of a marked chunk
+-- what is known of the marks between two targets of a marked place
 record Known (marks₀ marks : List ℕ) : Type 0 where
   long : length marks ≡ length marks₀
   fewer : zeros marks < zeros marks₀
 
-known : (from to : List ℕ) (m : ℕ) (marks₀ marks : List ℕ) (row : ℕ) → m < length marks₀ → get_or marks₀ m 0 ≡ 0 → Visiting from to m (set marks₀ m 1) marks row → Known marks₀ marks
-known from to m marks₀ marks row below unmet g =
-    let grown = visiting-grown from to m (set marks₀ m 1) marks row g in
+known : (succ : ℕ → List ℕ) (m : ℕ) (marks₀ targets marks : List ℕ) → m < length marks₀ → get_or marks₀ m 0 ≡ 0 → Visiting succ m (set marks₀ m 1) targets marks → Known marks₀ marks
+known succ m marks₀ targets marks below unmet g =
+    let grown = visiting-grown succ m (set marks₀ m 1) targets marks g in
     let one_less = set-zeros marks₀ m (fresh-zero marks₀ m below unmet) in
     record { long = grown.len ∙ length-set marks₀ m 1; fewer = omega (arith, grown.fewer, one_less) }
 
 pub returns-then-marks-at-ne0 : goal.returns-then-marks-at-ne0
-returns-then-marks-at-ne0 t c = marked-old (values_of c.args.from.now c.args.to.now) c.args.marks.now c.args.m (fresh-not c.args.marks.now c.args.m c.if-marks-at-ne0.true)
-
-pub loop-row-init : goal.loop-row-init
-loop-row-init t c =
-    visiting-start c.args.from.now c.args.to.now c.args.m (set c.args.marks.now c.args.m 1) (get_or c.args.heads.now c.args.m 0)
-    (c.requires.rows.threads.first c.args.m (omega (arith, c.requires.rows.heads-room, c.requires.chunk)))
+returns-then-marks-at-ne0 t c = marked-old (successors c.args.graph.now) c.args.marks.now c.args.m (fresh-not c.args.marks.now c.args.m c.if-marks-at-ne0.true)
 
 pub visit-requires : goal.visit-requires
 visit-requires t c =
-    let k = known c.args.from.now c.args.to.now c.args.m c.args.marks.now c.loop-row.marks c.loop-row.row c.requires.chunk c.if-marks-at-ne0.false c.loop-row.invariant in (
-      omega (arith, k.fewer, c.decreases),
-      (
-        subst (Linked c.args.from.now c.args.to.now c.args.heads.now c.args.nexts.now) (sym k.long) c.requires.rows,
-        subst (λ (n : ℕ). get_or c.args.to.now c.loop-row.row 0 < n) (sym k.long) (c.requires.rows.tos c.loop-row.row c.loop-row-test.true),
-      ),
-    )
+    let a = c.args in
+    let k = known (successors a.graph.now) a.m a.marks.now c.loop-target.yielded c.loop-target.marks (omega (arith, c.requires.size, c.requires.place)) c.if-marks-at-ne0.false c.loop-target.invariant in
+    let inside : c.in-Some.target < a.graph.now.places = turn-below _ c.loop-target.yielded _ _ c.loop-target.yielded_by c.in-Some.ensures.steps (rw c.into_iter-target-iterator.ensures.into_iter_gives c.targets-target-items.ensures.inside) in
+    (omega (arith, k.fewer, c.decreases), (k.long ∙ c.requires.size, inside))
 
-pub loop-row-preserved : goal.loop-row-preserved
-loop-row-preserved t c =
-    visiting-next c.args.from.now c.args.to.now c.args.m (set c.args.marks.now c.args.m 1) c.loop-row.marks c.loop-row.row c.loop-row.invariant
-    c.visit.new.marks (get_or c.args.nexts.now c.loop-row.row 0) c.loop-row-test.true c.visit.ensures (c.requires.rows.threads.next c.loop-row.row c.loop-row-test.true)
+pub loop-target-preserved : goal.loop-target-preserved
+loop-target-preserved t c = visiting-next (successors c.args.graph.now) c.args.m _ _ _ _ _ c.loop-target.invariant c.visit.ensures
 
 pub returns : goal.returns
 returns t c =
-    visiting-end c.args.from.now c.args.to.now c.args.m (set c.args.marks.now c.args.m 1) c.loop-row.marks c.loop-row.row c.loop-row.invariant
-    c.args.marks.now c.loop-row-test.false (fresh-zero c.args.marks.now c.args.m c.requires.chunk c.if-marks-at-ne0.false) refl
+    let a = c.args in
+    let all = at-end _ _ _ c.loop-target.yielded_by c.in-None.ensures.steps.0 ∙ c.into_iter-target-iterator.ensures.into_iter_gives ∙ c.targets-target-items.ensures.list in
+    visiting-end (successors a.graph.now) a.m a.marks.now c.loop-target.marks (fresh-zero a.marks.now a.m (omega (arith, c.requires.size, c.requires.place)) c.if-marks-at-ne0.false) (rw all at c.loop-target.invariant)

@@ -1,8 +1,10 @@
--- An eligible seed is listed.
--- Assumes nothing.
-use Rattle.std.proofs.Common.{arith}
-use Rattle.worklist_ends.proofs.Ends.{seeded_put}
+-- `worklist_ends::inner::list_seeds`: an eligible seed is listed.
+use Rattle.lists.proofs.Laws.{take_more}
+use Rattle.request_queue.proofs.Growing.{chosen-pass, chosen-put}
 use Rattle.worklist_ends.proofs.inner.list_seeds.Goals as goal
 
+pub loop-m-preserved-then-eligible-m-eq0 : goal.loop-m-preserved-then-eligible-m-eq0
+loop-m-preserved-then-eligible-m-eq0 c = rw (← take_more c.args.seeds.now c.loop-m.m-index c.loop-m-test.true) (chosen-pass _ _ _ c.loop-m.invariant c.if-eligible-m-eq0.true)
+
 pub loop-m-preserved : goal.loop-m-preserved
-loop-m-preserved c = seeded_put _ _ _ _ _ _ _ _ c.loop-m.invariant (omega arith) (omega arith) c.push-end.ensures
+loop-m-preserved c = rw (← take_more c.args.seeds.now c.loop-m.m-index c.loop-m-test.true) (chosen-put _ _ _ c.loop-m.invariant c.if-eligible-m-eq0.false c.push.ensures)

@@ -1,13 +1,12 @@
--- `worklist_plan::inner::list_takings`: the list is written from its members' places.
+-- `worklist_plan::inner::list_takings`: the list is written as it is.
 -- Assumes nothing.
 use Rattle.std.proofs.Common.{arith}
-use Rattle.worklist_plan.proofs.Writing.{place-fits, run_fits, run-written}
+use Rattle.request_queue.proofs.Growing.{listed-fits}
+use Rattle.worklist_plan.proofs.Writing.{run-written}
 use Rattle.worklist_plan.proofs.inner.list_takings.Goals as goal
 
-pub write_listed-requires-clause-room : goal.write_listed-requires-clause-room
-write_listed-requires-clause-room c =
-    let r = c.run_table-count.ensures in
-    λ m. omega (arith, place-fits r.taken.listed m, run_fits r, c.requires.list)
+pub write_listed-requires : goal.write_listed-requires
+write_listed-requires c = omega (arith, listed-fits c.len-count.ensures.listed, c.run_table.ensures.taken.size, c.requires.list)
 
 pub returns : goal.returns
-returns c = run-written _ _ _ _ _ _ _ _ c.run_table-count.ensures c.requires.list c.requires.lengths c.write_listed.ensures
+returns c = rw (c.write_listed.ensures, c.len-count.ensures.count) (run-written _ c.len-count.ensures.listed c.run_table.ensures c.requires.lengths)

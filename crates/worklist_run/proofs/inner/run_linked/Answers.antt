@@ -1,39 +1,23 @@
--- `worklist_run::inner::run_linked`: a run from empty arrays.
+-- `worklist_run::inner::run_linked`: a run from empty arrays and a list that is emptied.
 -- Assumes nothing.
-use Rattle.std.proofs.Common.{◌≡◌, ℕ, length, take, replicate, sym, ap, ◌∙◌, arith}
-use lib.ListN.{length-replicate}
+use Rattle.std.proofs.Common.{◌≡◌, ℕ, length, take, replicate, sym, ◌∙◌, arith}
 use Rattle.tables.specs.Readings.{modules}
-use Rattle.marks.proofs.Parts.{part_none, part_length}
-use Rattle.reached_modules.proofs.Choosing.{few-roots}
-use Rattle.rule_sets.proofs.Blank.{blank-none}
-use Rattle.suffix_places.specs.inner.Places.{never}
-use Rattle.worklist_run.proofs.Starting.{fresh}
+use Rattle.marks.proofs.Parts.{part_length}
+use Rattle.worklist_run.proofs.Starting.{roots_fit, none-settled, batch-none}
 use Rattle.worklist_run.proofs.inner.run_linked.Goals as goal
 
 pub slice_bounds-settled-end : goal.slice_bounds-settled-end
-slice_bounds-settled-end c = omega (arith, ap length c.sets.invariant.root, few-roots _ c.sets.invariant.accepted)
+slice_bounds-settled-end c = roots_fit c.sets.invariant
 
 pub slice_bounds-settled-end-2 : goal.slice_bounds-settled-end-2
-slice_bounds-settled-end-2 c = sym (part_length 16384 (length c.sets.inside.roots.now) (omega (arith, ap length c.sets.invariant.root, few-roots _ c.sets.invariant.accepted)))
+slice_bounds-settled-end-2 c = sym (part_length 16384 (length c.sets.inside.roots.now) (roots_fit c.sets.invariant))
 
-pub take_all-requires : goal.take_all-requires
-take_all-requires c =
-    let a = c.args in
-    let p = a.sets.now in
+pub take_all-requires-clause-fresh : goal.take_all-requires-clause-fresh
+take_all-requires-clause-fresh c =
     let n = c.modules-n.result in
-    let size : n ≡ modules p = rw c.sets.view_is at c.modules-n.ensures.count in
-    let part : length {A = ℕ} (take n (replicate 4096 0)) ≡ n = part_length 4096 n (omega arith) in
-    let rows = length c.sets.inside.roots.now in
-    let root = rw c.sets.view_is at c.sets.invariant.root in
-    let placed = c.fill.new.slots in
-    let same : length a.placed.now ≡ length placed = omega arith in
+    let part : length {A = ℕ} (take n (replicate 4096 0)) ≡ modules c.args.sets.now = part_length 4096 n (omega arith) ∙ rw c.sets.view_is at c.modules-n.ensures.count in
     record {
-      graph = c.requires.graph;
-      seeds = rw (← same) c.requires.seeds.inside;
-      fresh = fresh p (replicate 49152 0) (replicate 49152 0) placed (take n (replicate 4096 0)) (take rows (replicate 16384 0)) c.start_notes.new.asked c.start_notes.new.heads c.start_notes.new.nexts
-          (length-replicate {A = ℕ} 49152 0) (length-replicate {A = ℕ} 49152 0) (blank-none 49152)
-          (sym same ∙ c.requires.seeds.size) (part ∙ size) (λ x e. blank-none (length a.placed.now) x (rw c.fill.ensures at e))
-          (part_length 16384 rows (omega (arith, ap length c.sets.invariant.root, few-roots _ c.sets.invariant.accepted)) ∙ ap length root) (part_none 16384 rows)
-          (c.start_notes.ensures.none ∙ ap (λ (k : ℕ). replicate k never) (part ∙ size)) c.start_notes.auto.heads (c.start_notes.auto.nexts ∙ part ∙ size) c.start_notes.ensures.threads;
-      room = rw (← same) c.requires.room;
+      none = c.new-met.ensures;
+      empty = rw c.requires.size at c.clear.ensures;
+      batch = rw (c.clear.ensures, c.requires.size, c.new-notes.ensures, none-settled (rw c.sets.view_is at c.sets.invariant), part) (batch-none c.args.sets.now);
     }

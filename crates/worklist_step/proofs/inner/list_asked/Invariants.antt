@@ -1,15 +1,6 @@
--- The rows before `row` are looked at.
--- Assumes nothing.
-use Rattle.std.proofs.Common.{◌-◌, length}
-use Rattle.tables.proofs.Threads.{At}
-use Rattle.worklist_step.specs.inner.Step.{AskedBelow}
+-- The rows so far are looked at.
+use Rattle.request_queue.specs.inner.Growing.{Grown, given, chosen}
 use Rattle.worklist_step.proofs.inner.list_asked.Given as goal
 
-abbrev pub invariant-loop-row : goal.invariant-loop-row
-invariant-loop-row l = record {
-  place : At l.asked l.at l.row;
-  asked : AskedBelow l.asked l.eligible l.at l.row l.initial.placed l.initial.list l.count l.placed l.list l.end;
-}
-
-abbrev pub decreases-loop-row : goal.decreases-loop-row
-decreases-loop-row l = length l.asked - l.row
+abbrev pub invariant-loop-m : goal.invariant-loop-m
+invariant-loop-m l = Grown (given (chosen l.eligible) l.yielded) l.fn.list l.list

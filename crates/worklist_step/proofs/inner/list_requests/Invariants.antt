@@ -1,7 +1,8 @@
 -- The places passed are looked at.
--- Assumes nothing.
-use Rattle.worklist_step.specs.inner.Step.{RequestedBelow}
+use Rattle.std.proofs.Common.{take}
+use Rattle.request_queue.specs.inner.Growing.{Grown, given}
+use Rattle.worklist_step.specs.inner.Step.{Gives}
 use Rattle.worklist_step.proofs.inner.list_requests.Given as goal
 
 abbrev pub invariant-loop-v : goal.invariant-loop-v
-invariant-loop-v l = RequestedBelow l.part l.marks l.candidates l.v-index l.initial.placed l.initial.list l.count l.placed l.list l.end
+invariant-loop-v l = Grown (given (Gives l.marks l.candidates) (take l.v-index l.part)) l.fn.list l.list

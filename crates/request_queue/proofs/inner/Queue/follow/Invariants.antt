@@ -1,0 +1,6 @@
+-- The targets so far are listed.
+use Rattle.request_queue.specs.inner.Growing.{among, Grown}
+use Rattle.request_queue.proofs.inner.Queue.follow.Given as goal
+
+abbrev pub invariant-loop-target : goal.invariant-loop-target
+invariant-loop-target l = Grown (among l.yielded) l.fn.self l.self

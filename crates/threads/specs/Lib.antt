@@ -1,0 +1,2 @@
+-- Threaded rows.
+pub mod inner

@@ -1,2 +1,0 @@
--- The ends of a worklist.
-pub mod inner

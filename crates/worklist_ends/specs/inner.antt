@@ -1,2 +1,0 @@
--- What only inner contracts and proofs speak of.
-pub mod Ends
