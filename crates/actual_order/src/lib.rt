@@ -23,7 +23,7 @@ pub fn actual_order(
     let mut space = ReadSpace::EMPTY;
     let mut arranged = [0u32; ROW_LIMIT];
     let current = read_named(table, &mut space, &mut arranged)?;
-    let Some(chunk) = find_entry(&current, root) else {
+    let Some(entry) = find_entry(&current, root) else {
         return Err(Refusal::Argument);
     };
     let modules = current.modules();
@@ -33,6 +33,6 @@ pub fn actual_order(
     if hosts.len() < modules {
         return Err(Refusal::ShortSlice);
     }
-    let count = prepare_and_list(&current, order, &mut hosts[..modules], root, chunk);
+    let count = prepare_and_list(&entry, order, &mut hosts[..modules]);
     Ok(count)
 }

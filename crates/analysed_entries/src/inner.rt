@@ -34,13 +34,34 @@ fn entry_chunk_of(entry: &[u32], entry_chunk: &[u32], root: u32) -> Option<u32>
     Some(chunk)
 }
 
+// An analysed entry of a table: a root, and its entry chunk.
+#[derive(Drop)]
+pub struct AnalysedEntry<'a, 'c> {
+    pub current: &'a Current<'c>,
+    pub root: u32,
+    pub chunk: u32,
+    pub ghost entry: { Entry current.now root chunk },
+}
+
 // The entry chunk of a root that is an analysed entry, none for any other.
 #[tactic(auto, using(crate::proofs::Roots::analysing), unfolding(current_columns::specs::AsProject::project, tables::specs::Readings::entry_chunk_of))]
-pub fn find_entry(current: &Current, root: u32) -> Option<u32>
+fn find_chunk(current: &Current, root: u32) -> Option<u32>
     ensures { MatchOption result (is_analysed current.now root ≡ false) (λ chunk. (is_analysed current.now root ≡ true) × Entry current.now root chunk) }
 {
     if !is_included(current.included, root) {
         return None;
     }
     entry_chunk_of(current.entry, current.entry_chunk, root)
+}
+
+// The analysed entry that a root is, none for any other root.
+pub fn find_entry<'a, 'c>(current: &'a Current<'c>, root: u32) -> Option<AnalysedEntry<'a, 'c>>
+    ensures { MatchOption result (is_analysed current.now root ≡ false) (λ entry. (is_analysed current.now root ≡ true) × (entry.current.now ≡ current.now) × (entry.root ≡ root)) }
+{
+    let chunk = find_chunk(current, root)?;
+    Some(AnalysedEntry {
+        current,
+        root,
+        chunk,
+    })
 }

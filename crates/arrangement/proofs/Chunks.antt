@@ -1,11 +1,10 @@
 -- The members sorted in place, chunk by chunk.
 -- Assumes nothing.
 use Rattle.std.specs.Prelude.{◌≡◌, ℕ, ◌+◌, ◌-◌, ◌≤◌, List, ◌++◌, length, take, drop}
-use mathlib.Core.Path.{refl, sym, ap, subst, ◌∙◌}
-use mathlib.Core.List.Memᴰ
-use mathlib.Core.List.{flat_map, append_assoc, Memᴰ}
+use mathlib.Core.Path.{refl, sym, ap, ◌∙◌}
+use mathlib.Core.List.{flat_map, append_assoc}
 use native.Mathlib.Omega.{arith}
-use lib.ListN.{length-append, length-drop, take-append-drop}
+use lib.ListN.{length-append, length-drop}
 use lib.Seq.{take_all, take_at, drop-drop, length-take-le}
 use borrow.Rule.Slice.PartMut.{mid_of, post_of, put_mid, same_len_mid, drop_put}
 use Rattle.lists.specs.Words.{up_to}
@@ -13,8 +12,7 @@ use Rattle.tables.specs.Lookups.{FirstRow}
 use Rattle.tables.specs.Readings.{values_of}
 use Rattle.tables.proofs.Rows.{run-ordered, values-part}
 use Rattle.merge_sort.specs.Sort.{ahead, sort_with}
-use Rattle.merge_sort.specs.inner.Held.{Held}
-use Rattle.merge_sort.proofs.Halves.{sort-length, held-part}
+use Rattle.merge_sort.proofs.Sorting.{sort-length}
 use Rattle.arrangement.specs.Arrangement.{sorted_members, arranged}
 use Rattle.arrangement.specs.inner.Rows.{Members}
 use Rattle.arrangement.proofs.Parts.{flat-more, first-end}
@@ -40,12 +38,6 @@ module _ (key : ℕ → List ℕ) (owner old : List ℕ) where
   }
 
   module _ (n : ℕ) (f : Members owner old n) (now : List ℕ) (c start : ℕ) (g : Arranging now c start) where
-    pub arranging-held : {groups places : List ℕ} → Held groups places old → (k : ℕ) → Held groups places (take k (drop start now))
-    arranging-held h k =
-        held-part (take k (drop start now))
-        (λ z m. subst (Memᴰ z) (take-append-drop start old) (Memᴰ.append_right (take start old) (subst (Memᴰ z) g.rest (subst (Memᴰ z) (take-append-drop k (drop start now)) (Memᴰ.append_left (drop k (drop start now)) m)))))
-        h
-
     module _ (end : ℕ) (next : FirstRow owner (c + 1) end) where
       pub arranging-ordered : start ≤ end
       arranging-ordered = run-ordered owner c start end g.first next

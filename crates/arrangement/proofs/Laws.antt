@@ -13,8 +13,7 @@ use Rattle.tables.proofs.Accepted.{below-mem}
 use Rattle.load_order.proofs.Arranging.{values-below}
 use Rattle.merge_sort.specs.Sort.{ahead}
 use Rattle.merge_sort.proofs.Ahead.{ahead-asym, ahead-trans}
-use Rattle.merge_sort.proofs.Sorting.{times, same_mem, sort-times, InOrder, sort-order, sort-cong}
-use Rattle.merge_sort.proofs.Halves.{sort-length}
+use Rattle.merge_sort.proofs.Sorting.{times, same_mem, sort-times, sort-length, InOrder, sort-order, sort-cong}
 use Rattle.arrangement.specs.Arrangement.{sorted_members, arranged}
 use Rattle.arrangement.specs.inner.Rows.{Members}
 use Rattle.arrangement.proofs.Parts.{flat-size, flat-values}

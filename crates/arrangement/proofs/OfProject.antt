@@ -1,9 +1,8 @@
 -- The arrangement of an accepted project's members.
 -- Assumes nothing.
-use Rattle.std.specs.Prelude.{◌≡◌, ℕ, zero, suc, true, cond, ◌||◌, List, [], length, None}
+use Rattle.std.specs.Prelude.{◌≡◌, ℕ, zero, suc, ◌<◌, true, cond, ◌||◌, List, [], length, None}
 use mathlib.Core.Path.{refl, sym, ap, ◌∙◌}
 use mathlib.Core.Logic.{⊎_elim}
-use native.Mathlib.Omega.{arith}
 use Rattle.lists.specs.Words.{is_zero}
 use Rattle.lists.proofs.Laws.{both, length-map-up_to}
 use Rattle.tables.specs.Project.{Project}
@@ -18,9 +17,11 @@ use Rattle.table.proofs.Reading.{Replacing, accepted-read}
 use Rattle.sort_modules.specs.Sort.{numbers}
 use Rattle.sort_modules.specs.OfProject.{numbers_of}
 use Rattle.names.specs.Names.{names_fit, names_in}
+use Rattle.module_keys.specs.Keys.{key_of}
+use Rattle.arrangement.specs.Arrangement.{arranged}
 use Rattle.arrangement.specs.OfProject.{key_in, arranged_of, members_read, named, as_named}
-use Rattle.arrangement.specs.inner.Rows.{Members, Fit}
-use Rattle.arrangement.proofs.Laws.{arranged-size, arranged-below}
+use Rattle.arrangement.specs.inner.Rows.{Members}
+use Rattle.arrangement.proofs.Laws.{arranged-size, arranged-below, arranged-same}
 
 module _ (p : Project) (ok : Accepted p) where
   pub members-fit : Members p.member_chunk p.member (chunks p)
@@ -30,16 +31,12 @@ module _ (p : Project) (ok : Accepted p) where
   unfolding numbers_of numbers
   numbers-length = length-map-up_to _ (modules p)
 
-  pub arranging_fit : (names : List ℕ) → names_fit (modules p) names ≡ true → Fit names p.normal p.record_module p.sensitive (numbers_of p) p.member_chunk p.member (chunks p)
-  arranging_fit names e = record {
-    modules = record { normals = refl; sensitives = ok.sizes.sensitive; rising = ok.rises.record_module };
-    few = ok.sizes.normal;
-    named = e;
-    numbered = numbers-length;
-    chunked = members-fit;
-    inside = ok.values.member;
-    rows = omega (arith, ok.sizes.member, ok.sizes.member_chunk);
-  }
+  -- the members arranged by what are the keys of the modules
+  pub keys-arranged : (key : ℕ → List ℕ) (names numbers members : List ℕ) (count : ℕ) → numbers ≡ numbers_of p → members ≡ p.member → count ≡ chunks p
+      → ((m : ℕ) → m < modules p → key m ≡ key_of names p.normal p.record_module p.sensitive numbers m) → arranged key count p.member_chunk members ≡ arranged_of p names
+  unfolding arranged_of key_in
+  keys-arranged key names numbers members count n m c h =
+      rw (m, c) (arranged-same key (key_in p names) (chunks p) (modules p) p.member_chunk p.member (rw n at h) members-fit.lengths ok.values.member)
 
   -- the members as they are read: as many, and each a module
   pub read-size : (names : List ℕ) → length (members_read p names) ≡ length p.member

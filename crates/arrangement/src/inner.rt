@@ -2,16 +2,15 @@
 ghost use Rattle.std.specs.Prelude.{◌≡◌, ◌≤◌, true, length};
 ghost use Rattle.tables.specs.Readings.{modules};
 ghost use Rattle.names.specs.Names.{names_fit};
-ghost use Rattle.merge_sort.specs.inner.Held.{held_key, Held};
-ghost use Rattle.module_keys.specs.Keys.{key_of};
+ghost use Rattle.merge_sort.specs.inner.Held.{key_at};
 ghost use Rattle.sort_modules.specs.OfProject.{numbers_of};
 ghost use Rattle.arrangement.specs.Arrangement.{arranged};
 ghost use Rattle.refusal.specs.Reading.{ReadAs};
 ghost use Rattle.arrangement.specs.OfProject.{arranged_of, as_named};
-ghost use Rattle.arrangement.specs.inner.Rows.{Members, Fit};
+ghost use Rattle.arrangement.specs.inner.Rows.{Members};
 
 use current_columns::inner::{Current, ReadSpace};
-use merge_sort::inner::merge_sort;
+use merge_sort::inner::Keys;
 use module_keys::inner::find_keys;
 use refusal::read_tested;
 use sort_modules::inner::sort_table;
@@ -19,74 +18,36 @@ use table::{MODULE_LIMIT, ROW_LIMIT, Table};
 use tables::Refusal;
 use tables::inner::first_row;
 
-// Sorts the members of each chunk in place. `work` is working space, a place a member row.
-fn sort_chunks(
-    groups: &[u32],
-    places: &[usize],
-    names: &[u8],
-    member_chunk: &[u32],
-    members: &mut [u32],
-    work: &mut [u32],
-    chunks: usize,
-)
-    requires rows { Members member_chunk.now members.old chunks }
-    requires held { Held groups.now places.now members.old }
-    requires room { length members.old ≤ length work.old }
-    ensures { members.new ≡ arranged (held_key groups.now places.now names.now) chunks member_chunk.now members.old }
+// Sorts the members of each chunk in place.
+fn sort_chunks(keys: &Keys, member_chunk: &[u32], members: &mut [u32], chunks: usize)
+    requires { Members member_chunk.now members.old chunks }
+    ensures { members.new ≡ arranged (key_at keys.now) chunks member_chunk.now members.old }
 {
     let mut start = 0;
     // by number: where a chunk's members end is looked up
     for c in 0..chunks {
         let end = first_row(member_chunk, c + 1);
-        merge_sort(groups, places, names, &mut members[start..end], work);
+        keys.sort(&mut members[start..end]);
         start = end;
     }
 }
 
-// Arranges the members of each chunk in place.
-fn arrange(
-    names: &[u8],
-    normal: &[u32],
-    importers: &[u32],
-    sensitive: &[u32],
-    numbers: &[u32],
-    member_chunk: &[u32],
-    members: &mut [u32],
-    chunks: usize,
-)
-    requires fit { Fit names.now normal.now importers.now sensitive.now numbers.now member_chunk.now members.old chunks }
-    ensures { members.new ≡ arranged (key_of names.now normal.now importers.now sensitive.now numbers.now) chunks member_chunk.now members.old }
-{
-    let modules = normal.len();
-    let mut groups = [0u32; MODULE_LIMIT];
-    let groups = &mut groups[..modules];
-    let mut places = [0usize; MODULE_LIMIT];
-    let places = &mut places[..modules];
-    find_keys(names, normal, importers, sensitive, numbers, groups, places);
-    let mut work = [0u32; ROW_LIMIT];
-    let work = &mut work[..members.len()];
-    sort_chunks(groups, places, names, member_chunk, members, work, chunks);
-}
-
 // The members of a table, arranged by these numbers, a place a member row.
-#[tactic(auto, using(crate::proofs::OfProject::arranging_fit), unfolding(current_columns::specs::AsProject::project, crate::specs::OfProject::arranged_of, crate::specs::OfProject::key_in))]
+#[tactic(auto, unfolding(current_columns::specs::AsProject::project))]
 fn arrange_table(current: &Current, names: &[u8], numbers: &[u32], out: &mut [u32])
     requires places { length out.old ≡ length current.now.member }
     requires named { names_fit (modules current.now) names.now ≡ true }
     requires numbered { numbers.now ≡ numbers_of current.now }
     ensures { out.new ≡ arranged_of current.now names.now }
 {
+    let modules = current.modules();
+    let mut groups = [0u32; MODULE_LIMIT];
+    let groups = &mut groups[..modules];
+    let mut places = [0usize; MODULE_LIMIT];
+    let places = &mut places[..modules];
+    let keys = find_keys(current, names, numbers, groups, places);
     out.copy_from_slice(current.member);
-    arrange(
-        names,
-        current.normal,
-        current.record_module,
-        current.sensitive,
-        numbers,
-        current.member_chunk,
-        out,
-        current.chunks(),
-    );
+    sort_chunks(&keys, current.member_chunk, out, current.chunks());
 }
 
 // The members of a table that has names, arranged, a place a member row.

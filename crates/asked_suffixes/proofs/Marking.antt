@@ -1,11 +1,12 @@
 -- The suffixes of several entries' orders, marked by one plan, are what rule (i) asks for with it.
 -- Assumes nothing.
-use Rattle.std.specs.Prelude.{◌≡◌, ℕ, ◌+◌, ◌<◌, Bool, true, List, [], ◌∷◌, ◌++◌, map, length, get_or, take}
+use Rattle.std.specs.Prelude.{◌≡◌, ℕ, ◌+◌, ◌<◌, ◌≤◌, Bool, true, List, [], ◌∷◌, ◌++◌, map, length, get_or, take}
 use mathlib.Core.Path.{refl, sym, ap, subst, ◌∙◌}
 use mathlib.Core.Logic.{inl, inr, ⊎_elim}
 use mathlib.Core.List.Memᴰ
 use mathlib.Core.List.{Memᴰ}
 use native.Mathlib.Omega.{arith}
+use lib.Seq.{take_all}
 use Rattle.lists.specs.Words.{keep, elem, has}
 use Rattle.lists.proofs.Laws.{and_parts, and-join, any-mem, mem-any, take_more}
 use Rattle.walk.specs.Close.{Within}
@@ -48,6 +49,9 @@ module _ (p : Project) (root_list sensitive S : List ℕ) where
     where
       more : {r : ℕ} → Memᴰ r (take k root_list ++ (get_or root_list k 0 ∷ [])) → Memᴰ r (take (k + 1) root_list)
       more {r} h = subst (Memᴰ r) (take_more root_list k l) h
+
+  pub before-end : (k : ℕ) {s t : List ℕ} → length root_list ≤ k → Before k s t → Joined (InSome p root_list sensitive S) s t
+  before-end k l b = rw (take_all k root_list l) at b
 
 -- rule (i) asks for what is eligible of them
 module _ (p : Project) (S : List ℕ) where

@@ -38,6 +38,7 @@ fn reaches_cyclic(from: &[u32], to: &[u32], labels: &[u32], c: u32) -> bool
         return false;
     }
     let n = labels.len();
+    // as where chunks are labelled: a graph borrows its arrays, so no function can make both
     let mut heads = [0u32; CHUNK_LIMIT];
     let mut nexts = [0u32; ROW_LIMIT];
     let graph = Digraph::new(from, to, &mut heads[..n], &mut nexts);

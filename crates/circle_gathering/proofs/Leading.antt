@@ -14,10 +14,10 @@ use borrow.Author.Tests.{ne_eqb, eqb-false}
 use Rattle.lists.specs.Words.{elem, count_from, up_to, Distinct}
 use Rattle.lists.proofs.Laws.{both, mem-elem, keep-none, mem-up_to, mem-count_from}
 use Rattle.lists.proofs.Members.{mem-flat}
-use Rattle.tables.specs.Project.{missing}
+use Rattle.tables.specs.Project.{Project, missing}
 use Rattle.tables.specs.Lookups.{FirstRows}
-use Rattle.tables.specs.Accepted.{Below}
-use Rattle.tables.specs.Readings.{rows_of}
+use Rattle.tables.specs.Accepted.{Below, Accepted}
+use Rattle.tables.specs.Readings.{modules, rows_of}
 use Rattle.tables.specs.Refusal as refusal
 use Rattle.tables.proofs.Rows.{rows-of-run, run-ordered}
 use Rattle.sort_steps.proofs.Rows.{unless-missing, unless-one}
@@ -81,15 +81,14 @@ pub record Led (record_module starts led : List ℕ) (n : ℕ) (targets : ℕ �
   pub same : length led ≡ length record_module
 
 -- as they stand in the parts that are lent
-pub led-in_parts : {record_module starts led : List ℕ} {targets : ℕ → List ℕ} (n : ℕ) → n ≤ refusal.module_limit → length record_module ≤ refusal.row_limit → Below n record_module
-    → FirstRows record_module starts → length starts ≡ length {A = ℕ} (take (n + 1) (replicate 4097 0))
-    → LedOnce record_module targets (length {A = ℕ} (take n (replicate 4096 0))) led → length led ≡ length {A = ℕ} (take (length record_module) (replicate 16384 0)) → Led record_module starts led n targets
-led-in_parts {record_module} {led = led} {targets} n few rows inside firsts size once_led same = record {
+pub led-in_parts : {p : Project} → Accepted p → {starts led : List ℕ} {targets : ℕ → List ℕ} → FirstRows p.record_module starts → length starts ≡ length {A = ℕ} (take (modules p + 1) (replicate 4097 0))
+    → LedOnce p.record_module targets (modules p) led → length led ≡ length {A = ℕ} (take (length p.record_module) (replicate 16384 0)) → Led p.record_module starts led (modules p) targets
+led-in_parts {p} ok firsts size once_led same = record {
   firsts = firsts;
-  size = size ∙ length-take-le (n + 1) (replicate 4097 0) (omega arith);
-  inside = inside;
-  once_led = subst (λ (k : ℕ). LedOnce record_module targets k led) (length-take-le n (replicate 4096 0) few) once_led;
-  same = same ∙ length-take-le (length record_module) (replicate 16384 0) rows;
+  size = size ∙ length-take-le (modules p + 1) (replicate 4097 0) (omega (arith, ok.sizes.normal));
+  inside = ok.values.record_module;
+  once_led = once_led;
+  same = same ∙ length-take-le (length p.record_module) (replicate 16384 0) ok.sizes.record_module;
 }
 
 module _ {record_module starts led : List ℕ} {n : ℕ} {targets : ℕ → List ℕ} (l : Led record_module starts led n targets) where

@@ -1,6 +1,6 @@
 -- The pass over the rows: of the rows before one, those of each module lead to its targets once, and `seen` tells them.
 -- Assumes nothing.
-use Rattle.std.specs.Prelude.{◌≡◌, ℕ, zero, suc, ◌+◌, ◌<◌, ◌≤◌, Bool, true, false, cond, not, ◌||◌, eqb, ◌⊎◌, List, [], ◌∷◌, ◌++◌, length, get_or, set, replicate}
+use Rattle.std.specs.Prelude.{◌≡◌, ℕ, zero, suc, ◌+◌, ◌<◌, ◌≤◌, Bool, true, false, cond, not, ◌||◌, eqb, ◌⊎◌, List, [], ◌∷◌, ◌++◌, length, get_or, set, replicate, ◌≢◌}
 use mathlib.Core.Path.{refl, sym, ap, subst, ◌∙◌}
 use mathlib.Core.Logic.{inl, inr, ⊎_elim}
 use mathlib.Core.Bool.{false≢true}
@@ -11,7 +11,7 @@ use native.Mathlib.Decide.{ℕ_discrete}
 use native.Mathlib.Omega.{arith}
 use lib.ListN.{length-set, length-replicate}
 use lib.Seq.{get_or-set_same, get_or-set_other, set-get_or}
-use borrow.Author.Tests.{eq-eqb, eqb-true}
+use borrow.Author.Tests.{eq-eqb, eqb-true, ne_eqb}
 use Rattle.lists.specs.Words.{elem, keep, up_to}
 use Rattle.lists.proofs.Laws.{both, iff-eq, elem_mem, mem-elem, mem-keep, keep-mem, mem-up_to, up_to-mem, count_from-append, keep_append, keep-cong}
 use Rattle.lists.proofs.Members.{mem-flat, flat-mem}
@@ -19,13 +19,27 @@ use Rattle.lists.proofs.Maps.{flat-one, flat-cong, flat_append}
 use Rattle.tables.specs.Project.{missing}
 use Rattle.tables.specs.Lookups.{Rising}
 use Rattle.tables.specs.Readings.{rows_of}
+use Rattle.tables.specs.Refusal.{module_limit}
 use Rattle.sort_steps.specs.Steps.{unless_missing}
+use Rattle.sort_steps.proofs.Rows.{unless-one}
 use Rattle.circle_search.specs.inner.Search.{once_after, once}
 use Rattle.circle_rows.specs.Rows.{led_row, Led, LedOnce}
 
 -- a place that is set to what it holds
 pub set_same : (s : List ℕ) (k v : ℕ) → get_or s k 0 ≡ v → set s k v ≡ s
 set_same s k v e = ap (set s k) (sym e) ∙ set-get_or s k 0
+
+-- a row that leads to a module which no earlier row of this importer led to
+pub led_new : (targets seen : List ℕ) (by t : ℕ) → targets ≡ t ∷ [] → length seen ≤ module_limit → t < length seen → get_or seen t 0 ≢ by + 1 → Led targets by seen t (set seen t (by + 1))
+led_new targets seen by t e few l n =
+    rw e
+    (record {
+      leads = unless-one t (ne_eqb t missing (λ q. omega (arith, l, few, q))) ∙ sym (rw (ne_eqb (get_or seen t 0) (by + 1) n) refl);
+      marks = refl;
+      within = inl l;
+      few = omega arith;
+      inside = λ y h. omega (arith, l, Memᴰ.eq_of_singleton h);
+    })
 
 -- one more at the end, the first time
 once_after_lem : (seen xs : List ℕ) (t : ℕ) → once_after seen (xs ++ (t ∷ [])) ≡ once_after seen xs ++ cond (elem t seen || elem t xs) [] (t ∷ [])

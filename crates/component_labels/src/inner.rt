@@ -50,6 +50,7 @@ fn label_both(ahead: &[u32], behind: &[u32], c: u32, labels: &mut [u32])
 fn label_component(graph: &Digraph, back: &Digraph, c: u32, labels: &mut [u32])
     requires few { graph.now.places ≤ chunk_limit }
     requires size { length labels.old ≡ graph.now.places }
+    requires graph { Graph graph.now.from graph.now.to graph.now.places }
     requires back { back.now ≡ backward graph.now }
     requires chunk { c < graph.now.places }
     ensures { labels.new ≡ component_labelled graph.now.places (successors graph.now) c labels.old }
@@ -105,6 +106,7 @@ fn number_all(graph: &Digraph, numbers: &mut [u32])
 fn label_rows(graph: &Digraph, back: &Digraph, labels: &mut [u32])
     requires few { graph.now.places ≤ chunk_limit }
     requires size { length labels.old ≡ graph.now.places }
+    requires graph { Graph graph.now.from graph.now.to graph.now.places }
     requires back { back.now ≡ backward graph.now }
     ensures { labels.new ≡ labelsOver graph.now.places (successors graph.now) }
 {
@@ -144,6 +146,7 @@ pub fn label_chunks(from: &[u32], to: &[u32], labels: &mut [u32]) -> usize
     ensures { ChunksLabelled (length labels.old) (values_of from.now to.now) labels.new result }
 {
     let n = labels.len();
+    // as where chunk reach is looked for: a graph borrows its arrays, so no function can make both
     let mut heads = [0u32; CHUNK_LIMIT];
     let mut nexts = [0u32; ROW_LIMIT];
     let graph = Digraph::new(from, to, &mut heads[..n], &mut nexts);

@@ -1,14 +1,13 @@
 // For crates above, on tested tables.
-ghost use Rattle.std.specs.Prelude.{◌≡◌, true, length};
-ghost use Rattle.lists.specs.Words.{has};
+ghost use Rattle.std.specs.Prelude.{◌≡◌, length};
 ghost use Rattle.tables.specs.Project.{missing};
-ghost use Rattle.marks.specs.Steps.{looked, Owners, Added};
-ghost use Rattle.component_rule.specs.inner.Members.{Together, Members, ComponentSets, ComponentPassed};
 ghost use Rattle.wrap_rules.specs.inner.Passes.{Marked};
+ghost use Rattle.marks.specs.Steps.{looked, Owners};
+ghost use Rattle.component_rule.specs.inner.Members.{ComponentPassed};
 
-use current_columns::inner::Current;
 use lists::inner::count_marked;
 use marks::inner::{add, look_up, mark_owners, raise, value_at};
+use rule_sets::inner::RuleSets;
 use table::{CHUNK_LIMIT, MODULE_LIMIT};
 use tables::ModuleIdx;
 
@@ -26,54 +25,25 @@ fn mark_labels(chunk: &[u32], labels: &[u32], plan: &[u32], hits: &mut [u32])
     }
 }
 
-// One pass of rule (ii). Whether any module was added.
-pub fn close_cyclic_chunk_members(
-    chunk: &[u32],
-    member_chunk: &[u32],
-    member: &[u32],
-    labels: &[u32],
-    sensitive: &[u32],
-    eligible: &[u32],
-    plan: &mut [u32],
-) -> bool
-    requires { Members chunk.now member_chunk.now member.now labels.now sensitive.now eligible.now (length plan.old) }
-    ensures { Added (λ m. Together chunk.now member_chunk.now member.now labels.now plan.old m × (has sensitive.now m ≡ true) × (has eligible.now m ≡ true)) plan.old plan.new result }
+// One pass of rule (ii) over a table. Whether any module was added.
+pub fn pass_members(sets: &RuleSets, plan: &mut [u32]) -> bool
+    requires { Marked sets.now plan.old }
+    ensures { ComponentPassed sets.now plan.old plan.new result }
 {
+    let current = sets.current;
+    let labels = sets.labels;
     let mut hits = [0u32; CHUNK_LIMIT];
     let mut chunks = [0u32; CHUNK_LIMIT];
     let mut marks = [0u32; MODULE_LIMIT];
     let hits = &mut hits[..labels.len()];
     let chunks = &mut chunks[..labels.len()];
     let marks = &mut marks[..plan.len()];
-    mark_labels(chunk, labels, plan, hits);
+    mark_labels(current.chunk, labels, plan, hits);
     if count_marked(hits) == 0 {
         return false;
     }
     // the chunks that have these labels, and then their members
     look_up(labels, hits, chunks, 0);
-    mark_owners(member, member_chunk, chunks, marks);
-    add(marks, sensitive, eligible, plan)
-}
-
-// The pass over a table. Whether any module was added.
-pub fn pass_members(
-    current: &Current,
-    labels: &[u32],
-    sensitive: &[u32],
-    eligible: &[u32],
-    plan: &mut [u32],
-) -> bool
-    requires sets { ComponentSets current.now labels.now sensitive.now eligible.now }
-    requires plan { Marked current.now plan.old }
-    ensures { ComponentPassed current.now plan.old plan.new result }
-{
-    close_cyclic_chunk_members(
-        current.chunk,
-        current.member_chunk,
-        current.member,
-        labels,
-        sensitive,
-        eligible,
-        plan,
-    )
+    mark_owners(current.member, current.member_chunk, chunks, marks);
+    add(marks, sets.sensitive, sets.eligible, plan)
 }

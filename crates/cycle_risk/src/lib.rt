@@ -19,13 +19,13 @@ pub fn cycle_risk(table: &Table, root: u32, marks: &mut [u32]) -> Result<usize, 
 {
     let mut space = ReadSpace::EMPTY;
     let current = read_tested(table, &mut space)?;
-    let Some(chunk) = find_entry(&current, root) else {
+    let Some(entry) = find_entry(&current, root) else {
         return Err(Refusal::Argument);
     };
     let modules = current.modules();
     if marks.len() < modules {
         return Err(Refusal::ShortSlice);
     }
-    let count = mark_cycle_risk(&current, &mut marks[..modules], root, chunk);
+    let count = mark_cycle_risk(&entry, &mut marks[..modules]);
     Ok(count)
 }

@@ -1,3 +1,2 @@
--- `Eligible`: eligible modules have a row. `OfTable`: the marks of a project, and what making them asks.
+-- Eligible modules have a row.
 pub mod Eligible
-pub mod OfTable

@@ -1,3 +1,2 @@
--- Eligible modules. `Ready` is what functions on tested tables ask.
+-- Eligible modules.
 pub mod Eligible
-pub mod Ready

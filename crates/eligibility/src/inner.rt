@@ -1,10 +1,11 @@
 // Eligible modules, for crates above, on tested tables. No function here branches, which `tools/branchless/run` tests: the test
 // is the product of five facts, each 1 exactly if it holds, else 0, whatever stands in the columns.
 ghost use Rattle.std.specs.Prelude.{◌≡◌, ◌<◌, not, length, ◌==◌, nat_lt, slice_index};
-ghost use Rattle.lists.specs.Words.{bit, marks_of};
-ghost use Rattle.tables.specs.Readings.{flagged, wrapped};
-ghost use Rattle.eligibility.specs.Eligible.{is_eligible};
-ghost use Rattle.eligibility.specs.Ready.{Kinds};
+ghost use Rattle.lists.specs.Words.{bit};
+ghost use Rattle.tables.specs.Readings.{modules, flagged, wrapped};
+ghost use Rattle.eligibility.specs.Eligible.{eligible, eligible_marks};
+
+use current_columns::inner::Current;
 
 // A module isn't the runtime.
 fn not_runtime(m: usize, runtime: u32) -> u32
@@ -38,39 +39,25 @@ fn not_wrapped(wrap: &[u32], m: usize) -> u32
 }
 
 // 1 for an eligible module, else 0.
-fn is_order_wrap_eligible(
-    normal: &[u32],
-    included: &[u32],
-    exports: &[u32],
-    wrap: &[u32],
-    runtime: u32,
-    m: usize,
-) -> u32
-    requires { Kinds normal.now included.now exports.now wrap.now × (m < length normal.now) }
-    ensures { result ≡ bit (is_eligible runtime normal.now included.now exports.now wrap.now m) }
+fn is_order_wrap_eligible(current: &Current, m: usize) -> u32
+    requires { m < modules current.now }
+    ensures { result ≡ bit (eligible current.now m) }
 {
-    let not_runtime = not_runtime(m, runtime);
-    let is_included = is_flagged(included, m);
-    let is_normal = is_flagged(normal, m);
-    let not_common_js = not_common_js(exports, m);
-    let not_wrapped = not_wrapped(wrap, m);
+    let not_runtime = not_runtime(m, current.runtime);
+    let is_included = is_flagged(current.included, m);
+    let is_normal = is_flagged(current.normal, m);
+    let not_common_js = not_common_js(current.exports, m);
+    let not_wrapped = not_wrapped(current.wrap, m);
     not_runtime * is_included * is_normal * not_common_js * not_wrapped
 }
 
-// Marks the eligible modules.
-pub fn mark_eligible(
-    normal: &[u32],
-    included: &[u32],
-    exports: &[u32],
-    wrap: &[u32],
-    marks: &mut [u32],
-    runtime: u32,
-)
-    requires { Kinds normal.now included.now exports.now wrap.now × (length marks.old ≡ length normal.now) }
-    ensures { marks.new ≡ marks_of (is_eligible runtime normal.now included.now exports.now wrap.now) (length marks.old) }
+// Marks the eligible modules of a table.
+pub fn mark_table_eligible(current: &Current, marks: &mut [u32])
+    requires places { length marks.old ≡ modules current.now }
+    ensures { marks.new ≡ eligible_marks current.now }
 {
     // by number: the branch test allows no method but `len`
     for m in 0..marks.len() {
-        marks[m] = is_order_wrap_eligible(normal, included, exports, wrap, runtime, m);
+        marks[m] = is_order_wrap_eligible(current, m);
     }
 }

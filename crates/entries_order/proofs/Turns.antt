@@ -7,13 +7,15 @@ use borrow.Author.Tests.{eq-eqb, ne_eqb}
 use Rattle.lists.specs.Words.{keep, count_from, zeros}
 use Rattle.lists.proofs.Laws.{and-out}
 use Rattle.lists.proofs.Maps.{keep-flat}
-use Rattle.walk.specs.Walk.{St, Placed, place, everywhere, Visits}
-use Rattle.walk.proofs.Going.{Going, going-none, going-found, going_end, visited-walk, visited-room, column-rows}
+use Rattle.walk.specs.Walk.{St, Placed, place, everywhere, walk, Visits}
+use Rattle.walk.proofs.Going.{Going, going_start, going-none, going-found, going_end, visited-walk, visited-room, column-rows}
 use Rattle.walk.proofs.Placing.{placed-order, place-count}
-use Rattle.tables.specs.Readings.{is_normal, flagged}
-use Rattle.expected_order.specs.Expected.{normal_imports_of}
-use Rattle.expected_visit.specs.Visit.{held}
+use native.Mathlib.Omega.{arith}
+use Rattle.tables.specs.Project.{Project}
+use Rattle.tables.specs.Readings.{modules, is_normal, flagged}
+use Rattle.expected_visit.specs.Visit.{normal_imports, held}
 use Rattle.entries_order.specs.Entries.{is_walked, entries_order}
+use Rattle.entries_order.specs.OfEntries.{expected_of_entries}
 use Rattle.entries_order.specs.inner.Walked.{Written}
 
 module _ (normal included entries : List ℕ) where
@@ -27,52 +29,61 @@ module _ (normal included entries : List ℕ) where
       ap (keep (is_walked normal included)) (column-rows entries)
       ∙ keep-flat (is_walked normal included) (λ (row : ℕ). get_or entries row 0 ∷ []) (count_from 0 (length entries - 0))
 
-module _ (normal included record_module record_kind record_target entries : List ℕ) (s t : St Placed) (k : ℕ) where
-  abbrev succ : ℕ → List ℕ
-  succ = normal_imports_of normal record_module record_kind record_target
-
+module _ (p : Project) (entries : List ℕ) (s : St Placed) where
   abbrev act : Placed → ℕ → Placed
-  act = place (flagged included)
+  act = place (flagged p.included)
 
-  -- an entry that is not included, or not normal, is passed over
-  pub excluded_passed : (get_or included (get_or entries k 0) 0 ≡ 1 → ⊥) → Going succ everywhere act (turn normal included entries) 0 s k t → Going succ everywhere act (turn normal included entries) 0 s (k + 1) t
-  excluded_passed n g = going-none succ everywhere act (turn normal included entries) 0 s g (rw (ne_eqb (get_or included (get_or entries k 0) 0) 1 n))
+  -- the entries before place k are visited, in a word that does not unfold at the code's goals
+  unfoldable pub Turns : ℕ → St Placed → Type 0
+  Turns k t = Going (normal_imports p) everywhere act (turn p.normal p.included entries) 0 s k t
 
-  pub external_passed : (get_or normal (get_or entries k 0) 0 ≡ 1 → ⊥) → Going succ everywhere act (turn normal included entries) 0 s k t → Going succ everywhere act (turn normal included entries) 0 s (k + 1) t
-  external_passed n g = going-none succ everywhere act (turn normal included entries) 0 s g
-      (rw (and-out (flagged included (get_or entries k 0)) (is_normal normal (get_or entries k 0)) (ne_eqb (get_or normal (get_or entries k 0) 0) 1 n)))
+  pub turns_start : Turns 0 s
+  unfolding Turns
+  turns_start = going_start (normal_imports p) everywhere act (turn p.normal p.included entries) 0 s
 
-  -- any other is visited
-  pub entry_walked : get_or included (get_or entries k 0) 0 ≡ 1 → get_or normal (get_or entries k 0) 0 ≡ 1
-      → Going succ everywhere act (turn normal included entries) 0 s k t
-      → {u : St Placed} → Visits succ everywhere act t (get_or entries k 0 ∷ []) u
-      → Going succ everywhere act (turn normal included entries) 0 s (k + 1) u
-  entry_walked e n g {u} v = going-found succ everywhere act (turn normal included entries) 0 s g
-      (rw (eq-eqb (get_or included (get_or entries k 0) 0) 1 e, eq-eqb (get_or normal (get_or entries k 0) 0) 1 n)) v
+  module _ (k : ℕ) (t : St Placed) (g : Turns k t) where
+    -- an entry that is not included, or not normal, is passed over
+    pub excluded_passed : (get_or p.included (get_or entries k 0) 0 ≡ 1 → ⊥) → Turns (k + 1) t
+    unfolding Turns
+    excluded_passed n = going-none (normal_imports p) everywhere act (turn p.normal p.included entries) 0 s g (rw (ne_eqb (get_or p.included (get_or entries k 0) 0) 1 n))
 
-  -- the list has room for what is not met
-  pub room_left : Going succ everywhere act (turn normal included entries) 0 s k t → t.made.count + zeros t.marks ≤ s.made.count + zeros s.marks
-  room_left g = visited-room succ everywhere act (λ (p : Placed). p.count) (place-count (flagged included)) g.so_far
+    pub external_passed : (get_or p.normal (get_or entries k 0) 0 ≡ 1 → ⊥) → Turns (k + 1) t
+    unfolding Turns
+    external_passed n = going-none (normal_imports p) everywhere act (turn p.normal p.included entries) 0 s g
+        (rw (and-out (flagged p.included (get_or entries k 0)) (is_normal p.normal (get_or entries k 0)) (ne_eqb (get_or p.normal (get_or entries k 0) 0) 1 n)))
 
-  -- past the last entry, all are visited
-  pub entries_walked : k ≡ length entries → Going succ everywhere act (turn normal included entries) 0 s k t → Visits succ everywhere act s (keep (is_walked normal included) entries) t
-  entries_walked e g = going_end succ everywhere act (turn normal included entries) 0 s g e (all-turns normal included entries)
+    -- any other is visited
+    pub entry_walked : get_or p.included (get_or entries k 0) 0 ≡ 1 → get_or p.normal (get_or entries k 0) 0 ≡ 1
+        → {u : St Placed} → Visits (normal_imports p) everywhere act t (get_or entries k 0 ∷ []) u → Turns (k + 1) u
+    unfolding Turns
+    entry_walked e n {u} v = going-found (normal_imports p) everywhere act (turn p.normal p.included entries) 0 s g
+        (rw (eq-eqb (get_or p.included (get_or entries k 0) 0) 1 e, eq-eqb (get_or p.normal (get_or entries k 0) 0) 1 n)) v
 
-module _ (normal included record_module record_kind record_target entries order : List ℕ) where
+    -- the list has room for what is not met
+    pub room-left : t.made.count + zeros t.marks ≤ s.made.count + zeros s.marks
+    unfolding Turns
+    room-left = visited-room (normal_imports p) everywhere act (λ (q : Placed). q.count) (place-count (flagged p.included)) g.so_far
+
+    -- past the last entry, all are visited
+    pub entries_walked : length entries ≤ k → k ≤ length entries → Visits (normal_imports p) everywhere act s (keep (is_walked p.normal p.included) entries) t
+    unfolding Turns
+    entries_walked l b = going_end (normal_imports p) everywhere act (turn p.normal p.included entries) 0 s g {end = length entries} (omega (arith, l, b)) (all-turns p.normal p.included entries)
+
+pub ruleset turn_steps = (turns_start, excluded_passed, external_passed, entry_walked, entries_walked)
+
+module _ (p : Project) (entries order : List ℕ) where
   -- visits from nothing met list the order
-  pub entries-written : (marks' order' : List ℕ) (r : ℕ) → length normal ≤ length order
-      → Visits (normal_imports_of normal record_module record_kind record_target) everywhere (place (flagged included)) (held (replicate (length normal) 0) order 0) (keep (is_walked normal included) entries) (held marks' order' r)
-      → Written (entries_order normal included record_module record_kind record_target entries) order order' r
-  unfolding entries_order
-  entries-written marks' order' r l v = record { count = ap (λ (p : Placed). p.count) made; written = ap (λ (p : Placed). p.order) made }
+  pub entries-written : (marks marks' order' : List ℕ) (n r : ℕ) → marks ≡ replicate n 0 → n ≡ modules p → modules p ≤ length order
+      → Visits (normal_imports p) everywhere (place (flagged p.included)) (held marks order 0) (keep (is_walked p.normal p.included) entries) (held marks' order' r)
+      → Written (expected_of_entries p entries) order order' r
+  unfolding expected_of_entries entries_order
+  entries-written marks marks' order' n r b e l v = record { count = ap (λ (q : Placed). q.count) made; written = ap (λ (q : Placed). q.order) made }
     where
-      succ : ℕ → List ℕ
-      succ = normal_imports_of normal record_module record_kind record_target
-
       list : List ℕ
-      list = entries_order normal included record_module record_kind record_target entries
+      list = expected_of_entries p entries
 
       made : ◌≡◌ {A = Placed} (record { order = order'; count = r }) (record { order = list ++ drop (length list) order; count = length list })
       made =
-          sym (ap (λ (s : St Placed). s.made) (visited-walk succ everywhere (place (flagged included)) v))
-          ∙ placed-order (flagged included) succ everywhere (length normal) (keep (is_walked normal included) entries) order l
+          sym (ap (λ (s : St Placed). s.made) (visited-walk (normal_imports p) everywhere (place (flagged p.included)) v))
+          ∙ ap (λ (m : List ℕ). (walk (normal_imports p) everywhere (place (flagged p.included)) (held m order 0) (keep (is_walked p.normal p.included) entries)).made) (b ∙ ap (λ (i : ℕ). replicate {A = ℕ} i 0) e)
+          ∙ placed-order (flagged p.included) (normal_imports p) everywhere (modules p) (keep (is_walked p.normal p.included) entries) order l

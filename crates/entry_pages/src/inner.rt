@@ -1,17 +1,16 @@
-// For crates above, on tested tables: the page of an entry, a root with its entry chunk, and one line of it. The sensitive and the planned modules are given, a
+// For crates above, on tested tables: the page of an entry, and one line of it. The sensitive and the planned modules are given, a
 // mark a module.
 ghost use Rattle.std.specs.Prelude.{◌≡◌, ◌*◌, ◌<◌, ◌≤◌, length};
 ghost use Rattle.lists.specs.Words.{keep, has};
 ghost use Rattle.tables.specs.Readings.{modules};
 ghost use Rattle.tables.specs.Refusal.{module_limit};
-ghost use Rattle.analysed_entries.specs.inner.Entries.{Entry};
 ghost use Rattle.expected_order.specs.OfProject.{expected_of};
 ghost use Rattle.entry_run.specs.Actual.{actual_of};
 ghost use Rattle.lines.specs.Lines.{PutAt};
 ghost use Rattle.risk_of_orders.specs.inner.Steps.{Order};
 ghost use Rattle.entry_pages.specs.Marked.{marked_page, marked_line};
-ghost use Rattle.entry_pages.specs.inner.OverTable.{Entering};
 
+use analysed_entries::inner::AnalysedEntry;
 use current_columns::inner::Current;
 use entry_run::inner::prepare_and_list;
 use expected_order::inner::find_expected;
@@ -40,21 +39,18 @@ fn marked_expected<'a>(
 
 // The marked modules of an entry's actual order.
 fn marked_actual<'a>(
-    current: &Current,
+    entry: &AnalysedEntry,
     marks: &[u32],
     kept: &'a mut [u32; MODULE_LIMIT],
-    root: u32,
-    chunk: u32,
 ) -> &'a [u32]
-    requires entry { Entry current.now root chunk }
-    requires marks { length marks.now ≡ modules current.now }
-    ensures list { result.now ≡ keep (has marks.now) (actual_of current.now root) }
-    ensures order { Order result.now (modules current.now) }
+    requires marks { length marks.now ≡ modules entry.now.current.now }
+    ensures list { result.now ≡ keep (has marks.now) (actual_of entry.now.current.now entry.now.root) }
+    ensures order { Order result.now (modules entry.now.current.now) }
 {
     let mut order = [0u32; MODULE_LIMIT];
     let mut hosts = [0u32; MODULE_LIMIT];
-    let hosts = &mut hosts[..current.modules()];
-    let listed = prepare_and_list(current, &mut order, hosts, root, chunk);
+    let hosts = &mut hosts[..entry.current.modules()];
+    let listed = prepare_and_list(entry, &mut order, hosts);
     let count = keep_marked(&order[..listed], marks, kept);
     &kept[..count]
 }
@@ -62,42 +58,38 @@ fn marked_actual<'a>(
 // Writes the page of an entry from place 0, and answers its length.
 #[tactic(auto, unfolding(crate::specs::Marked::marked_page))]
 pub fn put_entry_page(
-    current: &Current,
+    entry: &AnalysedEntry,
     sensitives: &[u32],
     plan: &[u32],
     out: &mut [u8],
-    root: u32,
-    chunk: u32,
 ) -> usize
-    requires entry { Entering current.now root chunk (length sensitives.now) (length plan.now) }
+    requires marks { (length sensitives.now ≡ modules entry.now.current.now) × (length plan.now ≡ modules entry.now.current.now) }
     requires room { 41 * length plan.now ≤ length out.old }
-    ensures { PutAt out.old 0 (marked_page current.now sensitives.now plan.now root) out.new result }
+    ensures { PutAt out.old 0 (marked_page entry.now.current.now sensitives.now plan.now entry.now.root) out.new result }
 {
     let mut expected = [0u32; MODULE_LIMIT];
-    let expected = marked_expected(current, sensitives, &mut expected, root);
+    let expected = marked_expected(entry.current, sensitives, &mut expected, entry.root);
     let mut actual = [0u32; MODULE_LIMIT];
-    let actual = marked_actual(current, sensitives, &mut actual, root, chunk);
+    let actual = marked_actual(entry, sensitives, &mut actual);
     put_page(expected, actual, plan, out)
 }
 
 // Writes one line of an entry's page, by its number, from place 0, and answers its length; past the last, 0.
 #[tactic(auto, unfolding(crate::specs::Marked::marked_line))]
 pub fn put_entry_line(
-    current: &Current,
+    entry: &AnalysedEntry,
     sensitives: &[u32],
     plan: &[u32],
     out: &mut [u8],
-    root: u32,
-    chunk: u32,
     number: usize,
 ) -> usize
-    requires entry { Entering current.now root chunk (length sensitives.now) (length plan.now) }
+    requires marks { (length sensitives.now ≡ modules entry.now.current.now) × (length plan.now ≡ modules entry.now.current.now) }
     requires room { 41 ≤ length out.old }
-    ensures { PutAt out.old 0 (marked_line current.now sensitives.now plan.now root number) out.new result }
+    ensures { PutAt out.old 0 (marked_line entry.now.current.now sensitives.now plan.now entry.now.root number) out.new result }
 {
     let mut expected = [0u32; MODULE_LIMIT];
-    let expected = marked_expected(current, sensitives, &mut expected, root);
+    let expected = marked_expected(entry.current, sensitives, &mut expected, entry.root);
     let mut actual = [0u32; MODULE_LIMIT];
-    let actual = marked_actual(current, sensitives, &mut actual, root, chunk);
+    let actual = marked_actual(entry, sensitives, &mut actual);
     put_numbered(expected, actual, plan, out, number)
 }

@@ -10,17 +10,16 @@ ghost use Rattle.entry_run.specs.Actual.{run_of};
 ghost use Rattle.entry_run.specs.inner.Cores.{turns, Runnable, Listed};
 ghost use Rattle.entry_run.specs.inner.OverTable.{Listing, PreparedSome, ListedAs};
 
+use analysed_entries::inner::AnalysedEntry;
 use chunk_visits::inner::visit_and_execute;
-use current_columns::inner::Current;
 use lists::inner::fill;
 use table::{CHUNK_LIMIT, MODULE_LIMIT};
 use tables::ModuleIdx;
-use visit_columns::inner::{
-    LOAD_STARTS, LOADS, MEMBER_STARTS, PREPARED, STARTS, TRIGGERS, prepare_table,
-};
+use visit_columns::inner::{VisitColumns, VisitSpace, prepare_table};
 use visit_steps::inner::ActualOrderTraversal;
 
 // The visits of a root whose entry chunk is given, by the columns that they read. No module is met before, and no host noted. How many are listed.
+// The columns stay plain slices from here on: a rule of the project asks for plain slices beside the counters that the visits lend on.
 fn actual_order_for_root<'a>(
     ways: &'a [u32],
     starts: &'a [u32],
@@ -64,78 +63,58 @@ fn actual_order_for_root<'a>(
     all.placed
 }
 
-// The run of an entry of a table, a root with its entry chunk, with the wraps that `prepared` was made with: its list written to `order` from place 0, and
+// The run of an entry of a table with the wraps that `columns` were made with: its list written to `order` from place 0, and
 // its hosts, a place a module. How many are listed.
 #[tactic(auto, unfolding(current_columns::specs::AsProject::project))]
-pub fn list_prepared<'a>(
-    current: &Current,
-    prepared: &'a [u32],
+pub fn list_prepared(
+    entry: &AnalysedEntry,
+    columns: &VisitColumns,
     order: &mut [u32],
     hosts: &mut [u32],
-    root: u32,
-    chunk: u32,
 ) -> usize
-    requires prepared { PreparedSome current.now prepared.now }
-    requires places { Listing current.now root chunk (length order.old) (length hosts.old) }
-    ensures { ListedAs current.now prepared.now root order.old order.new hosts.new result }
+    requires prepared { PreparedSome entry.now.current.now columns.now }
+    requires places { Listing entry.now.current.now (length order.old) (length hosts.old) }
+    ensures { ListedAs entry.now.current.now columns.now entry.now.root order.old order.new hosts.new result }
 {
-    let modules = current.normal.len();
+    let current = entry.current;
     let chunks = current.order.len();
-    let starts = STARTS;
-    let starts_end = STARTS + modules + 1;
-    let triggers = TRIGGERS;
-    let triggers_end = TRIGGERS + current.record_module.len();
-    let member_starts = MEMBER_STARTS;
-    let member_end = MEMBER_STARTS + chunks + 1;
-    let load_starts = LOAD_STARTS;
-    let load_end = LOAD_STARTS + chunks + 1;
-    let loads = LOADS;
-    let loads_end = LOADS + current.import_chunk.len();
     actual_order_for_root(
-        &prepared[..modules],
-        &prepared[starts..starts_end],
-        &prepared[triggers..triggers_end],
+        columns.ways,
+        columns.starts,
+        columns.triggers,
         current.member,
-        &prepared[member_starts..member_end],
-        &prepared[load_starts..load_end],
-        &prepared[loads..loads_end],
+        columns.member_starts,
+        columns.load_starts,
+        columns.loads,
         order,
         hosts,
         chunks,
-        root,
-        chunk,
+        entry.root,
+        entry.chunk,
     )
 }
 
-// The actual order of an entry of a table, a root with its entry chunk, written to `order` from place 0, and its hosts, a place a module. `prepared` has
-// the columns that the visits read with the table's wraps. How many are listed.
-pub fn list_actual<'a>(
-    current: &Current,
-    prepared: &'a [u32],
+// The actual order of an entry of a table, written to `order` from place 0, and its hosts, a place a module. `columns` are
+// those that the visits read with the table's wraps. How many are listed.
+pub fn list_actual(
+    entry: &AnalysedEntry,
+    columns: &VisitColumns,
     order: &mut [u32],
     hosts: &mut [u32],
-    root: u32,
-    chunk: u32,
 ) -> usize
-    requires prepared { Prepared current.now prepared.now }
-    requires places { Listing current.now root chunk (length order.old) (length hosts.old) }
-    ensures { Listed (run_of current.now current.now.wrap root) order.old order.new hosts.new result }
+    requires prepared { Prepared entry.now.current.now columns.now }
+    requires places { Listing entry.now.current.now (length order.old) (length hosts.old) }
+    ensures { Listed (run_of entry.now.current.now entry.now.current.now.wrap entry.now.root) order.old order.new hosts.new result }
 {
-    list_prepared(current, prepared, order, hosts, root, chunk)
+    list_prepared(entry, columns, order, hosts)
 }
 
 // The actual order of an entry of a table, and its hosts. How many are listed.
-pub fn prepare_and_list(
-    current: &Current,
-    order: &mut [u32],
-    hosts: &mut [u32],
-    root: u32,
-    chunk: u32,
-) -> usize
-    requires places { Listing current.now root chunk (length order.old) (length hosts.old) }
-    ensures { Listed (run_of current.now current.now.wrap root) order.old order.new hosts.new result }
+pub fn prepare_and_list(entry: &AnalysedEntry, order: &mut [u32], hosts: &mut [u32]) -> usize
+    requires places { Listing entry.now.current.now (length order.old) (length hosts.old) }
+    ensures { Listed (run_of entry.now.current.now entry.now.current.now.wrap entry.now.root) order.old order.new hosts.new result }
 {
-    let mut prepared = [0u32; PREPARED];
-    prepare_table(current, &mut prepared);
-    list_actual(current, &prepared, order, hosts, root, chunk)
+    let mut space = VisitSpace::EMPTY;
+    let columns = prepare_table(entry.current, &mut space);
+    list_actual(entry, &columns, order, hosts)
 }

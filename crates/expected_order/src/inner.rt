@@ -3,73 +3,30 @@ ghost use Rattle.std.specs.Prelude.{◌≡◌, ◌<◌, ◌≤◌, length};
 ghost use Rattle.tables.specs.Readings.{modules};
 ghost use Rattle.tables.specs.Refusal.{module_limit};
 ghost use Rattle.tables.specs.Accepted.{Below};
-ghost use Rattle.expected_visit.specs.Visit.{Fit};
-ghost use Rattle.expected_order.specs.Expected.{expected};
 ghost use Rattle.expected_order.specs.OfProject.{expected_of};
 ghost use Rattle.expected_order.specs.Visit.{Listed, Rooted};
 
 use current_columns::inner::Current;
 use expected_visit::inner::visit;
-use lists::inner::fill;
 use table::MODULE_LIMIT;
 use tables::inner::first_rows;
 
-// The expected order of an entry. `marks` is working space, a place a module.
-fn expected_order_for_root<'a>(
-    normal: &'a [u32],
-    included: &'a [u32],
-    record_module: &'a [u32],
-    record_kind: &'a [u32],
-    record_target: &'a [u32],
-    marks: &mut [u32],
-    order: &mut [u32],
-    root: u32,
-) -> usize
-    requires fit { Fit normal.now included.now record_module.now record_kind.now record_target.now (length marks.old) }
-    requires module { root < length marks.old }
-    requires room { length marks.old ≤ length order.old }
-    ensures { Listed (expected normal.now included.now record_module.now record_kind.now record_target.now root) marks.old order.old marks.new order.new result }
-{
-    fill(marks, 0);
-    if normal[root as usize] != 1 {
-        return 0;
-    }
-    let n = normal.len();
-    let mut starts = [0u32; MODULE_LIMIT + 1];
-    let starts = &mut starts[..n + 1];
-    first_rows(record_module, starts);
-    let count = visit(
-        normal,
-        included,
-        record_module,
-        record_kind,
-        record_target,
-        starts,
-        marks,
-        order,
-        root,
-        0,
-    );
-    fill(marks, 0);
-    count
-}
-
 // The expected order of a row of an accepted project. `marks` is working space, a place a module.
-#[tactic(auto, using(crate::proofs::Fits::accepted_fit), unfolding(current_columns::specs::AsProject::project, crate::specs::OfProject::expected_of))]
+#[tactic(auto, using(crate::proofs::Entries::blank_room), unfolding(current_columns::specs::AsProject::project))]
 pub fn list_expected(current: &Current, marks: &mut [u32], order: &mut [u32], root: u32) -> usize
     requires rooted { Rooted current.now root (length marks.old) (length order.old) }
     ensures { Listed (expected_of current.now root) marks.old order.old marks.new order.new result }
 {
-    expected_order_for_root(
-        current.normal,
-        current.included,
-        current.record_module,
-        current.record_kind,
-        current.record_target,
-        marks,
-        order,
-        root,
-    )
+    marks.fill(0);
+    if current.normal[root as usize] != 1 {
+        return 0;
+    }
+    let mut starts = [0u32; MODULE_LIMIT + 1];
+    let starts = &mut starts[..marks.len() + 1];
+    first_rows(current.record_module, starts);
+    let count = visit(current, starts, marks, order, root, 0);
+    marks.fill(0);
+    count
 }
 
 // The expected order of a row, at the front of an array.

@@ -1,19 +1,13 @@
--- What the visit asks, and the state of its walk.
+-- What the visit follows, and the state of its walk.
 -- Assumes nothing.
-use Rattle.std.specs.Prelude.{◌≡◌, ℕ, ◌≤◌, List, length}
+use Rattle.std.specs.Prelude.{ℕ, List}
 use Rattle.walk.specs.Walk.{St, Placed}
-use Rattle.tables.specs.Lookups.{Rising}
-use Rattle.tables.specs.Refusal.{module_limit, row_limit}
+use Rattle.tables.specs.Project.{Project}
+use Rattle.tables.specs.Readings.{is_import, normal_target, targets_of}
 
--- the columns fit each other and the limits: n modules, and records in module order
-pub record Fit (normal included record_module record_kind record_target : List ℕ) (n : ℕ) : Type 0 where
-  pub normals : length normal ≡ n
-  pub includeds : length included ≡ n
-  pub kinds : length record_kind ≡ length record_module
-  pub targets : length record_target ≡ length record_module
-  pub rising : Rising record_module
-  pub few : n ≤ module_limit
-  pub rows : length record_module ≤ row_limit
+-- the walk is "over kind 0 and normal targets", in a project
+abbrev pub normal_imports : Project → ℕ → List ℕ
+normal_imports p = targets_of is_import normal_target p.normal p.record_module p.record_kind p.record_target
 
 -- the state of the walk as the slices hold it
 abbrev pub held : List ℕ → List ℕ → ℕ → St Placed

@@ -1,34 +1,33 @@
 // For crates above, on tested tables.
-ghost use Rattle.std.specs.Prelude.{◌+◌, ◌<◌, ◌≤◌, [], ◌∷◌, length};
+ghost use Rattle.std.specs.Prelude.{◌≡◌, ◌+◌, ◌<◌, ◌≤◌, [], ◌∷◌, length};
 ghost use Rattle.lists.specs.Words.{zeros};
 ghost use Rattle.walk.specs.Walk.{Visits, place, everywhere};
 ghost use Rattle.tables.specs.Lookups.{FirstRows};
-ghost use Rattle.tables.specs.Readings.{flagged, is_import, normal_target, targets_of};
-ghost use Rattle.expected_visit.specs.Visit.{Fit, held};
+ghost use Rattle.tables.specs.Readings.{modules, flagged};
+ghost use Rattle.expected_visit.specs.Visit.{normal_imports, held};
 
+use current_columns::inner::Current;
 use tables::Target;
 use tables::inner::resolve;
 
 // Visits a module: marks it, visits what its records lead to, and then lists it if it is included. How many are listed then. `starts` has each
 // module's first record row.
-pub fn visit<'a>(
-    normal: &'a [u32],
-    included: &'a [u32],
-    record_module: &'a [u32],
-    record_kind: &'a [u32],
-    record_target: &'a [u32],
-    starts: &'a [u32],
+// The order goes on with its count: tried as a value over the slice, and what `list_expected` then leaves in the slice wasn't proved.
+#[tactic(auto, using(crate::proofs::Walking::walking_steps), unfolding(current_columns::specs::AsProject::project))]
+pub fn visit(
+    current: &Current,
+    starts: &[u32],
     marks: &mut [u32],
     order: &mut [u32],
     m: u32,
     placed: usize,
 ) -> usize
-    requires fit { Fit normal.now included.now record_module.now record_kind.now record_target.now (length marks.old) }
-    requires starts { FirstRows record_module.now starts.now }
+    requires modules { length marks.old ≡ modules current.now }
+    requires starts { FirstRows current.now.record_module starts.now }
     requires places { length marks.old < length starts.now }
     requires module { m < length marks.old }
     requires room { placed + zeros marks.old ≤ length order.old }
-    ensures { Visits (targets_of is_import normal_target normal.now record_module.now record_kind.now record_target.now) everywhere (place (flagged included.now)) (held marks.old order.old placed) (m ∷ []) (held marks.new order.new result) }
+    ensures { Visits (normal_imports current.now) everywhere (place (flagged current.now.included)) (held marks.old order.old placed) (m ∷ []) (held marks.new order.new result) }
 {
     let at = m as usize;
     if marks[at] != 0 {
@@ -40,30 +39,19 @@ pub fn visit<'a>(
     let mut count = placed;
     // by number: a row's target is looked up by it
     for row in start..end {
-        if record_kind[row] != 0 {
+        if current.record_kind[row] != 0 {
             continue;
         }
-        let found = resolve(normal, record_target, row);
+        let found = resolve(current.normal, current.record_target, row);
         let Target::Normal(t) = found else {
             continue;
         };
         if marks[t as usize] != 0 {
             continue;
         }
-        count = visit(
-            normal,
-            included,
-            record_module,
-            record_kind,
-            record_target,
-            starts,
-            marks,
-            order,
-            t,
-            count,
-        );
+        count = visit(current, starts, marks, order, t, count);
     }
-    if included[at] == 1 {
+    if current.included[at] == 1 {
         order[count] = m;
         count += 1;
     }

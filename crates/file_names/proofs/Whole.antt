@@ -3,6 +3,7 @@
 use Rattle.tables.specs.declared.Refusal.TheVariants.{Text, PastSeason}
 use mathlib.Core.Path.{◌≡◌, refl, sym, ap, ap₂, ◌∙◌}
 use mathlib.Core.Logic.{◌⊎◌, inl, inr, ⊎_elim}
+use Rattle.std.specs.Prelude.{Some}
 use mathlib.Core.Bool.{Bool, true, false, cond, ◌&&◌}
 use mathlib.Core.List.{List, [], ◌∷◌, ◌++◌, foldl, foldl-append, flatten, append_assoc, append-nil}
 use Prim.Native.Nat.{ℕ, zero, suc, ◌+◌, ◌≤◌, ◌<◌}
@@ -81,16 +82,16 @@ kept_more left l name b n k = rw (ne_eqb b 10 n) (⊎_elim there past (split (le
     there h = rw (unchanged h) (record { room = k.room; bytes = λ g. absurd (omega (arith, longer)) })
 
 -- the end of a line
-line-due : (left : ℕ) (l name : List ℕ) → Kept l name → due (turn_of_line (held left l)) name ≡ asked_by l ∷ []
+line-due : (left : ℕ) (l name : List ℕ) → Kept l name → due (Some (turn_of_line (held left l))) name ≡ asked_by l ∷ []
 unfolding turn_of_line
 line-due left l name k = ⊎_elim holds (whole l k) (both (elem 0 l))
   where
-    holds : elem 0 l ≡ true → due (turn_of_line (held left l)) name ≡ asked_by l ∷ []
+    holds : elem 0 l ≡ true → due (Some (turn_of_line (held left l))) name ≡ asked_by l ∷ []
     holds e =
         rw e
         (sym (ap (λ (x : Bool). cond x (File l) (Refused Text) ∷ []) (and-out (leb 1 (length l)) (leb (length l) 255 && false) (and-out (leb (length l) 255) false refl))))
 
-    whole : (l : List ℕ) → Kept l name → elem 0 l ≡ false → due (turn_of_line (held left l)) name ≡ asked_by l ∷ []
+    whole : (l : List ℕ) → Kept l name → elem 0 l ≡ false → due (Some (turn_of_line (held left l))) name ≡ asked_by l ∷ []
     whole [] k e = refl
     whole (b ∷ t) k e =
         ⊎_elim

@@ -22,19 +22,11 @@ pub struct Names {
     pub over: bool,
 }
 
-// What a byte, or the end of the input, makes due: nothing, the file whose name is that many of the bytes kept, or a refusal.
-// No Option or Result: a refusal is one of three things that can be due, and no call has failed.
-#[derive(Clone, Copy)]
-pub enum Turn {
-    Nothing,
-    File(usize),
-    Refused(Refusal),
-}
-
+// What is known after a byte, and what it makes due, if anything: the file whose name is that many of the bytes kept, or a refusal.
 #[derive(Clone, Copy)]
 pub struct Step {
     pub names: Names,
-    pub turn: Turn,
+    pub turn: Option<Result<usize, Refusal>>,
 }
 
 // Before the first byte.
@@ -51,31 +43,31 @@ pub fn begin() -> Names
 
 // What is due at the end of the line at hand.
 #[tactic(auto, unfolding(crate::specs::Steps::turn_of_line))]
-fn turn_of_line(names: Names) -> Turn
+fn turn_of_line(names: Names) -> Result<usize, Refusal>
     ensures { result ≡ turn_of_line names }
 {
     let length = names.length;
     if names.zero || length == 0 || NAME_BYTES < length {
-        return Turn::Refused(Refusal::Text);
+        return Err(Refusal::Text);
     }
-    Turn::File(length)
+    Ok(length)
 }
 
 // What is due at a byte.
 #[tactic(auto, unfolding(crate::specs::Steps::turn_at))]
-fn turn_at(names: Names, b: u8) -> Turn
+fn turn_at(names: Names, b: u8) -> Option<Result<usize, Refusal>>
     ensures { result ≡ turn_at names b }
 {
     if names.over {
-        return Turn::Nothing;
+        return None;
     }
     if names.left == 0 {
-        return Turn::Refused(Refusal::PastSeason);
+        return Some(Err(Refusal::PastSeason));
     }
     if b == b'\n' {
-        return turn_of_line(names);
+        return Some(turn_of_line(names));
     }
-    Turn::Nothing
+    None
 }
 
 // The length of a line with a byte more.
@@ -151,11 +143,11 @@ pub fn take_byte(names: Names, name: &mut [u8; NAME_BYTES], b: u8) -> Step
 
 // What is due at the end of the input: a last line without its LF.
 #[tactic(auto, unfolding(crate::specs::Steps::finished))]
-pub fn finish(names: Names) -> Turn
+pub fn finish(names: Names) -> Option<Result<usize, Refusal>>
     ensures { result ≡ finished names }
 {
     if names.length == 0 {
-        return Turn::Nothing;
+        return None;
     }
-    turn_of_line(names)
+    Some(turn_of_line(names))
 }

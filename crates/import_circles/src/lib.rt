@@ -4,15 +4,14 @@
 ghost use Rattle.table.specs.Lending.{as_lent};
 ghost use Rattle.import_circles.specs.Promise.{ImportCircles};
 
+use circle_gathering::inner::gather_circles;
 use current_columns::inner::ReadSpace;
-use inner::list_circles;
 use refusal::read_tested;
 use table::Table;
 use tables::Refusal;
 
-pub mod inner;
-
 // The circles that the module sort meets, one path after the other from place 0, and the length of each.
+#[tactic(auto, unfolding(crate::specs::OfProject::walked, crate::specs::OfProject::roots_of, crate::specs::OfProject::circles_of))]
 pub fn import_circles(
     table: &Table,
     paths: &mut [u32],
@@ -22,5 +21,5 @@ pub fn import_circles(
 {
     let mut space = ReadSpace::EMPTY;
     let current = read_tested(table, &mut space)?;
-    list_circles(&current, paths, lengths)
+    gather_circles(&current, paths, lengths)
 }

@@ -1,6 +1,6 @@
--- Rule (iii) at a project: what the pass over its columns asks, and that it adds just what the rule asks for; and the same over the edges of its records.
+-- Rule (iii) at a project: the pass over its columns adds just what the rule asks for, and so does the one over the edges of its records.
 -- Assumes nothing.
-use Rattle.std.specs.Prelude.{◌≡◌, ℕ, ◌<◌, ◌≤◌, Bool, true, List, length, get_or}
+use Rattle.std.specs.Prelude.{◌≡◌, ℕ, ◌<◌, ◌≤◌, Bool, true, List, length, get_or, take, replicate}
 use mathlib.Core.Path.{sym, subst, ◌∙◌}
 use mathlib.Core.List.{Memᴰ}
 use native.Mathlib.Omega.{arith}
@@ -13,6 +13,7 @@ use Rattle.tables.specs.Accepted.{Accepted}
 use Rattle.strong_connection.specs.inner.Graph.{EdgeColumns}
 use Rattle.eligibility.specs.Eligible.{eligible}
 use Rattle.marks.specs.Steps.{Added}
+use Rattle.marks.proofs.Parts.{part_none, part_length}
 use Rattle.marks.proofs.Steps.{added-cong}
 use Rattle.wrap_rules.specs.Rules.{imports_of, leads, import_asks}
 use Rattle.wrap_rules.specs.Plan.{reached}
@@ -22,7 +23,8 @@ use Rattle.wrap_rules.proofs.Sets.{candidate-parts, parts-candidate, length-cand
 use Rattle.import_edges.specs.inner.Spread.{Along, Under, Spreads, Spreadable, record_targets}
 use Rattle.import_edges.proofs.Edging.{RowsIn, rows_back, edges-rows, rows-edges, along-rows, under-rows, spreads-rows, row-rows, length-targets}
 use Rattle.import_edges.proofs.OfProject.{target_row, row_target}
-use Rattle.import_rule.specs.inner.Imports.{Importer, Importing, Leading, Edged, ImportPassed}
+use Rattle.rule_sets.specs.inner.Sets.{Edged}
+use Rattle.import_rule.specs.inner.Imports.{Importer, Leading, ImportPassed}
 use Rattle.import_rule.proofs.Leads.{Backward, leads-in, in-leads}
 
 -- what leads to a plan leads to a larger one
@@ -34,15 +36,16 @@ under_more from to s t L n w u M k v = u M (k ∙ n) (λ m e. v m (w m e))
 pub leading-more : {p : Project} {rule : List ℕ → ℕ → Bool} {L s t : List ℕ} {r : Bool} → Leading p L s → Passed rule s t r → Leading p L t
 leading-more {p} {rule} {L} {s} {t} l h = record { size = l.size; along = l.along; under = under_more (record_targets p) p.record_module s t L h.len h.grows l.under }
 
-module _ (p : Project) (ok : Accepted p) where
-  pub importing-fit : Importing p.dependency_module p.dependency (candidate_marks p) (modules p)
-  importing-fit = record {
-    dependencies = ok.sizes.dependency;
-    dependents = ok.values.dependency_module;
-    depended = λ i l. ok.values.dependency i l;
-    candidate = length-candidates p;
-  }
+-- no marks lead to any plan
+pub blank-leading : (p : Project) (k n : ℕ) (plan : List ℕ) → n ≤ k → n ≡ modules p → Leading p (take n (replicate k 0)) plan
+unfolding Within Along Under
+blank-leading p k n plan fits e = record {
+  size = part_length k n fits ∙ e;
+  along = λ row l h. absurd (part_none k n (get_or (record_targets p) row 0) h);
+  under = λ M i w a m h. absurd (part_none k n m h);
+}
 
+module _ (p : Project) (ok : Accepted p) where
   -- closed along the records from target to owner, and closed backward, are the same
   along-backward : (L : List ℕ) → length L ≡ modules p → Along (record_targets p) p.record_module L → Backward p L
   unfolding Along Backward

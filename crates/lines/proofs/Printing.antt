@@ -6,20 +6,18 @@ use native.Mathlib.Numerals.{add-one}
 use mathlib.Core.Path.{◌≡◌, refl, sym, ap, ◌∙◌}
 use mathlib.Core.Logic.{⊎_elim}
 use mathlib.Core.List.{List, [], ◌∷◌, ◌++◌, append_assoc, append-nil}
-use lib.ListN.{length, take, drop, get_or, set, length-append, take-append-drop}
-use lib.Seq.{sets, take-suc, take-length}
+use lib.ListN.{length, take, drop, get_or, length-append, take-append-drop}
+use lib.Seq.{take-suc, take-length}
 use borrow.Author.Tests.{lt-ltb, le-ltb, le-leb, lt-leb, eq-eqb, ne_eqb}
 use Rattle.lists.proofs.Fronts.{sets-front}
 use Rattle.tables.specs.Project.{missing}
 use Rattle.form.specs.Form.{spell, number, field, spaced, line}
 use Rattle.form.proofs.Fields.{split, number_short, number-long}
-use Rattle.form.proofs.Runs.{sets-append}
 use Rattle.std.specs.Prelude.{Some, Ok, Err}
 use Rattle.tables.specs.Answers.{answer, after}
 use Rattle.tables.specs.declared.Refusal.TheVariants.{ShortSlice}
 use Rattle.lines.specs.Lines.{line_of, line_refusal, PutAt}
 use Rattle.lines.proofs.Answered.{refused-by, accepted-by}
-use Rattle.lines.proofs.Puts.{put_then}
 
 pub long-length : (n : ℕ) → 10 ≤ n → length (number n) ≡ length (number (n / 10)) + 1
 long-length n h = ap length (number-long n h) ∙ length-append (number (n / 10)) ((48 + n % 10) ∷ [])
@@ -54,28 +52,6 @@ pub ruleset sizes = (long-length, short-length, number-length)
 
 -- a field is the mark or a number
 pub ruleset field_cases = (field-mark, field-other)
-
--- one digit, stored
-pub put-short : (d : List ℕ) (at n b : ℕ) → n < 10 → b ≡ 48 + n → PutAt d at (number n) (set d at b) (at + 1)
-put-short d at n b h e =
-    record {
-      next = omega (arith, short-length n h);
-      put = ap (set d at) e ∙ ap (sets d at) (sym (number_short n h));
-    }
-
--- the last digit, stored behind the others
-pub put-long : (d : List ℕ) (at n : ℕ) (d' : List ℕ) (p b : ℕ) → 10 ≤ n → PutAt d at (number (n / 10)) d' p → b ≡ 48 + n % 10
-    → PutAt d at (number n) (set d' p b) (p + 1)
-put-long d at n d' p b h q e =
-    record {
-      next = omega (arith, long-length n h, q.next);
-      put =
-          ap (set d' p) e
-          ∙ ap (λ (x : List ℕ). set x p (48 + n % 10)) q.put
-          ∙ ap (λ (k : ℕ). set (sets d at (number (n / 10))) k (48 + n % 10)) q.next
-          ∙ sets-append d at (number (n / 10)) ((48 + n % 10) ∷ [])
-          ∙ ap (sets d at) (sym (number-long n h));
-    }
 
 -- numbers in a line
 pub spaced-append : (xs ys : List ℕ) → spaced (xs ++ ys) ≡ spaced xs ++ spaced ys
@@ -119,14 +95,6 @@ pub line-length : (word xs ys : List ℕ) → length (line word (xs ++ ys)) ≡ 
 unfolding line
 line-length word xs ys =
     omega (arith, length-append word (spaced (xs ++ ys) ++ 10 ∷ []), length-append (spaced (xs ++ ys)) (10 ∷ []), ap length (spaced-append xs ys), length-append (spaced xs) (spaced ys))
-
--- a whole line
-pub put_whole : (d : List ℕ) (at : ℕ) (word xs ys d₁ : List ℕ) (p : ℕ) (d₂ : List ℕ) (q : ℕ) (d₃ : List ℕ) (r : ℕ) (d₄ : List ℕ) (t : ℕ)
-    → PutAt d at word d₁ p → PutAt d₁ p (spaced xs) d₂ q → PutAt d₂ q (spaced ys) d₃ r → PutAt d₃ r (10 ∷ []) d₄ t
-    → PutAt d at (line word (xs ++ ys)) d₄ t
-unfolding line
-put_whole d at word xs ys d₁ p d₂ q d₃ r d₄ t a b c e =
-    rw (spaced-append xs ys, append_assoc) (put_then a (put_then b (put_then c e)))
 
 -- the answers
 module _ (out word entry numbers : List ℕ) where

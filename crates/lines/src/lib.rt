@@ -7,7 +7,7 @@ ghost use Rattle.lines.specs.Lines.{line_of, line_refusal, members, members_refu
 
 pub mod lines;
 
-use lines::{put_byte, put_bytes, put_fields, room_after};
+use lines::{Writer, room_after};
 use tables::{ModuleIdx, Refusal};
 
 // Writes a result line from place 0: its word, the entry's number where it is an entry's line, the numbers.
@@ -31,13 +31,15 @@ pub fn put_line(
     let Some(_) = behind_all else {
         return Err(Refusal::ShortSlice);
     };
-    let mut at = put_bytes(out, 0, word);
-    at = put_fields(out, at, entry);
-    at = put_fields(out, at, numbers);
-    Ok(put_byte(out, at, b'\n'))
+    let mut line = Writer::new(out);
+    line.put_bytes(word);
+    line.put_fields(entry);
+    line.put_fields(numbers);
+    line.put_byte(b'\n');
+    Ok(line.len())
 }
 
-// Lists the members of a set of marks, rising, from place 0.
+// Lists the members of a set of marks, rising, from place 0. `n` is counted beside the slice: the marked places zipped with its slots would be counted by a second pass.
 #[tactic(auto, using(crate::proofs::Members::no_member))]
 pub fn rising(marks: &[u32], out: &mut [u32]) -> Result<usize, Refusal>
     ensures value { result ≡ answer (members_refusal marks.now out.old) (length (members marks.now)) }

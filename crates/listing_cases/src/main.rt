@@ -55,31 +55,51 @@ impl<'a> List<'a> {
     }
 }
 
-// Puts a byte, if there is room for it.
-fn put_byte(text: &mut [u8], at: usize, b: u8) -> usize {
-    if at < text.len() {
-        text[at] = b;
-        return at + 1;
-    }
-    at
+// A text that is put together. What it has no room for is left out.
+#[derive(Drop)]
+struct Text<'a> {
+    bytes: &'a mut [u8],
+    size: usize,
 }
 
-fn put(text: &mut [u8], at: usize, bytes: &[u8]) -> usize {
-    let mut p = at;
-    for b in bytes {
-        p = put_byte(text, p, *b);
+impl<'a> Text<'a> {
+    fn put_byte(&mut self, b: u8) {
+        if self.size < self.bytes.len() {
+            self.bytes[self.size] = b;
+            self.size += 1;
+        }
     }
-    p
-}
 
-// Puts bytes as often as is said.
-fn put_rows(text: &mut [u8], at: usize, row: &[u8], times: u32) -> usize {
-    let mut p = at;
-    // a row is put as often as is said
-    for _ in 0..times {
-        p = put(text, p, row);
+    fn put(&mut self, bytes: &[u8]) {
+        for b in bytes {
+            self.put_byte(*b);
+        }
     }
-    p
+
+    // Puts bytes as often as is said.
+    fn put_rows(&mut self, row: &[u8], times: u32) {
+        // a row is put as often as is said
+        for _ in 0..times {
+            self.put(row);
+        }
+    }
+
+    // Puts a piece of the list, as often as it says.
+    fn put_piece(&mut self, list: &mut List) {
+        let times = list.number();
+        let size = list.number();
+        let piece = list.take(size as usize);
+        list.pass_line();
+        self.put_rows(piece, times);
+    }
+
+    // Puts the pieces of a text.
+    fn put_pieces(&mut self, list: &mut List, pieces: u32) {
+        // pieces are read as they come, and counted
+        for _ in 0..pieces {
+            self.put_piece(list);
+        }
+    }
 }
 
 // Writes the first n bytes.
@@ -174,34 +194,20 @@ fn answer(rt: &impl Print, case: u32, list: u32, text: &[u8]) -> io::Result<()> 
     }
 }
 
-// Puts a piece of the list, as often as it says.
-fn put_piece(text: &mut [u8], at: usize, list: &mut List) -> usize {
-    let times = list.number();
-    let size = list.number();
-    let piece = list.take(size as usize);
-    list.pass_line();
-    put_rows(text, at, piece, times)
-}
-
-// Puts the pieces of a text. How many bytes it has.
-fn put_pieces(text: &mut [u8], list: &mut List, pieces: u32) -> usize {
-    let mut at = 0;
-    // pieces are read as they come, and counted
-    for _ in 0..pieces {
-        at = put_piece(text, at, list);
-    }
-    at
-}
-
 // Reads the text that stands next, and prints the answer.
 fn run_case(rt: &impl Print, list: &mut List) -> io::Result<()> {
-    let mut text = [0u8; 66000];
+    let mut bytes = [0u8; 66000];
+    let mut text = Text {
+        bytes: &mut bytes,
+        size: 0,
+    };
     list.pass_line();
     let case = list.number();
     let changed = list.number();
     let pieces = list.number();
-    let size = put_pieces(&mut text, list, pieces);
-    answer(rt, case, changed, text.get(..size).unwrap_or(&text))
+    text.put_pieces(list, pieces);
+    let size = text.size;
+    answer(rt, case, changed, bytes.get(..size).unwrap_or(&bytes))
 }
 
 // Runs all texts of the list.

@@ -2,7 +2,7 @@
 ghost use Rattle.std.specs.Prelude.{◌≡◌, length, replicate};
 ghost use Rattle.lists.specs.Words.{ones};
 
-// Fills a slice with a value.
+// Fills a slice with a value. The library's method promises it turn by turn; callers have it as one equation, proved here once.
 pub fn fill(slots: &mut [u32], value: u32)
     ensures { slots.new ≡ replicate (length slots.old) value }
 {

@@ -28,13 +28,13 @@ pub fn load_step(
     let mut arranged = [0u32; ROW_LIMIT];
     let current = read_named(table, &mut space, &mut arranged)?;
     let modules = current.modules();
-    let Some(chunk) = find_entry(&current, root) else {
+    let Some(entry) = find_entry(&current, root) else {
         return Err(Refusal::Argument);
     };
     if !plan_fits(plan, modules) {
         return Err(Refusal::PlanForm);
     }
-    let step = step_planned(&current, plan, root, chunk, number);
+    let step = step_planned(&entry, plan, number);
     Ok(step)
 }
 
@@ -52,7 +52,7 @@ pub fn load_run(
     let mut arranged = [0u32; ROW_LIMIT];
     let current = read_named(table, &mut space, &mut arranged)?;
     let places = current.modules();
-    let Some(start) = find_entry(&current, root) else {
+    let Some(entry) = find_entry(&current, root) else {
         return Err(Refusal::Argument);
     };
     if !plan_fits(plan, places) {
@@ -64,6 +64,6 @@ pub fn load_run(
     if hosts.len() < places {
         return Err(Refusal::ShortSlice);
     }
-    let count = run_planned(&current, plan, steps, hosts, root, start);
+    let count = run_planned(&entry, plan, steps, hosts);
     Ok(count)
 }

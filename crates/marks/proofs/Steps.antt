@@ -1,6 +1,6 @@
 -- The steps over one table: what holds after each turn of their loops.
 -- Assumes nothing.
-use Rattle.std.specs.Prelude.{◌≡◌, ℕ, zero, suc, ◌+◌, ◌<◌, ◌≤◌, Bool, true, false, not, ◌⊎◌, List, [], ◌∷◌, map, length, get_or, set}
+use Rattle.std.specs.Prelude.{◌≡◌, ℕ, zero, suc, ◌+◌, ◌<◌, ◌≤◌, Bool, true, false, not, ◌⊎◌, List, [], ◌∷◌, ◌++◌, map, length, get_or, set, Some}
 use mathlib.Core.Path.{refl, sym, ap, subst, ◌∙◌}
 use mathlib.Core.Logic.{inl, inr, ⊎_elim}
 use mathlib.Core.Bool.{true≢false, false≢true}
@@ -10,10 +10,19 @@ use lib.ListN.{length-set, get_or-eq_default}
 use lib.Seq.{ext_get_or, get_or-set_same, get_or-set_other}
 use Rattle.lists.specs.Words.{is_zero, up_to, has, ones}
 use Rattle.lists.proofs.Laws.{has_in, get_d-in, mark-in, mark-out, get_d-map-up_to, length-map-up_to}
-use Rattle.lists.proofs.Zips.{TurnAt}
+use denote.Ref.{Bor}
+use Rattle.std.specs.declared.iter.Zip.{Zip}
+use Rattle.std.specs.declared.slice.Iter.{Iter}
+use Rattle.std.specs.Iterator.{Yields}
+use Rattle.std.specs.Iterator.Adapters.{zip_first, zip_second}
+use Rattle.std.specs.Slice.Iter.{iter_rest}
+use Rattle.std.proofs.iter.Yields.{fronts}
+use Rattle.std.proofs.lemmas.Iterator.{zips}
+use Rattle.lists.proofs.Zips.{turn_at}
 use Rattle.walk.specs.Close.{Within, Bits}
 use Rattle.walk.proofs.Visits.{fresh-zero, set-zeros, set-bits}
 use Rattle.tables.specs.Lookups.{greater_of}
+use Rattle.tables.specs.Accepted.{Below}
 use Rattle.tables.proofs.Greater.{greater-first, greater-second, greater-one}
 use Rattle.marks.specs.Steps.{looked, Raised, Owners, Adding, Added, Row}
 
@@ -251,16 +260,22 @@ looked-bits set column b row = go (dec_lt row (length column))
     go (yes l) = rw (looked-at 0 set column row 0 l) (b (get_or column row 0))
     go (no l) = let z : get_or (looked 0 set column) row 0 ≡ 0 = get_or-eq_default (looked 0 set column) 0 (omega (arith, length-looked 0 set column)) in omega arith
 
--- a turn over the rows raises the owner's mark
-module _ {s t u : List ℕ} {row next : ℕ} where
-  pub owner-turn : (other : ℕ) (owner : List ℕ) {value rows : List ℕ} {at mark : ℕ} → TurnAt value rows row at mark next → at < length owner → Owners (looked other owner value) rows row s t → Raised (get_or owner at 0) mark t u
-      → Owners (looked other owner value) rows next s u
-  owner-turn other owner {value} {rows} n l g r =
-      rw n.more (owners-put (looked other owner value) rows s row t u g (looked-in other owner value row n.first_in (omega (arith, l, n.first)) ∙ ap (λ (i : ℕ). get_or owner i 0) n.first) n.second r)
+-- a turn over two columns side by side raises the owner's mark
+module _ (xs : List (Bor ℕ × Bor ℕ)) (p : Bor ℕ × Bor ℕ) (i t u : Zip (Iter ℕ) (Iter ℕ)) (s old new : List ℕ) where
+  pub owner-turn : (other : ℕ) (owner value rows : List ℕ) → Owners (looked other owner value) rows (length xs) s old → Raised (get_or owner p.0.now 0) p.1.now old new → Below (length owner) value
+      → Yields (zips fronts fronts) i xs t → zips fronts fronts t (Some p) u → iter_rest (zip_first i) ≡ value → iter_rest (zip_second i) ≡ rows
+      → Owners (looked other owner value) rows (length (xs ++ (p ∷ []))) s new
+  owner-turn other owner value rows g r below y h first second =
+      let n = turn_at value rows xs i t u first second y p h in
+      let l = below (length xs) n.first_in in
+      rw n.more (owners-put (looked other owner value) rows s (length xs) old new g (looked-in other owner value (length xs) n.first_in (omega (arith, l, n.first)) ∙ ap (λ (k : ℕ). get_or owner k 0) n.first) n.second r)
 
-  pub mark-turn : (set : List ℕ) {owner value : List ℕ} {m at : ℕ} → TurnAt owner value row m at next → Owners owner (looked 0 set value) row s t → Raised m (get_or set at 0) t u → Owners owner (looked 0 set value) next s u
-  mark-turn set {owner} {value} n g r =
-      rw n.more (owners-put owner (looked 0 set value) s row t u g n.first (looked-at 0 set value row 0 n.second_in ∙ ap (λ (i : ℕ). get_or set i 0) n.second) r)
+  pub mark-turn : (S owner value : List ℕ) → Owners owner (looked 0 S value) (length xs) s old → Raised p.0.now (get_or S p.1.now 0) old new
+      → Yields (zips fronts fronts) i xs t → zips fronts fronts t (Some p) u → iter_rest (zip_first i) ≡ owner → iter_rest (zip_second i) ≡ value
+      → Owners owner (looked 0 S value) (length (xs ++ (p ∷ []))) s new
+  mark-turn S owner value g r y h first second =
+      let n = turn_at owner value xs i t u first second y p h in
+      rw n.more (owners-put owner (looked 0 S value) s (length xs) old new g n.first (looked-at 0 S value (length xs) 0 n.second_in ∙ ap (λ (k : ℕ). get_or S k 0) n.second) r)
 
 -- owners of rows, from a set that holds nothing
 module _ (owner value S s t : List ℕ) (none : (m : ℕ) → has s m ≡ true → ⊥) (lengths : length value ≡ length owner) (o : Owners owner (looked 0 S value) (length owner) s t) where

@@ -1,6 +1,4 @@
--- The order by keys, the sort and the merging.
+-- The order by keys, the sort, and the keys as slices hold them.
 pub mod Ahead
 pub mod Sorting
 pub mod Holding
-pub mod Merging
-pub mod Halves

@@ -1,3 +1,2 @@
--- What inner contracts and proofs speak of: `Merge`, the merging of two sorted lists; `Held`, the keys as slices hold them.
-pub mod Merge
+-- What inner contracts and proofs speak of: `Held`, the keys as slices hold them.
 pub mod Held

@@ -6,46 +6,41 @@ ghost use Rattle.risk_of_orders.specs.inner.Steps.{join};
 ghost use Rattle.order_analysis.specs.Promise.{whole_plan};
 ghost use Rattle.visit_columns.specs.inner.OverTable.{Prepared};
 ghost use Rattle.chunk_cycles.specs.Cycles.{labels_of};
-ghost use Rattle.at_risk.specs.inner.OverTable.{Sets};
 ghost use Rattle.wrap_rules.specs.Plan.{roots as roots_of};
 ghost use Rattle.order_analysis.specs.inner.Analysis.{risks_of};
 
 use analysed_entries::inner::find_entry;
 use at_risk::inner::add_entry_risk;
+use at_risk::module_sets::{ModuleSets, SetSpace, read_module_sets};
 use chunk_cycles::inner::label_table;
 use current_columns::inner::Current;
-use eligibility::of_table::mark_table_eligible;
 use lists::inner::{count_marked, fill};
 use plan_rounds::inner::build_order_wrap_plan;
 use reached_modules::inner::list_table_roots;
 use rule_sets::inner::{RuleSpace, read_sets};
 use seeds::inner::mark_table_seeds;
-use sensitivity::inner::mark_table_sensitive;
 use table::{CHUNK_LIMIT, MODULE_LIMIT};
-use visit_columns::inner::{PREPARED, prepare_table};
+use visit_columns::inner::{VisitColumns, VisitSpace, prepare_table};
 
-// Adds the risk of each root to a set. `prepared` has the columns that the visits read, `labels` the chunks' labels.
+// Adds the risk of each root to a set. `columns` are those that the visits read, `labels` the chunks' labels.
 fn add_risks(
     current: &Current,
     roots: &[u32],
-    prepared: &[u32],
+    columns: &VisitColumns,
     labels: &[u32],
-    sensitives: &[u32],
-    eligibles: &[u32],
+    sets: &ModuleSets,
     out: &mut [u32],
 )
     requires roots { roots.now ≡ roots_of current.now }
-    requires prepared { Prepared current.now prepared.now }
+    requires prepared { Prepared current.now columns.now }
     requires labels { labels.now ≡ labels_of current.now }
-    requires sets { Sets current.now sensitives.now eligibles.now }
+    requires sets { sets.now.current.now ≡ current.now }
     requires places { length out.old ≡ modules current.now }
     ensures { out.new ≡ join out.old (risks_of current.now) }
 {
     for root in roots {
-        if let Some(chunk) = find_entry(current, *root) {
-            add_entry_risk(
-                current, prepared, labels, sensitives, eligibles, out, *root, chunk,
-            );
+        if let Some(entry) = find_entry(current, *root) {
+            add_entry_risk(&entry, columns, labels, sets, out);
         }
     }
 }
@@ -56,30 +51,17 @@ fn mark_risks(current: &Current, out: &mut [u32])
     requires { length out.old ≡ modules current.now }
     ensures { out.new ≡ marks_of (risks_of current.now) (modules current.now) }
 {
-    let n = current.modules();
     let mut labels = [0u32; CHUNK_LIMIT];
     let labels = &mut labels[..current.chunks()];
     label_table(current, labels);
-    let mut sensitives = [0u32; MODULE_LIMIT];
-    let sensitives = &mut sensitives[..n];
-    mark_table_sensitive(current, sensitives);
-    let mut eligibles = [0u32; MODULE_LIMIT];
-    let eligibles = &mut eligibles[..n];
-    mark_table_eligible(current, eligibles);
-    let mut prepared = [0u32; PREPARED];
-    prepare_table(current, &mut prepared);
+    let mut set_space = SetSpace::EMPTY;
+    let sets = read_module_sets(current, &mut set_space);
+    let mut visit_space = VisitSpace::EMPTY;
+    let columns = prepare_table(current, &mut visit_space);
     let mut roots = [0u32; MODULE_LIMIT];
     let count = list_table_roots(current, &mut roots);
     fill(out, 0);
-    add_risks(
-        current,
-        &roots[..count],
-        &prepared,
-        labels,
-        sensitives,
-        eligibles,
-        out,
-    );
+    add_risks(current, &roots[..count], &columns, labels, &sets, out);
 }
 
 // Adds the eligible seed rows to the marked risks, and closes them under the rules.

@@ -18,13 +18,13 @@ pub fn order_risk(table: &Table, root: u32, marks: &mut [u32]) -> Result<usize, 
     let mut space = ReadSpace::EMPTY;
     let mut arranged = [0u32; ROW_LIMIT];
     let current = read_named(table, &mut space, &mut arranged)?;
-    let Some(chunk) = find_entry(&current, root) else {
+    let Some(entry) = find_entry(&current, root) else {
         return Err(Refusal::Argument);
     };
     let modules = current.modules();
     if marks.len() < modules {
         return Err(Refusal::ShortSlice);
     }
-    let count = mark_order_risk(&current, &mut marks[..modules], root, chunk);
+    let count = mark_order_risk(&entry, &mut marks[..modules]);
     Ok(count)
 }

@@ -7,7 +7,8 @@ ghost use Rattle.page_rows.specs.inner.Steps.{unplaced, Listed, Members, Laid};
 
 use table::MODULE_LIMIT;
 
-// Lists the members of an order that are marked, from place 0. How many there are.
+// Lists the members of an order that are marked, from place 0. How many there are: counted beside the slice, as those kept and zipped with its slots would be counted
+// by a second pass.
 pub fn keep_marked(order: &[u32], marks: &[u32], kept: &mut [u32]) -> usize
     requires members { Members order.now (length marks.now) }
     requires room { length (keep (has marks.now) order.now) ≤ length kept.old }

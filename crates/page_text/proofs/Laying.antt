@@ -1,6 +1,6 @@
 -- The written places are the places in the two orders.
 -- Assumes nothing.
-use Rattle.std.specs.Prelude.{◌≡◌, ℕ, ◌+◌, ◌*◌, ◌<◌, ◌≤◌, Bool, true, false, cond, eqb, List, [], ◌∷◌, ◌++◌, map, length, get_or, take, replicate}
+use Rattle.std.specs.Prelude.{◌≡◌, Option, Some, None, ℕ, ◌+◌, ◌<◌, ◌≤◌, eqb, List, [], ◌∷◌, ◌++◌, map, length, get_or, take, replicate}
 use mathlib.Core.Path.{sym, ap, ap₂, subst, ◌∙◌}
 use mathlib.Core.Logic.{⊎_elim}
 use mathlib.Core.List.Memᴰ
@@ -25,7 +25,7 @@ use Rattle.page_rows.specs.Rows.{others_of, modules_of}
 use Rattle.page_rows.specs.inner.Steps.{Laid}
 use Rattle.page_rows.proofs.Once.{each-once}
 use Rattle.page_text.specs.Page.{place_in, line_of, line_at, page_by}
-use Rattle.page_text.specs.inner.Sheets.{line_with, page_with, numbered_with, Sheet, Orders}
+use Rattle.page_text.specs.inner.Sheets.{SheetRows, line_with, page_with, numbered_with, text_with, text_by, text_room, Sheet, Orders}
 use Rattle.page_text.proofs.Lines.{lines-append}
 
 -- a place, from 1, is at most the length
@@ -54,13 +54,12 @@ module _ (n : ℕ) (few : n ≤ module_limit) where
   fresh-zeros = take-zeros n module_limit few ∙ ap (λ (k : ℕ). replicate k 0) (sym fresh-length)
 
 -- the places and the others by which an entry's lines can be written
-pub record Ready (expected actual plan expected_places actual_places others : List ℕ) : Type 0 where
-  pub sheet : Sheet expected_places actual_places plan
-  pub rows : Below (length plan) expected × Below (length plan) others
+pub record Ready (actual : List ℕ) (r : SheetRows) : Type 0 where
+  pub sheet : Sheet r.expected_places r.actual_places r.plan
+  pub rows : Below (length r.plan) r.expected × Below (length r.plan) r.others
   -- the lines fit where each module has room for one
-  pub room : length expected + length others ≤ length plan
-  pub page : page_with expected_places actual_places plan expected others ≡ page_by expected actual (has plan)
-  pub line : (number : ℕ) → numbered_with expected_places actual_places plan expected others number ≡ line_at expected actual (has plan) number
+  pub room : (number : Option ℕ) (k : ℕ) → text_room (length r.plan) number ≤ k → text_room (length r.expected + length r.others) number ≤ k
+  pub text : (number : Option ℕ) → text_with r number ≡ text_by r.expected actual (has r.plan) number
 
 -- what was laid out in them
 module _ (plan : List ℕ) {expected actual expected_places actual_places held : List ℕ} {count : ℕ} (o : Orders expected actual (length plan))
@@ -75,8 +74,11 @@ module _ (plan : List ℕ) {expected actual expected_places actual_places held :
   actual_rows : length actual_places ≡ n
   actual_rows = a ∙ fresh-length n o.few
 
+  abbrev sheet : SheetRows
+  sheet = record { expected = expected; others = take count held; expected_places = expected_places; actual_places = actual_places; plan = plan }
+
   abbrev laid : ℕ → List ℕ
-  laid = line_with expected_places actual_places plan
+  laid = line_with sheet
 
   -- a line by the written places is the line
   line_same : (m : ℕ) → m < n → laid m ≡ line_of expected actual (has plan) m
@@ -106,20 +108,28 @@ module _ (plan : List ℕ) {expected actual expected_places actual_places held :
         few-distinct n (modules_of expected actual) (each-once expected actual o.expected_order.once o.actual_order.once) row_in,
       )
 
-  page-same : page_with expected_places actual_places plan expected (take count held) ≡ page_by expected actual (has plan)
+  page-same : page_with sheet ≡ page_by expected actual (has plan)
   unfolding page_by modules_of
   page-same =
       sym (lines-append laid expected (take count held))
       ∙ ap (λ (xs : List ℕ). flat_map laid (expected ++ xs)) w.rest
       ∙ flat-cong laid (line_of expected actual (has plan)) (expected ++ others_of expected actual) (λ x h. line_same x (row_in x h))
 
-  numbered-same : (number : ℕ) → numbered_with expected_places actual_places plan expected (take count held) number ≡ line_at expected actual (has plan) number
+  numbered-same : (number : ℕ) → numbered_with sheet number ≡ line_at expected actual (has plan) number
   unfolding line_at modules_of
   numbered-same number =
       ap (λ (xs : List ℕ). get_or (map laid (expected ++ xs)) number []) w.rest
       ∙ ap (λ (ls : List (List ℕ)). get_or ls number []) (map-cong laid (line_of expected actual (has plan)) (expected ++ others_of expected actual) (λ x h. line_same x (row_in x h)))
 
-  pub laid-ready : Ready expected actual plan expected_places actual_places (take count held)
+  room-same : (number : Option ℕ) (k : ℕ) → text_room n number ≤ k → text_room (length expected + length (take count held)) number ≤ k
+  room-same None k h = omega (arith, lines_fit)
+  room-same (Some number) k h = h
+
+  text-same : (number : Option ℕ) → text_with sheet number ≡ text_by expected actual (has plan) number
+  text-same None = page-same
+  text-same (Some number) = numbered-same number
+
+  pub laid-ready : Ready actual sheet
   laid-ready = record {
     sheet = record {
       few = o.few;
@@ -129,12 +139,6 @@ module _ (plan : List ℕ) {expected actual expected_places actual_places held :
       actual_few = ranked-few actual actual_places n o.actual_order actual_rows w.actual_ranks;
     };
     rows = (o.expected_order.members, other-rows);
-    room = lines_fit;
-    page = page-same;
-    line = numbered-same;
+    room = room-same;
+    text = text-same;
   }
-
--- room for the page or for one line
-pub either_room : (whole : Bool) (x y z : ℕ) → x ≤ y → cond whole (41 * y) 41 ≤ z → cond whole (41 * x) 41 ≤ z
-either_room true x y z l h = omega arith
-either_room false x y z l h = h

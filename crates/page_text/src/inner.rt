@@ -1,151 +1,116 @@
 // For crates above: an entry's page, and one line of it, by its two sensitive orders and a plan, a mark a module.
-ghost use Rattle.std.specs.Prelude.{◌+◌, ◌*◌, ◌<◌, ◌≤◌, length, if◌then◌else◌};
+ghost use Rattle.std.specs.Prelude.{◌≡◌, ◌+◌, ◌*◌, ◌<◌, ◌≤◌, length};
 ghost use mathlib.Core.List.{flat_map};
 ghost use Rattle.lists.specs.Words.{has};
 ghost use Rattle.lines.specs.Lines.{PutAt};
+ghost use Rattle.lines.specs.Writing.{Room, Put};
 ghost use Rattle.tables.specs.Accepted.{Below};
 ghost use Rattle.page_text.specs.Page.{line_at, page_by};
-ghost use Rattle.page_text.specs.inner.Sheets.{line_with, page_with, numbered_with, Sheet, Orders};
+ghost use Rattle.page_text.specs.inner.Sheets.{line_with, page_with, numbered_with, text_with, text_by, text_room, Orders};
 
+use lines::lines::Writer;
 use page_lines::inner::put_page_line;
 use page_rows::inner::lay_out;
+use std::marker::Model;
 use table::MODULE_LIMIT;
 
-// Writes the line of a module.
-fn put_row(
-    expected_places: &[u32],
-    actual_places: &[u32],
-    plan: &[u32],
-    out: &mut [u8],
-    at: usize,
-    m: u32,
-) -> usize
-    requires sheet { Sheet expected_places.now actual_places.now plan.now }
-    requires row { m < length plan.now }
-    requires room { at + 41 ≤ length out.old }
-    ensures { PutAt out.old at (line_with expected_places.now actual_places.now plan.now m) out.new result }
-{
-    let row = m as usize;
-    let expected = expected_places[row];
-    let actual = actual_places[row];
-    put_page_line(out, at, m, expected, actual, plan[row] != 0)
+// What an entry's page is written from: the modules of the expected order and the others, and for each module of the table a place from 1 in both orders and a mark.
+#[derive(Drop)]
+struct Sheet<'a> {
+    expected: &'a [u32],
+    others: &'a [u32],
+    expected_places: &'a [u32],
+    actual_places: &'a [u32],
+    plan: &'a [u32],
 }
 
-// Writes the lines of some modules in turn.
-fn put_rows(
-    rows: &[u32],
-    expected_places: &[u32],
-    actual_places: &[u32],
-    plan: &[u32],
-    out: &mut [u8],
-    at: usize,
-) -> usize
-    requires sheet { Sheet expected_places.now actual_places.now plan.now }
-    requires rows { Below (length plan.now) rows.now }
-    requires room { at + 41 * length rows.now ≤ length out.old }
-    ensures { PutAt out.old at (flat_map (line_with expected_places.now actual_places.now plan.now) rows.now) out.new result }
-{
-    let mut p = at;
-    for m in rows {
-        p = put_row(expected_places, actual_places, plan, out, p, *m);
+impl<'a> Model for Sheet<'a> {
+    ghost use Rattle.std.specs.Prelude.{length};
+    ghost use Rattle.tables.specs.Accepted.{Below};
+    ghost use Rattle.page_text.specs.inner.Sheets.{SheetRows, Sheet};
+
+    ghost Value = { SheetRows };
+
+    ghost view = { λ s. record { expected = s.expected.now; others = s.others.now; expected_places = s.expected_places.now; actual_places = s.actual_places.now; plan = s.plan.now } };
+
+    ghost invariant = { λ s. Sheet s.expected_places.now s.actual_places.now s.plan.now × Below (length s.plan.now) s.expected.now × Below (length s.plan.now) s.others.now };
+}
+
+impl<'a> Sheet<'a> {
+    // Writes the line of a module.
+    fn put_row(&self, page: &mut Writer, m: u32)
+        requires row { m < length self.now.plan }
+        requires room { Room 41 page.old }
+        ensures line { Put (line_with self.now m) page.old page.new }
+        ensures size { page.new.at ≡ page.old.at + 41 }
+    {
+        let row = m as usize;
+        let expected = self.expected_places[row];
+        let actual = self.actual_places[row];
+        put_page_line(page, m, expected, actual, self.plan[row] != 0);
     }
-    p
-}
 
-// Writes the page of an entry from place 0, and answers its length. `others` has what the expected order hasn't.
-fn put_laid_page(
-    expected: &[u32],
-    others: &[u32],
-    expected_places: &[u32],
-    actual_places: &[u32],
-    plan: &[u32],
-    out: &mut [u8],
-) -> usize
-    requires sheet { Sheet expected_places.now actual_places.now plan.now }
-    requires rows { Below (length plan.now) expected.now × Below (length plan.now) others.now }
-    requires room { 41 * (length expected.now + length others.now) ≤ length out.old }
-    ensures { PutAt out.old 0 (page_with expected_places.now actual_places.now plan.now expected.now others.now) out.new result }
-{
-    let behind = put_rows(expected, expected_places, actual_places, plan, out, 0);
-    put_rows(others, expected_places, actual_places, plan, out, behind)
-}
-
-// Writes one line of an entry's page from place 0, and answers its length; past the last, 0. `others` has what the expected order hasn't.
-fn put_laid_line(
-    expected: &[u32],
-    others: &[u32],
-    expected_places: &[u32],
-    actual_places: &[u32],
-    plan: &[u32],
-    out: &mut [u8],
-    number: usize,
-) -> usize
-    requires sheet { Sheet expected_places.now actual_places.now plan.now }
-    requires rows { Below (length plan.now) expected.now × Below (length plan.now) others.now }
-    requires room { 41 ≤ length out.old }
-    ensures { PutAt out.old 0 (numbered_with expected_places.now actual_places.now plan.now expected.now others.now number) out.new result }
-{
-    let first = expected.len();
-    if number < first {
-        return put_row(
-            expected_places,
-            actual_places,
-            plan,
-            out,
-            0,
-            expected[number],
-        );
+    // Writes the lines of some modules in turn.
+    fn put_rows(&self, page: &mut Writer, rows: &[u32])
+        requires rows { Below (length self.now.plan) rows.now }
+        requires room { Room (41 * length rows.now) page.old }
+        ensures lines { Put (flat_map (line_with self.now) rows.now) page.old page.new }
+        ensures size { page.new.at ≡ page.old.at + 41 * length rows.now }
+    {
+        for m in rows {
+            self.put_row(page, *m);
+        }
     }
-    let rest = number - first;
-    if rest < others.len() {
-        return put_row(expected_places, actual_places, plan, out, 0, others[rest]);
+
+    // Writes the whole page.
+    fn put_page(&self, page: &mut Writer)
+        requires { Room (41 * (length self.now.expected + length self.now.others)) page.old }
+        ensures { Put (page_with self.now) page.old page.new }
+    {
+        self.put_rows(page, self.expected);
+        self.put_rows(page, self.others);
     }
-    0
+
+    // Writes one line, and past the last nothing.
+    fn put_numbered(&self, page: &mut Writer, number: usize)
+        requires { Room 41 page.old }
+        ensures { Put (numbered_with self.now number) page.old page.new }
+    {
+        let first = self.expected.len();
+        if number < first {
+            self.put_row(page, self.expected[number]);
+            return;
+        }
+        let rest = number - first;
+        if rest < self.others.len() {
+            self.put_row(page, self.others[rest]);
+        }
+    }
+
+    // Writes one line, or the whole page where no number is given.
+    fn put(&self, page: &mut Writer, number: Option<usize>)
+        requires { Room (text_room (length self.now.expected + length self.now.others) number) page.old }
+        ensures { Put (text_with self.now number) page.old page.new }
+    {
+        match number {
+            None => self.put_page(page),
+            Some(number) => self.put_numbered(page, number),
+        }
+    }
 }
 
-// Writes the page, or one line of it. `others` has what the expected order hasn't.
-fn put_laid(
-    expected: &[u32],
-    others: &[u32],
-    expected_places: &[u32],
-    actual_places: &[u32],
-    plan: &[u32],
-    out: &mut [u8],
-    whole: bool,
-    number: usize,
-) -> usize
-    requires sheet { Sheet expected_places.now actual_places.now plan.now }
-    requires rows { Below (length plan.now) expected.now × Below (length plan.now) others.now }
-    requires room { (if whole then 41 * (length expected.now + length others.now) else 41) ≤ length out.old }
-    ensures { PutAt out.old 0 (if whole then page_with expected_places.now actual_places.now plan.now expected.now others.now else numbered_with expected_places.now actual_places.now plan.now expected.now others.now number) out.new result }
-{
-    if whole {
-        return put_laid_page(expected, others, expected_places, actual_places, plan, out);
-    }
-    put_laid_line(
-        expected,
-        others,
-        expected_places,
-        actual_places,
-        plan,
-        out,
-        number,
-    )
-}
-
-// Writes the page of an entry, or one line of it, from place 0, and answers its length. The places are made here for both, so that the arrays take stack only
-// while this runs.
+// Writes one line of an entry's page, or the page where no number is given, from place 0, and answers its length. The places are made here for both, so that the
+// arrays take stack only while this runs.
 fn put_text(
     expected: &[u32],
     actual: &[u32],
     plan: &[u32],
     out: &mut [u8],
-    whole: bool,
-    number: usize,
+    number: Option<usize>,
 ) -> usize
     requires orders { Orders expected.now actual.now (length plan.now) }
-    requires room { (if whole then 41 * length plan.now else 41) ≤ length out.old }
-    ensures { PutAt out.old 0 (if whole then page_by expected.now actual.now (has plan.now) else line_at expected.now actual.now (has plan.now) number) out.new result }
+    requires room { text_room (length plan.now) number ≤ length out.old }
+    ensures { PutAt out.old 0 (text_by expected.now actual.now (has plan.now) number) out.new result }
 {
     let n = plan.len();
     let mut expected_places = [0u32; MODULE_LIMIT];
@@ -160,16 +125,16 @@ fn put_text(
         actual_places,
         &mut others,
     );
-    put_laid(
+    let sheet = Sheet {
         expected,
-        &others[..count],
+        others: &others[..count],
         expected_places,
         actual_places,
         plan,
-        out,
-        whole,
-        number,
-    )
+    };
+    let mut page = Writer::new(out);
+    sheet.put(&mut page, number);
+    page.len()
 }
 
 // Writes the page of an entry from place 0, and answers its length.
@@ -178,7 +143,7 @@ pub fn put_page(expected: &[u32], actual: &[u32], plan: &[u32], out: &mut [u8]) 
     requires room { 41 * length plan.now ≤ length out.old }
     ensures { PutAt out.old 0 (page_by expected.now actual.now (has plan.now)) out.new result }
 {
-    put_text(expected, actual, plan, out, true, 0)
+    put_text(expected, actual, plan, out, None)
 }
 
 // Writes one line of an entry's page, by its number, from place 0, and answers its length; past the last, 0.
@@ -193,5 +158,5 @@ pub fn put_numbered(
     requires room { 41 ≤ length out.old }
     ensures { PutAt out.old 0 (line_at expected.now actual.now (has plan.now) number) out.new result }
 {
-    put_text(expected, actual, plan, out, false, number)
+    put_text(expected, actual, plan, out, Some(number))
 }

@@ -10,24 +10,15 @@ use rule_sets::inner::RuleSets;
 use suffix_rule::inner::pass_suffixes;
 use table::{MODULE_LIMIT, ROW_LIMIT};
 
-// One pass of each rule. Whether any module was added.
+// One pass of each rule. Whether any module was added. What is settled, what leads to the plan, and the plan are lent on singly, since each rule writes another one.
 fn close_once(sets: &RuleSets, settled: &mut [u32], leads: &mut [u32], plan: &mut [u32]) -> bool
     requires kept { Kept sets.now settled.old leads.old plan.old }
     ensures { Once sets.now plan.old settled.new leads.new plan.new result }
 {
-    let current = sets.current;
-    let suffixes = pass_suffixes(
-        current,
-        sets.roots,
-        sets.sensitive,
-        sets.eligible,
-        sets.candidates,
-        settled,
-        plan,
-    );
-    let cyclic = pass_members(current, sets.labels, sets.sensitive, sets.eligible, plan);
-    let imports = pass_importers(current, &sets.imports, sets.candidates, leads, plan);
-    let readers = pass_readers(current, sets.candidates, plan);
+    let suffixes = pass_suffixes(sets, settled, plan);
+    let cyclic = pass_members(sets, plan);
+    let imports = pass_importers(sets, leads, plan);
+    let readers = pass_readers(sets, plan);
     suffixes | (cyclic | (imports | readers))
 }
 

@@ -1,69 +1,59 @@
 // For crates above, on tested tables.
 ghost use Rattle.std.specs.Prelude.{◌≡◌, ◌≤◌, length};
 ghost use Rattle.tables.specs.Readings.{modules};
-ghost use Rattle.visit_columns.specs.inner.Prepared.{places};
 ghost use Rattle.visit_columns.specs.inner.OverTable.{PreparedAs};
 ghost use Rattle.entry_run.specs.Actual.{read_as_two};
 ghost use Rattle.entry_run.specs.inner.Cores.{Listed};
 ghost use Rattle.entry_run.specs.inner.OverTable.{Listing};
 ghost use Rattle.planned_load.specs.Steps.{planned_run, step_of};
-ghost use Rattle.planned_load.specs.inner.Stepping.{Entered, Stepped};
+ghost use Rattle.planned_load.specs.inner.Stepping.{Stepped};
 
 use crate::LoadStep;
+use analysed_entries::inner::AnalysedEntry;
 use current_columns::inner::Current;
 use entry_run::inner::list_prepared;
 use table::MODULE_LIMIT;
-use visit_columns::inner::{PREPARED, prepare_wrapped};
+use visit_columns::inner::{VisitColumns, VisitSpace, prepare_wrapped};
 use wraps_and_hosts::inner::{name_hosts, own_host, read_as_two};
 
 // Makes the columns that the visits read, of a table with a plan's modules wrapped.
-fn prepare_planned(current: &Current, plan: &[u32], prepared: &mut [u32])
+fn prepare_planned<'a>(
+    current: &Current,
+    plan: &[u32],
+    space: &'a mut VisitSpace,
+) -> VisitColumns<'a>
     requires plan { length plan.now ≡ modules current.now }
-    requires places { length prepared.old ≡ places }
-    ensures { PreparedAs current.now (read_as_two plan.now current.now.wrap) prepared.new }
+    ensures { PreparedAs current.now (read_as_two plan.now current.now.wrap) result }
 {
     let modules = current.modules();
     let mut wraps = [0u32; MODULE_LIMIT];
     let wraps = &mut wraps[..modules];
     read_as_two(plan, current.wrap, wraps);
-    prepare_wrapped(current, wraps, prepared);
+    prepare_wrapped(current, wraps, space)
 }
 
-// The run of an entry, a root with its entry chunk, with a plan's modules wrapped: its list written to `order` from place 0, and the noted hosts, a place a
+// The run of an entry with a plan's modules wrapped: its list written to `order` from place 0, and the noted hosts, a place a
 // module. How many are listed.
-fn list_planned(
-    current: &Current,
-    plan: &[u32],
-    order: &mut [u32],
-    noted: &mut [u32],
-    root: u32,
-    chunk: u32,
-) -> usize
-    requires plan { length plan.now ≡ modules current.now }
-    requires places { Listing current.now root chunk (length order.old) (length noted.old) }
-    ensures { Listed (planned_run current.now plan.now root) order.old order.new noted.new result }
+fn list_planned(entry: &AnalysedEntry, plan: &[u32], order: &mut [u32], noted: &mut [u32]) -> usize
+    requires plan { length plan.now ≡ modules entry.now.current.now }
+    requires places { Listing entry.now.current.now (length order.old) (length noted.old) }
+    ensures { Listed (planned_run entry.now.current.now plan.now entry.now.root) order.old order.new noted.new result }
 {
-    let mut prepared = [0u32; PREPARED];
-    prepare_planned(current, plan, &mut prepared);
-    list_prepared(current, &prepared, order, noted, root, chunk)
+    let mut space = VisitSpace::EMPTY;
+    let columns = prepare_planned(entry.current, plan, &mut space);
+    list_prepared(entry, &columns, order, noted)
 }
 
 // A step of an entry's load with a plan, by its number; none where none is left.
-pub fn step_planned(
-    current: &Current,
-    plan: &[u32],
-    root: u32,
-    chunk: u32,
-    number: u32,
-) -> Option<LoadStep>
-    requires entered { Entered current.now plan.now root chunk }
-    ensures { result ≡ step_of current.now plan.now root number }
+pub fn step_planned(entry: &AnalysedEntry, plan: &[u32], number: u32) -> Option<LoadStep>
+    requires plan { length plan.now ≡ modules entry.now.current.now }
+    ensures { result ≡ step_of entry.now.current.now plan.now entry.now.root number }
 {
-    let modules = current.modules();
+    let modules = entry.current.modules();
     let mut order = [0u32; MODULE_LIMIT];
     let mut noted = [0u32; MODULE_LIMIT];
     let noted = &mut noted[..modules];
-    let count = list_planned(current, plan, &mut order, noted, root, chunk);
+    let count = list_planned(entry, plan, &mut order, noted);
     let at = number as usize;
     if count <= at {
         return None;
@@ -78,21 +68,19 @@ pub fn step_planned(
 // The steps of an entry's load with a plan: their modules written to `steps` from place 0, and their hosts to `hosts`. How many there
 // are.
 pub fn run_planned(
-    current: &Current,
+    entry: &AnalysedEntry,
     plan: &[u32],
     steps: &mut [u32],
     hosts: &mut [u32],
-    root: u32,
-    chunk: u32,
 ) -> usize
-    requires entered { Entered current.now plan.now root chunk }
-    requires rooms { (modules current.now ≤ length steps.old) × (modules current.now ≤ length hosts.old) }
-    ensures { Stepped current.now plan.now root steps.old hosts.old steps.new hosts.new result }
+    requires plan { length plan.now ≡ modules entry.now.current.now }
+    requires rooms { (modules entry.now.current.now ≤ length steps.old) × (modules entry.now.current.now ≤ length hosts.old) }
+    ensures { Stepped entry.now.current.now plan.now entry.now.root steps.old hosts.old steps.new hosts.new result }
 {
-    let modules = current.modules();
+    let modules = entry.current.modules();
     let mut noted = [0u32; MODULE_LIMIT];
     let noted = &mut noted[..modules];
-    let count = list_planned(current, plan, steps, noted, root, chunk);
+    let count = list_planned(entry, plan, steps, noted);
     name_hosts(&steps[..count], noted, hosts);
     count
 }

@@ -11,40 +11,45 @@ use Rattle.lists.specs.Words.{is_zero, has}
 use Rattle.lists.proofs.Laws.{has_in, mark-in, mark-out, get_d-in}
 use Rattle.walk.specs.Close.{Within}
 use Rattle.tables.specs.Lookups.{greater_of}
-use Rattle.tables.specs.Project.{missing}
-use Rattle.tables.specs.Accepted.{Below}
+use Rattle.tables.specs.Project.{Project, missing}
+use Rattle.tables.specs.Accepted.{Accepted}
 use Rattle.tables.proofs.Greater.{greater-first, greater-second, greater-one}
 use Rattle.marks.specs.Steps.{looked, Owners, InAll, Marks}
 use Rattle.marks.proofs.Steps.{length-looked, looked-at, looked-has, has-looked}
-use Rattle.read_rule.specs.inner.Reads.{ChainTouch, SymbolTouch, ReferenceTouch, Touching, by_symbol, by_depended, Reader, TopLevelRead, Linking}
+use Rattle.read_rule.specs.inner.Reads.{ChainTouch, SymbolTouch, ReferenceTouch, Touching, by_symbol, by_depended, Reader, TopLevelRead}
 
-pub chains-marked : (owner chain_symbol chain_link S owners chains : List ℕ) → Linking chain_symbol chain_link (length owner)
-    → owners ≡ looked 0 S owner → Owners chain_symbol (looked 0 owners chain_link) (length chain_symbol) owners chains
-    → Marks (ChainTouch owner chain_symbol chain_link S) chains
-unfolding Within
-chains-marked owner chain_symbol chain_link S owners chains k start o = record { only = back; all = there }
-  where
-    count : length owners ≡ length owner
-    count = ap length start ∙ length-looked 0 S owner
+module _ (p : Project) (ok : Accepted p) where
+  pub chains_marked : (S owners chains₀ chains : List ℕ) → owners ≡ looked 0 S p.owner → chains₀ ≡ owners
+      → Owners p.chain_symbol (looked 0 owners p.chain_link) (length p.chain_symbol) chains₀ chains
+      → Marks (ChainTouch p.owner p.chain_symbol p.chain_link S) chains
+  unfolding Within
+  chains_marked S owners chains₀ chains start same o = record { only = back; all = there }
+    where
+      count : length owners ≡ length p.owner
+      count = ap length start ∙ length-looked 0 S p.owner
 
-    -- a symbol is in where its owner is planned
-    owned : (y : ℕ) → y < length owner → has owners y ≡ has S (get_or owner y missing)
-    owned y l = ap (λ (s : List ℕ). has s y) start ∙ looked-has S owner y l ∙ ap (has S) (get_d-in owner y 0 missing l)
+      -- a symbol is in where its owner is planned
+      owned : (y : ℕ) → y < length p.owner → has owners y ≡ has S (get_or p.owner y missing)
+      owned y l = ap (λ (s : List ℕ). has s y) start ∙ looked-has S p.owner y l ∙ ap (has S) (get_d-in p.owner y 0 missing l)
 
-    linked : (row : ℕ) → row < length chain_symbol → has (looked 0 owners chain_link) row ≡ has S (get_or owner (get_or chain_link row 0) missing)
-    linked row l = let i : row < length chain_link = omega (arith, k.links) in looked-has owners chain_link row i ∙ owned (get_or chain_link row 0) (k.linked row i)
+      linked : (row : ℕ) → row < length p.chain_symbol → has (looked 0 owners p.chain_link) row ≡ has S (get_or p.owner (get_or p.chain_link row 0) missing)
+      linked row l =
+          let i : row < length p.chain_link = omega (arith, ok.sizes.chain_link) in
+          looked-has owners p.chain_link row i ∙ owned (get_or p.chain_link row 0) (ok.values.chain_link row i)
 
-    back : (y : ℕ) → has chains y ≡ true → ChainTouch owner chain_symbol chain_link S y
-    back y e =
-        ⊎_elim (λ h. inl (sym (owned y (omega (arith, count, has_in owners y h))) ∙ h))
-        (λ r. inr (r.0, r.1, r.3, sym (linked r.0 r.1) ∙ r.2))
-        (o.only y e)
+      back : (y : ℕ) → has chains y ≡ true → ChainTouch p.owner p.chain_symbol p.chain_link S y
+      back y e =
+          ⊎_elim
+          (λ h. let g : has owners y ≡ true = subst (λ (s : List ℕ). has s y ≡ true) same h in inl (sym (owned y (omega (arith, count, has_in owners y g))) ∙ g))
+          (λ r. inr (r.0, r.1, r.3, sym (linked r.0 r.1) ∙ r.2))
+          (o.only y e)
 
-    there : (y : ℕ) → y < length chains → ChainTouch owner chain_symbol chain_link S y → has chains y ≡ true
-    there y l t =
-        ⊎_elim (λ h. o.old y (owned y (omega (arith, o.len, count)) ∙ h))
-        (λ r. subst (λ (x : ℕ). has chains x ≡ true) r.2 (o.new r.0 r.1 (linked r.0 r.1 ∙ r.3) (subst (λ (x : ℕ). x < length owners) (sym r.2) (omega (arith, o.len)))))
-        t
+      there : (y : ℕ) → y < length chains → ChainTouch p.owner p.chain_symbol p.chain_link S y → has chains y ≡ true
+      there y l t =
+          let b : y < length chains₀ = omega (arith, o.len) in
+          ⊎_elim (λ h. o.old y (subst (λ (s : List ℕ). has s y ≡ true) (sym same) (owned y (omega (arith, ap length same, count)) ∙ h)))
+          (λ r. subst (λ (x : ℕ). has chains x ≡ true) r.2 (o.new r.0 r.1 (linked r.0 r.1 ∙ r.3) (subst (λ (x : ℕ). x < length chains₀) (sym r.2) b)))
+          t
 
 -- the marks of the symbols below y: each the greater of its own and its canonical's
 abbrev pub Joined : List ℕ → List ℕ → ℕ → List ℕ → Type 0
@@ -78,58 +83,60 @@ module _ (canonical chains : List ℕ) (y : ℕ) (symbols : List ℕ) where
       more : {a b : ℕ} → not (is_zero a) ≡ true → a ≤ b → not (is_zero b) ≡ true
       more {a} {b} e k = mark-in b (λ z. true≢false (sym e ∙ mark-out a (omega arith)))
 
-pub symbols-marked : (owner canonical chain_symbol chain_link S chains symbols : List ℕ) → length chains ≡ length owner → length symbols ≡ length owner
-    → length canonical ≡ length owner → Below (length owner) canonical
-    → Marks (ChainTouch owner chain_symbol chain_link S) chains → Marks (λ (y : ℕ). (has chains y ≡ true) ⊎ (has chains (get_or canonical y 0) ≡ true)) symbols
-    → Marks (SymbolTouch owner canonical chain_symbol chain_link S) symbols
-symbols-marked owner canonical chain_symbol chain_link S chains symbols count size canonicals inside c s = record {
-  only = λ y e. ⊎_elim (λ h. inl (c.only y h)) (λ h. inr (c.only (get_or canonical y 0) h)) (s.only y e);
-  all = λ y l t.
-      s.all y l
-      (⊎_elim (λ h. inl (c.all y (omega (arith, count, size)) h))
-      (λ h. inr (c.all (get_or canonical y 0) (omega (arith, count, inside y (omega (arith, canonicals, size)))) h))
-      t);
-}
+module _ (p : Project) (ok : Accepted p) where
+  pub symbols_marked : (S chains symbols : List ℕ) → length chains ≡ length p.owner → length symbols ≡ length p.owner
+      → Marks (ChainTouch p.owner p.chain_symbol p.chain_link S) chains → Marks (λ (y : ℕ). (has chains y ≡ true) ⊎ (has chains (get_or p.canonical y 0) ≡ true)) symbols
+      → Marks (SymbolTouch p.owner p.canonical p.chain_symbol p.chain_link S) symbols
+  symbols_marked S chains symbols count size c s = record {
+    only = λ y e. ⊎_elim (λ h. inl (c.only y h)) (λ h. inr (c.only (get_or p.canonical y 0) h)) (s.only y e);
+    all = λ y l t.
+        s.all y l
+        (⊎_elim (λ h. inl (c.all y (omega (arith, count, size)) h))
+        (λ h. inr (c.all (get_or p.canonical y 0) (omega (arith, count, ok.values.canonical y (omega (arith, ok.sizes.canonical, size)))) h))
+        t);
+  }
 
-pub references-marked : (reference_symbol depended_reference depended symbols references₀ references : List ℕ) → length depended ≡ length depended_reference
-    → references₀ ≡ looked 0 symbols reference_symbol → Owners depended_reference (looked 0 symbols depended) (length depended_reference) references₀ references
-    → Marks (ReferenceTouch reference_symbol depended_reference depended symbols) references
-unfolding Within
-references-marked reference_symbol depended_reference depended symbols references₀ references depends start o = record {
-  only = λ r e.
-      ⊎_elim (λ h. inl (has-looked symbols reference_symbol r (subst (λ (xs : List ℕ). has xs r ≡ true) start h)).1)
-      (λ q. inr (record { row = q.0; there = q.1; named = q.3; holds = (has-looked symbols depended q.0 q.2).1 }))
-      (o.only r e);
-  all = λ r l t.
-      let size : length references₀ ≡ length reference_symbol = ap length start ∙ length-looked 0 symbols reference_symbol in
-      ⊎_elim
-      (λ h. o.old r (subst (λ (xs : List ℕ). has xs r ≡ true) (sym start) (looked-has symbols reference_symbol r (omega (arith, o.len, size)) ∙ h)))
-      (λ q.
-      subst (λ (x : ℕ). has references x ≡ true) q.named
-      (o.new q.row q.there (looked-has symbols depended q.row (omega (arith, depends, q.there)) ∙ q.holds) (subst (λ (x : ℕ). x < length references₀) (sym q.named) (omega (arith, o.len)))))
-      t;
-}
+  pub references_marked : (symbols references₀ references : List ℕ) → references₀ ≡ looked 0 symbols p.reference_symbol
+      → Owners p.depended_reference (looked 0 symbols p.depended) (length p.depended_reference) references₀ references
+      → Marks (ReferenceTouch p.reference_symbol p.depended_reference p.depended symbols) references
+  unfolding Within
+  references_marked symbols references₀ references start o = record {
+    only = λ r e.
+        ⊎_elim (λ h. inl (has-looked symbols p.reference_symbol r (subst (λ (xs : List ℕ). has xs r ≡ true) start h)).1)
+        (λ q. inr (record { row = q.0; there = q.1; named = q.3; holds = (has-looked symbols p.depended q.0 q.2).1 }))
+        (o.only r e);
+    all = λ r l t.
+        let size : length references₀ ≡ length p.reference_symbol = ap length start ∙ length-looked 0 symbols p.reference_symbol in
+        ⊎_elim
+        (λ h. o.old r (subst (λ (xs : List ℕ). has xs r ≡ true) (sym start) (looked-has symbols p.reference_symbol r (omega (arith, o.len, size)) ∙ h)))
+        (λ q.
+        subst (λ (x : ℕ). has references x ≡ true) q.named
+        (o.new q.row q.there (looked-has symbols p.depended q.row (omega (arith, ok.sizes.depended, q.there)) ∙ q.holds)
+        (subst (λ (x : ℕ). x < length references₀) (sym q.named) (omega (arith, o.len)))))
+        t;
+  }
 
-pub touching-marked : (owner canonical chain_symbol chain_link reference_symbol depended_reference depended S symbols references : List ℕ) → length symbols ≡ length owner
-    → Marks (SymbolTouch owner canonical chain_symbol chain_link S) symbols → Marks (ReferenceTouch reference_symbol depended_reference depended symbols) references
-    → Marks (Touching owner canonical chain_symbol chain_link reference_symbol depended_reference depended S) references
-touching-marked owner canonical chain_symbol chain_link reference_symbol depended_reference depended S symbols references size s r = record {
-  only = λ i e.
-      ⊎_elim
-      (λ h. by_symbol (rw size at (has_in symbols (get_or reference_symbol i 0) h)) (s.only (get_or reference_symbol i 0) h))
-      (λ q. by_depended q.row q.there q.named (rw size at (has_in symbols (get_or depended q.row 0) q.holds)) (s.only (get_or depended q.row 0) q.holds))
-      (r.only i e);
-  all = λ i l t. r.all i l (go i t);
-}
-  where
-    go : (i : ℕ) → Touching owner canonical chain_symbol chain_link reference_symbol depended_reference depended S i → ReferenceTouch reference_symbol depended_reference depended symbols i
-    go i (by_symbol l t) = inl (s.all (get_or reference_symbol i 0) (omega (arith, size)) t)
-    go i (by_depended d k q l t) = inr (record { row = d; there = k; named = q; holds = s.all (get_or depended d 0) (omega (arith, size)) t })
+module _ (p : Project) where
+  pub touching-marked : (S symbols references : List ℕ) → Marks (ReferenceTouch p.reference_symbol p.depended_reference p.depended symbols) references
+      → Marks (SymbolTouch p.owner p.canonical p.chain_symbol p.chain_link S) symbols → length symbols ≡ length p.owner
+      → Marks (Touching p.owner p.canonical p.chain_symbol p.chain_link p.reference_symbol p.depended_reference p.depended S) references
+  touching-marked S symbols references r s size = record {
+    only = λ i e.
+        ⊎_elim
+        (λ h. by_symbol (rw size at (has_in symbols (get_or p.reference_symbol i 0) h)) (s.only (get_or p.reference_symbol i 0) h))
+        (λ q. by_depended q.row q.there q.named (rw size at (has_in symbols (get_or p.depended q.row 0) q.holds)) (s.only (get_or p.depended q.row 0) q.holds))
+        (r.only i e);
+    all = λ i l t. r.all i l (go i t);
+  }
+    where
+      go : (i : ℕ) → Touching p.owner p.canonical p.chain_symbol p.chain_link p.reference_symbol p.depended_reference p.depended S i → ReferenceTouch p.reference_symbol p.depended_reference p.depended symbols i
+      go i (by_symbol l t) = inl (s.all (get_or p.reference_symbol i 0) (omega (arith, size)) t)
+      go i (by_depended d k q l t) = inr (record { row = d; there = k; named = q; holds = s.all (get_or p.depended d 0) (omega (arith, size)) t })
 
-pub readers-marked : (statement_module reference_statement references readers₀ readers : List ℕ) → ((m : ℕ) → has readers₀ m ≡ true → ⊥)
+pub readers_marked : (statement_module reference_statement references readers₀ readers : List ℕ) → ((m : ℕ) → has readers₀ m ≡ true → ⊥)
     → Owners (looked missing statement_module reference_statement) references (length reference_statement) readers₀ readers
     → Marks (Reader statement_module reference_statement references) readers
-readers-marked statement_module reference_statement references readers₀ readers none o = record {
+readers_marked statement_module reference_statement references readers₀ readers none o = record {
   only = λ m e.
       ⊎_elim (λ h. absurd (none m h))
       (λ q. record { row = q.0; there = q.1; named = sym (at q.0 q.1) ∙ q.3; holds = q.2 })
@@ -145,16 +152,18 @@ readers-marked statement_module reference_statement references readers₀ reader
     at : (row : ℕ) → row < length reference_statement → get_or owners row 0 ≡ get_or statement_module (get_or reference_statement row 0) missing
     at row l = looked-at missing statement_module reference_statement row 0 l
 
-module _ (reads statement_module owner canonical chain_symbol chain_link reference_statement reference_symbol depended_reference depended candidates S references readers : List ℕ)
-    (size : length references ≡ length reference_statement)
-    (t : Marks (Touching owner canonical chain_symbol chain_link reference_symbol depended_reference depended S) references)
-    (r : Marks (Reader statement_module reference_statement references) readers) where
-  pub marked-read : (m : ℕ) → InAll readers reads candidates m → TopLevelRead reads statement_module owner canonical chain_symbol chain_link reference_statement reference_symbol depended_reference depended candidates S m
+module _ (p : Project) (candidates S references readers : List ℕ) (size : length references ≡ length p.reference_statement)
+    (t : Marks (Touching p.owner p.canonical p.chain_symbol p.chain_link p.reference_symbol p.depended_reference p.depended S) references)
+    (r : Marks (Reader p.statement_module p.reference_statement references) readers) where
+  abbrev Reads : ℕ → Type 0
+  Reads = TopLevelRead p.reads p.statement_module p.owner p.canonical p.chain_symbol p.chain_link p.reference_statement p.reference_symbol p.depended_reference p.depended candidates S
+
+  pub marked-read : (m : ℕ) → InAll readers p.reads candidates m → Reads m
   marked-read m e =
       let q = r.only m e.0 in
       record { candidate = e.2; reading = e.1; row = q.row; there = q.there; named = q.named; touches = t.only q.row q.holds }
 
-  pub read-marked : (m : ℕ) → m < length readers → TopLevelRead reads statement_module owner canonical chain_symbol chain_link reference_statement reference_symbol depended_reference depended candidates S m → InAll readers reads candidates m
+  pub read-marked : (m : ℕ) → m < length readers → Reads m → InAll readers p.reads candidates m
   read-marked m l q = (
     r.all m l (record { row = q.row; there = q.there; named = q.named; holds = t.all q.row (omega (arith, size, q.there)) q.touches }),
     q.reading,

@@ -44,7 +44,7 @@ const COLUMNS: [u32; 53] = [
 // Modules 1 and 3.
 const PLAN: [u32; 4] = [0, 1, 0, 1];
 
-// Some operations over one table.
+// A part of what is printed: some operations over one table. An enum, since `main` lists the parts that each listing is shown with.
 #[derive(Clone, Copy)]
 enum Part {
     // The sort, the two orders of entry 1, and entries 3 and 1 walked together.

@@ -21,7 +21,7 @@ use tables::Refusal;
 use wall_line::page_line;
 use wrap_plan::plan_from_seeds;
 
-// An operation of a list.
+// An operation that a list calls by number. An enum, since the number is read first and the call is made when all of its line is read.
 #[derive(Clone, Copy)]
 pub enum Operation {
     SortModules,

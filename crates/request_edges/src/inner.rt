@@ -43,6 +43,17 @@ pub fn number_chosen(first: &[u32], second: &[u32], out: &mut [u32])
     }
 }
 
+// What a column's numbers are looked up as in a table, in an array's front.
+fn looked_up<'a>(column: &[u32], table: &[u32], space: &'a mut [u32; ROW_LIMIT]) -> &'a [u32]
+    requires few { length column.now ≤ row_limit }
+    ensures numbers { result.now ≡ looked missing table.now column.now }
+    ensures rows { length result.now ≡ length column.now }
+{
+    let numbers = &mut space[..column.len()];
+    look_up(column, table, numbers, ModuleIdx::MISSING);
+    numbers
+}
+
 // A list of edges that grows in two slices. Contracts see their sources and targets, and how many there is room for.
 #[derive(Drop)]
 pub struct EdgeList<'a> {
@@ -126,10 +137,9 @@ impl<'a> EdgeList<'a> {
         requires target { b ≤ edge_limit }
         ensures { Adds (Rows sources.now a (looked missing table.now column.now) b) (length sources.now) self.old self.new }
     {
-        let rows = column.len();
-        let mut targets = [0u32; ROW_LIMIT];
-        look_up(column, table, &mut targets[..rows], ModuleIdx::MISSING);
-        self.add(sources, &targets[..rows], a, b);
+        let mut space = [0u32; ROW_LIMIT];
+        let targets = looked_up(column, table, &mut space);
+        self.add(sources, targets, a, b);
     }
 
     // The same, where the first column's numbers are looked up in a table.
@@ -148,10 +158,9 @@ impl<'a> EdgeList<'a> {
         requires target { b ≤ edge_limit }
         ensures { Adds (Rows (looked missing table.now column.now) a targets.now b) (length column.now) self.old self.new }
     {
-        let rows = column.len();
-        let mut sources = [0u32; ROW_LIMIT];
-        look_up(column, table, &mut sources[..rows], ModuleIdx::MISSING);
-        self.add(&sources[..rows], targets, a, b);
+        let mut space = [0u32; ROW_LIMIT];
+        let sources = looked_up(column, table, &mut space);
+        self.add(sources, targets, a, b);
     }
 
     // The same, where both columns' numbers are looked up.
@@ -171,9 +180,8 @@ impl<'a> EdgeList<'a> {
         requires target { b ≤ edge_limit }
         ensures { Adds (Rows (looked missing sources.now first.now) a (looked missing targets.now second.now) b) (length first.now) self.old self.new }
     {
-        let rows = second.len();
-        let mut looked = [0u32; ROW_LIMIT];
-        look_up(second, targets, &mut looked[..rows], ModuleIdx::MISSING);
-        self.add_from_looked(first, sources, &looked[..rows], a, b);
+        let mut space = [0u32; ROW_LIMIT];
+        let looked = looked_up(second, targets, &mut space);
+        self.add_from_looked(first, sources, looked, a, b);
     }
 }

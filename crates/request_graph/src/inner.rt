@@ -1,13 +1,15 @@
 // For crates above, on tested tables.
-ghost use Rattle.std.specs.Prelude.{◌≡◌, ◌≤◌, length};
+ghost use Rattle.std.specs.Prelude.{◌≡◌, length};
 ghost use Rattle.tables.specs.Readings.{modules};
-ghost use Rattle.tables.specs.Refusal.{module_limit, row_limit};
+ghost use Rattle.chunk_cycles.specs.Cycles.{labels_of};
+ghost use Rattle.wrap_rules.specs.inner.Passes.{candidate_marks};
 ghost use Rattle.request_edges.specs.inner.Edges.{Room, Adds};
-ghost use Rattle.request_graph.specs.inner.Requests.{ImportRows, ComponentRows, LeadRows, ChainEdge, ReadEdge, readers_of, SymbolEdge, Basis, Requests};
+ghost use Rattle.request_graph.specs.inner.Requests.{ComponentEdge, ImportEdge, ChainEdge, ReadEdge, readers_of, SymbolEdge, Requests};
 
 use current_columns::inner::Current;
 use marks::inner::look_up;
 use request_edges::inner::{EdgeList, number, number_chosen};
+use rule_sets::inner::RuleSets;
 use table::{MODULE_LIMIT, ROW_LIMIT};
 use tables::ModuleIdx;
 
@@ -30,42 +32,31 @@ pub const NODES: usize = 49152;
 pub const EDGES: usize = 155648;
 
 // Adds the edges of rule (ii): from a module to its chunk's label, and from a label to the sensitive eligible members of its chunks.
-fn add_component_edges(
-    chunks: &[u32],
-    member_chunks: &[u32],
-    members: &[u32],
-    labels: &[u32],
-    numbers: &[u32],
-    asked: &[u32],
-    edges: &mut EdgeList,
-)
-    requires chunks { (length chunks.now ≡ length numbers.now) × (length numbers.now ≤ module_limit) }
-    requires members { (length members.now ≡ length member_chunks.now) × (length member_chunks.now ≤ row_limit) }
+#[tactic(auto, unfolding(current_columns::specs::AsProject::project))]
+fn add_component_edges(sets: &RuleSets, numbers: &[u32], asked: &[u32], edges: &mut EdgeList)
+    requires modules { length numbers.now ≡ modules sets.now }
     requires room { Room 20480 edges.old }
-    ensures { Adds (ComponentRows chunks.now member_chunks.now members.now labels.now numbers.now asked.now) 20480 edges.old edges.new }
+    ensures { Adds (ComponentEdge sets.now (labels_of sets.now) numbers.now asked.now) 20480 edges.old edges.new }
 {
-    edges.add_to_looked(numbers, chunks, labels, 0, LABEL);
-    edges.add_looked(member_chunks, labels, members, asked, LABEL, REQUEST);
+    let current = sets.current;
+    let labels = sets.labels;
+    let chunks = current.member_chunk;
+    edges.add_to_looked(numbers, current.chunk, labels, 0, LABEL);
+    edges.add_looked(chunks, labels, current.member, asked, LABEL, REQUEST);
 }
 
 // Adds the edges of rule (iii): from a module to what leads to it by the import records, and to what depends on it.
-fn add_import_edges(
-    importers: &[u32],
-    targets: &[u32],
-    dependents: &[u32],
-    dependencies: &[u32],
-    numbers: &[u32],
-    edges: &mut EdgeList,
-)
-    requires modules { length numbers.now ≤ module_limit }
-    requires records { (length targets.now ≡ length importers.now) × (length importers.now ≤ row_limit) }
-    requires dependencies { (length dependencies.now ≡ length dependents.now) × (length dependents.now ≤ row_limit) }
+#[tactic(auto, unfolding(current_columns::specs::AsProject::project))]
+fn add_import_edges(sets: &RuleSets, numbers: &[u32], edges: &mut EdgeList)
+    requires modules { length numbers.now ≡ modules sets.now }
     requires room { Room 36864 edges.old }
-    ensures { Adds (LeadRows importers.now targets.now dependents.now dependencies.now numbers.now) 36864 edges.old edges.new }
+    ensures { Adds (ImportEdge sets.now numbers.now) 36864 edges.old edges.new }
 {
+    let current = sets.current;
+    let imports = &sets.imports;
     edges.add(numbers, numbers, 0, LEAD);
-    edges.add(targets, importers, LEAD, LEAD);
-    edges.add(dependencies, dependents, 0, DEPENDENT);
+    edges.add(imports.from(), imports.to(), LEAD, LEAD);
+    edges.add(current.dependency, current.dependency_module, 0, DEPENDENT);
 }
 
 // Adds the first edges of rule (iv): from a module to the chains of its symbols, and of those with a link that it owns.
@@ -87,16 +78,16 @@ fn add_chain_edges(current: &Current, symbols: &[u32], edges: &mut EdgeList)
 
 // Writes each reference's module, where that is a candidate that reads at the top level, else the mark.
 #[tactic(auto, unfolding(current_columns::specs::AsProject::project))]
-fn find_readers(current: &Current, candidates: &[u32], readers: &mut [u32])
-    requires candidates { length candidates.now ≡ modules current.now }
-    requires places { length readers.old ≡ length current.now.reference_statement }
-    ensures { readers.new ≡ readers_of current.now candidates.now }
+fn find_readers(sets: &RuleSets, readers: &mut [u32])
+    requires { length readers.old ≡ length sets.now.reference_statement }
+    ensures { readers.new ≡ readers_of sets.now (candidate_marks sets.now) }
 {
+    let current = sets.current;
     let mut reading = [0u32; MODULE_LIMIT];
     let mut modules = [0u32; ROW_LIMIT];
     let reading = &mut reading[..current.normal.len()];
     let modules = &mut modules[..current.reference_statement.len()];
-    number_chosen(candidates, current.reads, reading);
+    number_chosen(sets.candidates, current.reads, reading);
     look_up(
         current.reference_statement,
         current.statement_module,
@@ -125,61 +116,34 @@ fn add_read_edges(current: &Current, readers: &[u32], edges: &mut EdgeList)
 
 // Adds the edges of rule (iv).
 #[tactic(auto, unfolding(current_columns::specs::AsProject::project))]
-fn add_symbol_edges(current: &Current, candidates: &[u32], edges: &mut EdgeList)
-    requires room { Room 98304 edges.old }
-    requires candidates { length candidates.now ≡ modules current.now }
-    ensures { Adds (SymbolEdge current.now candidates.now) 98304 edges.old edges.new }
+fn add_symbol_edges(sets: &RuleSets, edges: &mut EdgeList)
+    requires { Room 98304 edges.old }
+    ensures { Adds (SymbolEdge sets.now (candidate_marks sets.now)) 98304 edges.old edges.new }
 {
+    let current = sets.current;
     let mut names = [0u32; ROW_LIMIT];
     let mut readers = [0u32; ROW_LIMIT];
     let names = &mut names[..current.owner.len()];
     let readers = &mut readers[..current.reference_statement.len()];
     number(names);
     add_chain_edges(current, names, edges);
-    find_readers(current, candidates, readers);
+    find_readers(sets, readers);
     add_read_edges(current, readers, edges);
 }
 
 // Adds the edges of a table.
-#[tactic(auto, unfolding(current_columns::specs::AsProject::project))]
-pub fn request_edges(
-    current: &Current,
-    edge_from: &[u32],
-    edge_to: &[u32],
-    labels: &[u32],
-    sensitive: &[u32],
-    eligible: &[u32],
-    candidates: &[u32],
-    edges: &mut EdgeList,
-)
-    requires room { Room 155648 edges.old }
-    requires imports { ImportRows current.now edge_from.now edge_to.now }
-    requires made { Basis current.now labels.now sensitive.now eligible.now candidates.now }
-    ensures { Requests current.now edges.old edges.new }
+pub fn request_edges(sets: &RuleSets, edges: &mut EdgeList)
+    requires { Room 155648 edges.old }
+    ensures { Requests sets.now edges.old edges.new }
 {
-    let n = current.modules();
+    let n = sets.current.modules();
     let mut numbers = [0u32; MODULE_LIMIT];
     let mut asked = [0u32; MODULE_LIMIT];
     let numbers = &mut numbers[..n];
     let asked = &mut asked[..n];
     number(numbers);
-    number_chosen(sensitive, eligible, asked);
-    add_component_edges(
-        current.chunk,
-        current.member_chunk,
-        current.member,
-        labels,
-        numbers,
-        asked,
-        edges,
-    );
-    add_import_edges(
-        edge_from,
-        edge_to,
-        current.dependency_module,
-        current.dependency,
-        numbers,
-        edges,
-    );
-    add_symbol_edges(current, candidates, edges);
+    number_chosen(sets.sensitive, sets.eligible, asked);
+    add_component_edges(sets, numbers, asked, edges);
+    add_import_edges(sets, numbers, edges);
+    add_symbol_edges(sets, edges);
 }

@@ -52,8 +52,9 @@ none-listed n = record { all = no_ones n; placed = λ i l. absurd (omega arith);
 pub none-standing : (n : ℕ) (queue : List ℕ) → n ≤ node_limit → length queue ≡ n → Standing (replicate n 0) queue 0
 none-standing n queue few room = record { few = omega (arith, few, length-replicate {A = ℕ} n 0); room = room ∙ sym (length-replicate {A = ℕ} n 0); within = omega arith; listed = none-listed n }
 
-pub count_room : {marks queue : List ℕ} {count : ℕ} → Standing marks queue count → (x : ℕ) → x < length marks → get_or marks x 0 ≡ 0 → count < length queue
-count_room {marks} {queue} {count} h x l e = omega (arith, h.listed.all, length-take-le count queue h.within, h.room, ones-open marks x l e)
+-- where a place is out, the slice has room for one more
+pub count_room : {marks : List ℕ} (queue : List ℕ) {count : ℕ} → length queue ≡ length marks → count ≤ length queue → Listed marks (take count queue) → (x : ℕ) → x < length marks → get_or marks x 0 ≡ 0 → count < length queue
+count_room {marks} queue {count} room within listed x l e = omega (arith, listed.all, length-take-le count queue within, room, ones-open marks x l e)
 
 -- nothing more
 pub grown_none : (f : ℕ → Type 0) (q : Listing) → ((x : ℕ) → f x → has q.marks x ≡ true) → Grown f q q
@@ -181,9 +182,12 @@ module _ (marks list : List ℕ) (x : ℕ) where
 
 -- the same in the slices
 module _ {marks queue : List ℕ} {count : ℕ} (h : Standing marks queue count) (x : ℕ) (l : x < length marks) (e : get_or marks x 0 ≡ 0) where
+  here : count < length queue
+  here = count_room queue h.room h.within h.listed x l e
+
   pub put-new : Grown (λ y. y ≡ x) (record { marks = marks; list = take count queue }) (record { marks = set marks x (count + 1); list = take (count + 1) (set queue count x) })
   put-new =
-      rw (take_more_set queue count x (count_room h x l e))
+      rw (take_more_set queue count x here)
       (subst (λ (n : ℕ). Grown (λ y. y ≡ x) (record { marks = marks; list = take count queue }) (record { marks = set marks x (n + 1); list = take count queue ++ x ∷ [] }))
       (length-take-le count queue h.within) (push-new marks (take count queue) x l e))
 
@@ -191,7 +195,7 @@ module _ {marks queue : List ℕ} {count : ℕ} (h : Standing marks queue count)
   put-standing = record {
     few = omega (arith, h.few, length-set marks x (count + 1));
     room = length-set queue count x ∙ h.room ∙ sym (length-set marks x (count + 1));
-    within = omega (arith, count_room h x l e, length-set queue count x);
+    within = omega (arith, here, length-set queue count x);
     listed = put-new.grew.listed h.listed;
   }
 

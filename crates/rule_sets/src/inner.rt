@@ -3,7 +3,7 @@ ghost use Rattle.std.specs.Prelude.{◌≡◌};
 
 use chunk_cycles::inner::label_table;
 use current_columns::inner::Current;
-use eligibility::of_table::mark_table_eligible;
+use eligibility::inner::mark_table_eligible;
 use import_edges::inner::list_edges;
 use lists::inner::fill;
 use reached_modules::inner::{choose_candidates, list_table_roots};

@@ -1,15 +1,13 @@
 -- A byte of the input keeps the totals sound, and so does its end.
 -- Assumes nothing.
-use Rattle.tables.specs.declared.Refusal.TheVariants.{Text, PastSeason}
-use Rattle.std.specs.Prelude.{◌≡◌, ℕ, suc, ◌+◌, ◌-◌, ◌≤◌, Bool, true, false, cond, ◌||◌, eqb, ltb, Result}
+use Rattle.tables.specs.declared.Refusal.TheVariants.{PastSeason}
+use Rattle.std.specs.Prelude.{◌≡◌, ℕ, suc, ◌+◌, ◌-◌, ◌≤◌, Bool, true, false, cond, ◌||◌, eqb, ltb, Option, None, Some, Result, Err}
 use mathlib.Core.Path.{refl, sym, subst}
 use mathlib.Core.Logic.{⊎_elim}
 use native.Mathlib.Omega.{arith}
 use borrow.Author.Tests.{eqb-false}
 use Rattle.lists.proofs.Laws.{both}
 use Rattle.file_names.specs.declared.Names.{Names}
-use Rattle.file_names.specs.declared.Turn.{Turn}
-use Rattle.file_names.specs.declared.Turn.TheVariants.{Nothing, File, Refused}
 use Rattle.file_names.specs.Steps.{begun, turn_of_line, turn_at, names_after, finished}
 use Rattle.tables.specs.declared.Refusal.{Refusal}
 use Rattle.share_totals.specs.declared.Share.{Share}
@@ -22,24 +20,13 @@ use Rattle.season.specs.Sound.{Sound, Room, Acted}
 pub sound_none : Sound begun none
 sound_none = record { left = omega arith; totals = within_none }
 
-room-any : (turn : Turn) (t : Totals) → Within 10000 t → Room turn t
-room-any Nothing t w = tt
-room-any (File n) t w = w
-room-any (Refused n) t w = w
+room-any : (turn : Option (Result ℕ Refusal)) (t : Totals) → Within 10000 t → Room turn t
+room-any None t w = tt
+room-any (Some turn) t w = w
 
--- the end of a line adds an outcome
+-- an outcome is added
 abbrev Adding : Totals → Totals → Type 0
 Adding t r = (o : Result Share Refusal) × Fits o × (r ≡ added t o)
-
-line-adds : (n : Names) (t r : Totals) → Acted (turn_of_line n) t r → Adding t r
-unfolding turn_of_line
-line-adds n t r = by n.zero (eqb n.length 0) (ltb 255 n.length)
-  where
-    by : (x y z : Bool) → Acted (cond x (Refused Text) (cond y (Refused Text) (cond z (Refused Text) (File n.length)))) t r → Adding t r
-    by true y z a = a
-    by false true z a = a
-    by false false true a = a
-    by false false false a = a
 
 module _ (n : Names) (t : Totals) (s : Sound n t) where
   open-totals : n.over ≡ false → Within (10000 - n.left) t
@@ -59,13 +46,13 @@ module _ (n : Names) (t : Totals) (s : Sound n t) where
   unfolding turn_at names_after
   byte-sound b r a = by n.over (eqb n.left 0) (eqb b 10) refl refl a
     where
-      by : (o z l : Bool) → n.over ≡ o → eqb n.left 0 ≡ z → Acted (cond o Nothing (cond z (Refused PastSeason) (cond l (turn_of_line n) Nothing))) t r
+      by : (o z l : Bool) → n.over ≡ o → eqb n.left 0 ≡ z → Acted (cond o None (cond z (Some (Err PastSeason)) (cond l (Some (turn_of_line n)) None))) t r
           → Sound (cond o n (cond z (record { left = 0; length = 0; zero = false; over = true }) (cond l (record { left = n.left - 1; length = 0; zero = false; over = false }) (record { left = n.left; length = cond (ltb 255 n.length) n.length (n.length + 1); zero = n.zero || eqb b 0; over = false })))) r
       by true z l e f h = subst (Sound n) (sym h) s
       by false true l e f h = record { left = omega arith; totals = subst (Within 10001) (sym h.2) (within_more 10000 t h.0 (open-room e) h.1) }
       by false false true e f h =
           let some = eqb-false n.left 0 f in
-          record { left = omega (arith, s.left); totals = subst (λ (k : ℕ). Within k r) (omega (arith, s.left, some)) (open_more e r (line-adds n t r h)) }
+          record { left = omega (arith, s.left); totals = subst (λ (k : ℕ). Within k r) (omega (arith, s.left, some)) (open_more e r h) }
       by false false false e f h = record { left = s.left; totals = subst (Within (10000 - n.left)) (sym h) (open-totals e) }
 
   pub end-room : n.over ≡ false → Room (finished n) t
@@ -75,6 +62,6 @@ module _ (n : Names) (t : Totals) (s : Sound n t) where
   unfolding finished
   end-planned e r a = by (eqb n.length 0) a
     where
-      by : (z : Bool) → Acted (cond z Nothing (turn_of_line n)) t r → r.planned ≤ r.eligible
+      by : (z : Bool) → Acted (cond z None (Some (turn_of_line n))) t r → r.planned ≤ r.eligible
       by true h = subst (λ (u : Totals). u.planned ≤ u.eligible) (sym h) s.totals.planned
-      by false h = (open_more e r (line-adds n t r h)).planned
+      by false h = (open_more e r h).planned

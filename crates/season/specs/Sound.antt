@@ -1,9 +1,7 @@
 -- What holds while a report is made: the totals are those of as many projects as were met, so that no sum overflows.
 -- Assumes nothing.
-use Rattle.std.specs.Prelude.{◌≡◌, ℕ, ◌-◌, ◌≤◌, cond, Result}
+use Rattle.std.specs.Prelude.{◌≡◌, ℕ, ◌-◌, ◌≤◌, cond, Option, None, Some, Result}
 use Rattle.file_names.specs.declared.Names.{Names}
-use Rattle.file_names.specs.declared.Turn.{Turn}
-use Rattle.file_names.specs.declared.Turn.TheVariants.{Nothing, File, Refused}
 use Rattle.tables.specs.declared.Refusal.{Refusal}
 use Rattle.share_totals.specs.declared.Share.{Share}
 use Rattle.share_totals.specs.declared.Totals.{Totals}
@@ -19,13 +17,11 @@ pub record Sound (n : Names) (t : Totals) : Type 0 where
   pub totals : Within (met n) t
 
 -- what is due can be added
-abbrev pub Room : Turn → Totals → Type 0
-Room Nothing t = Unit {0}
-Room (File k) t = Within 10000 t
-Room (Refused k) t = Within 10000 t
+abbrev pub Room : Option (Result ℕ Refusal) → Totals → Type 0
+Room None t = Unit {0}
+Room (Some turn) t = Within 10000 t
 
 -- and was added
-abbrev pub Acted : Turn → Totals → Totals → Type 0
-Acted Nothing t r = r ≡ t
-Acted (File k) t r = (o : Result Share Refusal) × Fits o × (r ≡ added t o)
-Acted (Refused k) t r = (o : Result Share Refusal) × Fits o × (r ≡ added t o)
+abbrev pub Acted : Option (Result ℕ Refusal) → Totals → Totals → Type 0
+Acted None t r = r ≡ t
+Acted (Some turn) t r = (o : Result Share Refusal) × Fits o × (r ≡ added t o)

@@ -6,7 +6,7 @@ ghost use Rattle.share_totals.specs.Sums.{added};
 ghost use Rattle.share_totals.specs.Within.{Fits, Within};
 ghost use Rattle.season.specs.Sound.{Sound, Room, Acted};
 
-use file_names::{NAME_BYTES, Names, Turn, begin, finish, take_byte};
+use file_names::{NAME_BYTES, Names, begin, finish, take_byte};
 use report_lines::inner::put_totals;
 use report_lines::put_outcome;
 use share_text::share_of_text;
@@ -120,15 +120,20 @@ fn count_outcome(
     Ok(add(totals, outcome))
 }
 
-// Does what is due.
-fn act(rt: &(impl Files + Print), totals: Totals, turn: Turn, name: &[u8]) -> io::Result<Totals>
+// Does what is due, if anything.
+fn act(
+    rt: &(impl Files + Print),
+    totals: Totals,
+    turn: Option<Result<usize, Refusal>>,
+    name: &[u8],
+) -> io::Result<Totals>
     requires { Room turn totals }
     ensures { IfOk result (λ t. Acted turn totals t) }
 {
     match turn {
-        Turn::Nothing => Ok(totals),
-        Turn::File(n) => count_outcome(rt, totals, share_of_file(rt, first_of(name, n))),
-        Turn::Refused(refusal) => count_outcome(rt, totals, Err(refusal)),
+        None => Ok(totals),
+        Some(Ok(n)) => count_outcome(rt, totals, share_of_file(rt, first_of(name, n))),
+        Some(Err(refusal)) => count_outcome(rt, totals, Err(refusal)),
     }
 }
 

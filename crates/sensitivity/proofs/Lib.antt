@@ -1,4 +1,3 @@
--- `Marks`: sensitive modules have a row. `Searches`: a module's statements, and their uses. `OfTable`: the marks of a project, and what making them asks.
+-- `Marks`: sensitive modules have a row. `Searches`: a module's statements, and their uses.
 pub mod Marks
 pub mod Searches
-pub mod OfTable

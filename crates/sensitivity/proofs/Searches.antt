@@ -23,8 +23,8 @@ any_values f owner column m = go (rows_of owner m)
     go [] = refl
     go (row ∷ rows) = ap (cond (f (get_or column row 0)) true) (go rows)
 
-pub ruleset search_steps = (count-step, any_values, ne_eqb, at-end, any-turn, any-on)
-
 -- a module's statements are a run of rows
 pub module_rows : (column starts : List ℕ) (m : ℕ) → FirstRows column starts → m + 1 < length starts → rows_of column m ≡ count_from (get_or starts m 0) (get_or starts (m + 1) 0 - get_or starts m 0)
 module_rows column starts m s l = rows-of-run column m _ _ (s.firsts m (omega arith)) (s.firsts (m + 1) l)
+
+pub ruleset search_steps = (count-step, any_values, ne_eqb, at-end, any-turn, any-on, module_rows)

@@ -1,3 +1,3 @@
--- Sensitive modules. `Ready` is what functions on tested tables ask.
+-- Sensitive modules. `View` is what the statements and uses of a table are.
 pub mod Marks
-pub mod Ready
+pub mod View

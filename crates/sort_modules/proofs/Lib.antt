@@ -1,3 +1,2 @@
--- `Numbers`: what a walk that numbers makes. `Fits`: the columns of an accepted project.
+-- What a walk that numbers makes.
 pub mod Numbers
-pub mod Fits

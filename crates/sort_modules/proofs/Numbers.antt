@@ -17,9 +17,10 @@ use Rattle.walk.proofs.Visits.{walk-made}
 use Rattle.walk.proofs.Orders.{order-distinct, order-length}
 use Rattle.walk.proofs.Going.{visited-walk}
 use Rattle.walk.proofs.Placing.{placed-list}
-use Rattle.tables.specs.Project.{missing}
-use Rattle.tables.specs.Readings.{is_normal}
+use Rattle.tables.specs.Project.{Project, missing}
+use Rattle.tables.specs.Readings.{modules, is_normal}
 use Rattle.sort_modules.specs.Sort.{number_in, statics_of, visited, numbers, sorted}
+use Rattle.sort_modules.specs.OfProject.{numbers_of, sorted_of}
 use Rattle.sort_steps.specs.Steps.{Numbered, number}
 use Rattle.sort_visit.specs.Visit.{held}
 use Rattle.sort_modules.specs.Sorting.{Sorted}
@@ -79,66 +80,61 @@ replicate-at zero v j l = absurd (not-suc-le-zero l)
 replicate-at (suc n) v zero l = refl
 replicate-at (suc n) v (suc j) l = replicate-at n v j (omega arith)
 
-module _ (dynamic : ℕ) (normal record_module record_kind record_target : List ℕ) (runtime : ℕ) (entry : List ℕ) where
+module _ (p : Project) where
+  abbrev targets : ℕ → List ℕ
+  targets = statics_of p.dynamic p.normal p.record_module p.record_kind p.record_target
+
   abbrev order : List ℕ
-  order = visited dynamic normal record_module record_kind record_target runtime entry
+  order = visited p.dynamic p.normal p.record_module p.record_kind p.record_target p.runtime p.entry
 
   -- from nothing numbered, nothing listed
   abbrev fresh_start : List ℕ → Numbered
-  fresh_start room = record { numbers = replicate (length normal) missing; next = 0; list = record { order = room; count = 0 } }
+  fresh_start room = record { numbers = replicate (modules p) missing; next = 0; list = record { order = room; count = 0 } }
 
   order-once : Distinct order
   unfolding visited
-  order-once = order-distinct (statics_of dynamic normal record_module record_kind record_target) everywhere (length normal) (runtime ∷ entry)
+  order-once = order-distinct targets everywhere (modules p) (p.runtime ∷ p.entry)
 
-  order-fits : length order ≤ length normal
+  order-fits : length order ≤ modules p
   unfolding visited
-  order-fits = order-length (statics_of dynamic normal record_module record_kind record_target) everywhere (length normal) (runtime ∷ entry)
+  order-fits = order-length targets everywhere (modules p) (p.runtime ∷ p.entry)
 
-  made-numbers : (room : List ℕ) → (foldl (number normal) (fresh_start room) order).numbers ≡ numbers dynamic normal record_module record_kind record_target runtime entry
-  unfolding numbers
+  made-numbers : (room : List ℕ) → (foldl (number p.normal) (fresh_start room) order).numbers ≡ numbers_of p
+  unfolding numbers_of numbers
   made-numbers room =
-      let n : ℕ = length normal in
+      let n : ℕ = modules p in
       let f : ℕ → ℕ = λ (m : ℕ). number_in missing m zero order in
       let a : Numbered = fresh_start room in
-      let len : length (foldl (number normal) a order).numbers ≡ n = kept-length normal order a ∙ length-replicate n missing in
-      ext_get_or 0 (foldl (number normal) a order).numbers (map f (up_to n)) (len ∙ sym (length-map-run f 0 n))
+      let len : length (foldl (number p.normal) a order).numbers ≡ n = kept-length p.normal order a ∙ length-replicate n missing in
+      ext_get_or 0 (foldl (number p.normal) a order).numbers (map f (up_to n)) (len ∙ sym (length-map-run f 0 n))
       (λ j l.
       let k : j < n = omega arith in
-      numbered-at normal order a j order-once (let r = length-replicate {A = ℕ} n missing in omega arith)
+      numbered-at p.normal order a j order-once (let r = length-replicate {A = ℕ} n missing in omega arith)
       ∙ ap (λ (d : ℕ). number_in d j 0 order) (replicate-at n missing j k)
       ∙ sym (map-run-at f 0 n j k ∙ ap f (zero-add j)))
 
-  -- there is a number for each module
-  pub numbers-count : length (numbers dynamic normal record_module record_kind record_target runtime entry) ≡ length normal
-  unfolding numbers
-  numbers-count = length-map-run (λ (m : ℕ). number_in missing m zero order) 0 (length normal)
-
-  made_list : (room : List ℕ) → length normal ≤ length room
-      → let l = sorted dynamic normal record_module record_kind record_target runtime entry in
-      (foldl (number normal) (fresh_start room) order).list ≡ record { order = l ++ drop (length l) room; count = length l }
-  unfolding sorted
+  made_list : (room : List ℕ) → modules p ≤ length room
+      → let l = sorted_of p in
+      (foldl (number p.normal) (fresh_start room) order).list ≡ record { order = l ++ drop (length l) room; count = length l }
+  unfolding sorted_of sorted
   made_list room r =
-      list-alone normal (fresh_start room) order ∙ placed-list (is_normal normal) order room (let o = order-fits in omega (arith, length-keep (is_normal normal) order))
+      list-alone p.normal (fresh_start room) order ∙ placed-list (is_normal p.normal) order room (let o = order-fits in omega (arith, length-keep (is_normal p.normal) order))
 
   -- a walk over the runtime and the entries, from nothing met, numbers and lists as defined
-  pub walk-sorted : (marks room marks₁ marks' numbers' sorted' : List ℕ) (placed next : ℕ) → length normal ≤ length room → marks' ≡ replicate (length marks) 0
-      → Visits (statics_of dynamic normal record_module record_kind record_target) everywhere (number normal) (held (replicate (length normal) 0) (replicate (length normal) missing) room 0 0) (runtime ∷ entry) (held marks₁ numbers' sorted' placed next)
-      → Sorted (numbers dynamic normal record_module record_kind record_target runtime entry) (sorted dynamic normal record_module record_kind record_target runtime entry) marks room marks' numbers' sorted' placed
+  pub walk-sorted : {marks room marks₁ marks' numbers' sorted' : List ℕ} {placed next : ℕ} → modules p ≤ length room → marks' ≡ replicate (length marks) 0
+      → Visits targets everywhere (number p.normal) (held (replicate (modules p) 0) (replicate (modules p) missing) room 0 0) (p.runtime ∷ p.entry) (held marks₁ numbers' sorted' placed next)
+      → Sorted (numbers_of p) (sorted_of p) marks room marks' numbers' sorted' placed
   unfolding visited
-  walk-sorted marks room marks₁ marks' numbers' sorted' placed next r z v = record {
+  walk-sorted {room = room} {numbers' = numbers'} {sorted' = sorted'} {placed = placed} {next = next} r z v = record {
     count = ap (λ (p : Placed). p.count) list;
     numbers = ap (λ (a : Numbered). a.numbers) made ∙ made-numbers room;
     written = ap (λ (p : Placed). p.order) list;
     cleared = z;
   }
     where
-      succ : ℕ → List ℕ
-      succ = statics_of dynamic normal record_module record_kind record_target
-
-      made : ◌≡◌ {A = Numbered} (record { numbers = numbers'; next = next; list = record { order = sorted'; count = placed } }) (foldl (number normal) (fresh_start room) order)
-      made = sym (ap (λ (s : St Numbered). s.made) (visited-walk succ everywhere (number normal) v)) ∙ walk-made succ everywhere (number normal) (fresh_start room) (length normal) (runtime ∷ entry)
+      made : ◌≡◌ {A = Numbered} (record { numbers = numbers'; next = next; list = record { order = sorted'; count = placed } }) (foldl (number p.normal) (fresh_start room) order)
+      made = sym (ap (λ (s : St Numbered). s.made) (visited-walk targets everywhere (number p.normal) v)) ∙ walk-made targets everywhere (number p.normal) (fresh_start room) (modules p) (p.runtime ∷ p.entry)
 
       list : ◌≡◌ {A = Placed} (record { order = sorted'; count = placed })
-          (let l = sorted dynamic normal record_module record_kind record_target runtime entry in record { order = l ++ drop (length l) room; count = length l })
+          (let l = sorted_of p in record { order = l ++ drop (length l) room; count = length l })
       list = ap (λ (a : Numbered). a.list) made ∙ made_list room r

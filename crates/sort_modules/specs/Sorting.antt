@@ -11,7 +11,7 @@ pub record Sorted (numbered list marks sorted marks' numbers' sorted' : List ℕ
   pub written : sorted' ≡ list ++ drop (length list) sorted
   pub cleared : marks' ≡ replicate (length marks) 0
 
--- an accepted project, and a place a module in three slices
+-- a place a module in three slices
 pub record Sortable (p : Project) (marks numbers sorted : ℕ) : Type 0 where
   pub size : marks ≡ modules p
   pub places : numbers ≡ marks

@@ -1,10 +1,10 @@
 // For crates above, on tested tables.
-ghost use Rattle.std.specs.Prelude.{◌≡◌, ◌<◌, length};
+ghost use Rattle.std.specs.Prelude.{◌≡◌, ◌<◌, ◌≤◌, length, IfSome};
 ghost use Rattle.tables.specs.Project.{missing};
-ghost use Rattle.tables.specs.Readings.{is_static, any_target, row_targets};
-ghost use Rattle.tables.specs.Accepted.{BelowOrMissing};
+ghost use Rattle.tables.specs.Readings.{modules, is_static, any_target, row_targets};
 ghost use Rattle.sort_steps.specs.Steps.{Met, one_or_none, unmet_of, made, number};
 
+use current_columns::inner::Current;
 use tables::Target;
 use tables::inner::{is_static, resolve};
 
@@ -29,20 +29,17 @@ pub fn met(marks: &mut [u32], m: u32) -> bool
 }
 
 // The module that a record leads to, if any.
-pub fn led<'a>(
-    normal: &'a [u32],
-    record_kind: &'a [u32],
-    record_target: &'a [u32],
-    dynamic: u32,
-    row: usize,
-) -> Option<u32>
-    requires { (row < length record_kind.now) × (row < length record_target.now) }
-    ensures { row_targets (is_static dynamic) any_target normal.now record_kind.now record_target.now row ≡ one_or_none result }
+#[tactic(auto, unfolding(current_columns::specs::AsProject::project, tables::specs::Readings::resolved))]
+pub fn led(current: &Current, row: usize) -> Option<u32>
+    requires { row < length current.now.record_module }
+    ensures leads { row_targets (is_static current.now.dynamic) any_target current.now.normal current.now.record_kind current.now.record_target row ≡ one_or_none result }
+    ensures within { IfSome result (λ t. t < modules current.now) }
 {
-    if !is_static(dynamic, record_kind[row]) {
+    let kinds = current.record_kind;
+    if !is_static(current.dynamic, kinds[row]) {
         return None;
     }
-    let found = resolve(normal, record_target, row);
+    let found = resolve(current.normal, current.record_target, row);
     let (Target::External(t) | Target::Normal(t)) = found else {
         return None;
     };
@@ -50,19 +47,12 @@ pub fn led<'a>(
 }
 
 // The unmet module that a record leads to, if any.
-#[tactic(auto, unfolding(tables::specs::Readings::resolved))]
-pub fn unmet<'a>(
-    normal: &'a [u32],
-    record_kind: &'a [u32],
-    record_target: &'a [u32],
-    marks: &[u32],
-    dynamic: u32,
-    row: usize,
-) -> Option<u32>
-    requires { (row < length record_kind.now) × (row < length record_target.now) × BelowOrMissing (length marks.now) record_target.now }
-    ensures { unmet_of marks.now (row_targets (is_static dynamic) any_target normal.now record_kind.now record_target.now row) ≡ one_or_none result }
+pub fn unmet(current: &Current, marks: &[u32], row: usize) -> Option<u32>
+    requires { (row < length current.now.record_module) × (modules current.now ≤ length marks.now) }
+    ensures leads { unmet_of marks.now (row_targets (is_static current.now.dynamic) any_target current.now.normal current.now.record_kind current.now.record_target row) ≡ one_or_none result }
+    ensures within { IfSome result (λ t. t < modules current.now) }
 {
-    let t = led(normal, record_kind, record_target, dynamic, row)?;
+    let t = led(current, row)?;
     if marks[t as usize] != 0 {
         return None;
     }
@@ -70,21 +60,22 @@ pub fn unmet<'a>(
 }
 
 // Leaves a module: it takes the next number, and is listed if it is normal.
-pub fn leave<'a>(
-    normal: &'a [u32],
+#[tactic(auto, unfolding(current_columns::specs::AsProject::project))]
+pub fn leave(
+    current: &Current,
     numbers: &mut [u32],
     sorted: &mut [u32],
     m: u32,
     counters: Counters,
 ) -> Counters
-    requires { (m < length normal.now) × (m < length numbers.old) × (counters.placed < length sorted.old) × (counters.next < missing) }
-    ensures { made numbers.new sorted.new result.placed result.next ≡ number normal.now (made numbers.old sorted.old counters.placed counters.next) m }
+    requires { (m < modules current.now) × (m < length numbers.old) × (counters.placed < length sorted.old) × (counters.next < missing) }
+    ensures { made numbers.new sorted.new result.placed result.next ≡ number current.now.normal (made numbers.old sorted.old counters.placed counters.next) m }
 {
     let at = m as usize;
     let placed = counters.placed;
     let next = counters.next;
     numbers[at] = next;
-    if normal[at] != 1 {
+    if current.normal[at] != 1 {
         return Counters {
             placed: placed,
             next: next + 1,

@@ -3,26 +3,15 @@
 use Rattle.std.specs.Prelude.{◌≡◌, ℕ, ◌+◌, ◌<◌, ◌≤◌, List, length}
 use Rattle.lists.specs.Words.{zeros}
 use Rattle.walk.specs.Walk.{St}
-use Rattle.tables.specs.Project.{missing}
-use Rattle.tables.specs.Lookups.{Rising, FirstRows}
-use Rattle.tables.specs.Refusal.{module_limit, row_limit}
-use Rattle.tables.specs.Accepted.{BelowOrMissing}
+use Rattle.tables.specs.Project.{Project, missing}
+use Rattle.tables.specs.Readings.{modules}
+use Rattle.tables.specs.Lookups.{FirstRows}
 use Rattle.sort_steps.specs.Steps.{Numbered, made}
 
--- the columns fit each other, within the limits: n modules, and records in module order with targets among the modules
-pub record Fit (normal record_module record_kind record_target : List ℕ) (n : ℕ) : Type 0 where
-  pub normals : length normal ≡ n
-  pub kinds : length record_kind ≡ length record_module
-  pub targets : length record_target ≡ length record_module
-  pub rising : Rising record_module
-  pub within : BelowOrMissing n record_target
-  pub few : n ≤ module_limit
-  pub rows : length record_module ≤ row_limit
-
--- and starts has the first record row of each module, and of one more
-pub record Indexed (normal record_module record_kind record_target starts : List ℕ) (n : ℕ) : Type 0 where
-  pub fit : Fit normal record_module record_kind record_target n
-  pub firsts : FirstRows record_module starts
+-- there are n modules, and starts has the first record row of each, and of one more
+pub record Indexed (p : Project) (starts : List ℕ) (n : ℕ) : Type 0 where
+  pub size : modules p ≡ n
+  pub firsts : FirstRows p.record_module starts
   pub places : n < length starts
 
 -- the state of the walk as the slices and the counters hold it

@@ -11,7 +11,7 @@ use Rattle.tables.specs.Readings.{values_of}
 use Rattle.tables.specs.Accepted.{Below}
 use Rattle.tables.proofs.OwnerRows.{values-row, row-values}
 use Rattle.threads.proofs.Turns.{any-turn, any-on}
-use Rattle.strong_connection.specs.inner.Graph.{Graph}
+use Rattle.strong_connection.specs.inner.Graph.{Graph, Linked}
 
 -- edges of columns lead to places below n
 pub graph-inside : {from to : List ℕ} {n : ℕ} → Graph from to n → (m y : ℕ) → m < n → Memᴰ y (values_of from to m) → y < n
@@ -41,7 +41,7 @@ pub below-rest : {n x : ℕ} {xs ys : List ℕ} → xs ≡ x ∷ ys → Below n 
 below-rest {n} {x} {xs} {ys} e b i l = subst (λ (zs : List ℕ). get_or zs (suc i) 0 < n) e (b (suc i) (rw e (omega arith)))
 
 -- the targets of a graph's edges are places of it
-pub targets-inside : {from to : List ℕ} {n : ℕ} → Graph from to n → (m : ℕ) → Below n (values_of from to m)
+pub targets-inside : {from to : List ℕ} {n heads : ℕ} → Linked from to n heads → (m : ℕ) → Below n (values_of from to m)
 targets-inside {from} {to} {n} g m i l =
     let r = values-row from to m (get_or (values_of from to m) i 0) (get_d-mem (values_of from to m) i l) in
     subst (λ (x : ℕ). x < n) r.3 (g.tos r.0 r.1)

@@ -11,24 +11,26 @@ use std::marker::Model;
 use threads::inner::{Rows, Threads};
 
 // A directed graph: the rows of two columns as edges, threaded by their sources. Contracts see the columns, and how many places it has.
+// Targets are places; a source need not be one.
 #[derive(Drop)]
 pub struct Digraph<'a> {
-    sources: Threads<'a>,
-    to: &'a [u32],
+    pub sources: Threads<'a>,
+    pub to: &'a [u32],
+    pub places: usize,
 }
 
 impl<'a> Model for Digraph<'a> {
-    ghost use Rattle.strong_connection.specs.inner.Graph.{EdgeColumns, Graph};
+    ghost use Rattle.strong_connection.specs.inner.Graph.{EdgeColumns, Linked};
 
     ghost Value = { EdgeColumns };
 
-    ghost view = { λ g. record { from = g.sources.values; to = g.to.now; places = g.sources.places } };
+    ghost view = { λ g. record { from = g.sources.values; to = g.to.now; places = g.places } };
 
-    ghost invariant = { λ g. Graph g.sources.values g.to.now g.sources.places };
+    ghost invariant = { λ g. Linked g.sources.values g.to.now g.places g.sources.places };
 }
 
 impl<'a> Digraph<'a> {
-    // Makes it with its threads in two slices.
+    // Makes one with a place for each head, with its threads in two slices.
     pub fn new(
         from: &'a [u32],
         to: &'a [u32],
@@ -40,18 +42,21 @@ impl<'a> Digraph<'a> {
         requires room { length from.now ≤ length nexts.old }
         ensures { result ≡ record { from = from.now; to = to.now; places = length heads.old } }
     {
+        let places = heads.len();
         Digraph {
             sources: Threads::new(from, heads, nexts),
             to,
+            places,
         }
     }
 
     // How many places it has.
     pub fn places(&self) -> usize
         ensures count { result ≡ self.now.places }
-        ensures graph { Graph self.now.from self.now.to self.now.places }
+        ensures lengths { length self.now.to ≡ length self.now.from }
+        ensures inside { Below self.now.places self.now.to }
     {
-        self.sources.heads.len()
+        self.places
     }
 
     // The sources of its edges.

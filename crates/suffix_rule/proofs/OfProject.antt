@@ -1,7 +1,8 @@
 -- Rule (i) at a project: what the pass over its columns asks, and that it is a pass of the rule.
 -- Assumes nothing.
-use Rattle.std.specs.Prelude.{◌≡◌, ℕ, Bool, List, map}
+use Rattle.std.specs.Prelude.{◌≡◌, ℕ, ◌≤◌, Bool, List, map, length}
 use mathlib.Core.Path.{sym, ap, subst, ◌∙◌}
+use lib.Seq.{take_all}
 use Rattle.lists.specs.Words.{keep, has}
 use Rattle.lists.proofs.Laws.{and-join}
 use Rattle.tables.specs.Project.{Project}
@@ -16,7 +17,8 @@ use Rattle.wrap_rules.specs.Plan.{roots, reached, expected_sensitive_of, orders_
 use Rattle.wrap_rules.specs.inner.Passes.{Passed, candidate_marks}
 use Rattle.wrap_rules.proofs.Sets.{eligible-has, candidate-has}
 use Rattle.wrap_rules.proofs.Roots.{expected-reached}
-use Rattle.suffix_rule.specs.inner.Suffix.{sensitive_orders, Candidates}
+use Rattle.suffix_rule.specs.inner.Suffix.{sensitive_orders, Candidates, SuffixPassed}
+use Rattle.suffix_rule.proofs.Extending.{Walked}
 
 module _ (p : Project) where
   pub orders-are : sensitive_orders p (sensitive_marks p) (roots p) ≡ orders_of p
@@ -29,6 +31,10 @@ module _ (p : Project) where
   suffix-pass {s} {t} {r} h =
       subst (λ (f : ℕ → Bool). Passed (suffix_asks f (orders_of p)) s t r) (eligible-marks p)
       (subst (λ (orders : List (List ℕ)). Passed (suffix_asks (has (eligible_marks p)) orders) s t r) orders-are h)
+
+  -- a pass over all roots
+  pub walked-end : (k : ℕ) {s settled t : List ℕ} {changed : Bool} → length (roots p) ≤ k → Walked p (roots p) (sensitive_marks p) (eligible_marks p) s k settled t changed → SuffixPassed p s settled t changed
+  walked-end k l w = record { settles = w.settles; passed = suffix-pass (rw (take_all k (roots p) l) at w.passed) }
 
   -- an eligible member of a root's order is a candidate
   pub orders-ready : Accepted p → Candidates p (roots p) (eligible_marks p) (candidate_marks p)

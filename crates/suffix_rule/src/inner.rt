@@ -1,22 +1,23 @@
 // For crates above, on tested tables.
 ghost use Rattle.std.specs.Prelude.{◌≡◌, ◌<◌, ◌≤◌, true, length};
 ghost use Rattle.lists.specs.Words.{has};
-ghost use Rattle.walk.specs.Close.{Bits};
+ghost use Rattle.tables.specs.Readings.{modules};
 ghost use Rattle.tables.specs.Refusal.{module_limit};
 ghost use Rattle.tables.specs.Accepted.{Below};
 ghost use Rattle.expected_order.specs.OfProject.{expected_of};
-ghost use Rattle.wrap_rules.specs.inner.Passes.{Passed, Marked};
-ghost use Rattle.wrap_rules.specs.Rules.{suffix_asks};
+ghost use Rattle.sensitivity.specs.Marks.{sensitive_marks};
+ghost use Rattle.eligibility.specs.Eligible.{eligible_marks};
+ghost use Rattle.wrap_rules.specs.inner.Passes.{Marked};
 ghost use Rattle.marks.specs.Steps.{Added};
-ghost use Rattle.suffix_rule.specs.inner.Suffix.{FirstIn, InSuffix, Joined, WholeSuffix, Extended, sensitive_orders, Settled, Markings, SuffixSets, Settling, SuffixPassed};
+ghost use Rattle.suffix_rule.specs.inner.Suffix.{FirstIn, InSuffix, Joined, WholeSuffix, Extended, Settling, SuffixPassed};
 
-use current_columns::inner::Current;
 use expected_order::inner::find_expected;
 use lists::inner::count_marked;
 use marks::inner::{add, any_open, mark_owners};
+use rule_sets::inner::RuleSets;
 use table::MODULE_LIMIT;
 
-// The place of the first member of an order that is in two sets, or the order's length.
+// The place of the first member of an order that is in two sets, or the order's length. Orders and sets are slices here and below: this is of any order and any sets.
 fn first_in(order: &[u32], first: &[u32], second: &[u32]) -> usize
     requires members { Below (length first.now) order.now }
     requires rows { length second.now ≡ length first.now }
@@ -94,48 +95,29 @@ fn extend_order(
 }
 
 // The same for the expected order of a module row of a table.
-fn extend_entry(
-    current: &Current,
-    sensitive: &[u32],
-    eligible: &[u32],
-    settled: &mut [u32],
-    plan: &mut [u32],
-    root: u32,
-    k: usize,
-) -> bool
-    requires marks { Markings current.now sensitive.now eligible.now (length plan.old) }
-    requires root { root < length plan.old }
+fn extend_entry(sets: &RuleSets, settled: &mut [u32], plan: &mut [u32], root: u32, k: usize) -> bool
+    requires plan { length plan.old ≡ modules sets.now }
+    requires root { root < modules sets.now }
     requires entry { k < length settled.old }
-    ensures { Extended (expected_of current.now root) sensitive.now eligible.now k settled.old settled.new plan.old plan.new result }
+    ensures { Extended (expected_of sets.now root) (sensitive_marks sets.now) (eligible_marks sets.now) k settled.old settled.new plan.old plan.new result }
 {
     let mut order = [0u32; MODULE_LIMIT];
-    let order = find_expected(current, &mut order, root);
-    extend_order(order, sensitive, eligible, settled, plan, k)
+    let order = find_expected(sets.current, &mut order, root);
+    extend_order(order, sets.sensitive, sets.eligible, settled, plan, k)
 }
 
-// The same for several roots; a settled one isn't walked again.
-fn extend_entries(
-    current: &Current,
-    roots: &[u32],
-    sensitive: &[u32],
-    eligible: &[u32],
-    settled: &mut [u32],
-    plan: &mut [u32],
-) -> bool
-    requires marks { Markings current.now sensitive.now eligible.now (length plan.old) }
-    requires roots { Below (length plan.old) roots.now }
-    requires size { length settled.old ≡ length roots.now }
-    requires settled { Settled current.now roots.now sensitive.now eligible.now settled.old plan.old }
-    requires bits { Bits plan.old }
-    ensures settled { Settled current.now roots.now sensitive.now eligible.now settled.new plan.new }
-    ensures plan { Passed (suffix_asks (has eligible.now) (sensitive_orders current.now sensitive.now roots.now)) plan.old plan.new result }
+// The same for each root; a settled one isn't walked again.
+fn extend_entries(sets: &RuleSets, settled: &mut [u32], plan: &mut [u32]) -> bool
+    requires plan { Marked sets.now plan.old }
+    requires settled { Settling sets.now settled.old plan.old }
+    ensures { SuffixPassed sets.now plan.old settled.new plan.new result }
 {
     let mut changed = false;
-    for (k, &root) in roots.iter().enumerate() {
+    for (k, &root) in sets.roots.iter().enumerate() {
         if settled[k] != 0 {
             continue;
         }
-        if !extend_entry(current, sensitive, eligible, settled, plan, root, k) {
+        if !extend_entry(sets, settled, plan, root, k) {
             continue;
         }
         changed = true;
@@ -145,27 +127,16 @@ fn extend_entries(
 
 // One pass of rule (i) over a table. It asks for nothing where every entry is settled, or every sensitive candidate, a reached eligible module, is planned.
 // Whether any module was added.
-pub fn pass_suffixes(
-    current: &Current,
-    roots: &[u32],
-    sensitive: &[u32],
-    eligible: &[u32],
-    candidates: &[u32],
-    settled: &mut [u32],
-    plan: &mut [u32],
-) -> bool
-    requires sets { SuffixSets current.now roots.now sensitive.now eligible.now candidates.now }
-    requires plan { Marked current.now plan.old }
-    requires settled { Settling current.now settled.old plan.old }
-    ensures { SuffixPassed current.now plan.old settled.new plan.new result }
+pub fn pass_suffixes(sets: &RuleSets, settled: &mut [u32], plan: &mut [u32]) -> bool
+    requires plan { Marked sets.now plan.old }
+    requires settled { Settling sets.now settled.old plan.old }
+    ensures { SuffixPassed sets.now plan.old settled.new plan.new result }
 {
-    // by which the proof knows besides that the table passed its tests
-    prove!(plan.len() == current.modules());
     if count_marked(settled) == settled.len() {
         return false;
     }
-    if !any_open(sensitive, candidates, plan) {
+    if !any_open(sets.sensitive, sets.candidates, plan) {
         return false;
     }
-    extend_entries(current, roots, sensitive, eligible, settled, plan)
+    extend_entries(sets, settled, plan)
 }

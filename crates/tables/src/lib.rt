@@ -14,8 +14,7 @@ impl ModuleIdx {
     pub const LARGEST: u32 = 4095;
 }
 
-// What a record's target is.
-// No Option or Result: an external target has a number too, and is no failure.
+// What a record's target is. No Option or Result: an external target has a number too, and is no failure; the scope names `let .. else` on this enum answer.
 #[derive(Clone, Copy)]
 pub enum Target {
     Missing,

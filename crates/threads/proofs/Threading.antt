@@ -1,11 +1,13 @@
 -- How a column is threaded, from the last row on.
 -- Assumes nothing.
-use Rattle.std.specs.Prelude.{◌≡◌, ℕ, ◌+◌, ◌<◌, ◌≤◌, List, length, get_or, set, replicate}
-use mathlib.Core.Path.{sym, ap, ◌∙◌}
+use Rattle.std.specs.Prelude.{◌≡◌, ℕ, ◌+◌, ◌<◌, ◌≤◌, List, [], ◌∷◌, ◌++◌, length, get_or, drop, set, replicate}
+use mathlib.Core.Path.{refl, sym, ap, subst, ◌∙◌}
+use mathlib.Core.List.{append_assoc}
 use native.Mathlib.Decide.{ℕ_discrete}
 use native.Mathlib.Omega.{arith}
-use lib.ListN.{length-set, length-replicate, get_or-replicate}
-use lib.Seq.{get_or-set_same, get_or-set_other}
+use lib.ListN.{length-set, length-replicate, length-append, get_or-replicate}
+use lib.Seq.{drop-cons, drop_at, get_or-set_same, get_or-set_other}
+use Rattle.tables.specs.Accepted.{Below}
 use Rattle.threads.specs.inner.Rows.{NextRow}
 
 -- the rows from `row` on are threaded
@@ -56,5 +58,32 @@ module _ (from heads nexts : List ℕ) (row : ℕ) (inside : row < length from) 
 
   pub threading-step : Threading from (set heads place row) (set nexts row (get_or heads place 0)) row
   threading-step = record { first = λ m l. first-after m (omega (arith, length-set heads place row)); next = next-after }
+
+-- the front of a column that is left, by its last row shorter each turn
+
+module _ (column rest left : List ℕ) (x : ℕ) (is : left ≡ rest ++ (x ∷ [])) (front : left ++ drop (length left) column ≡ column) where
+  abbrev past : List ℕ
+  past = drop (length left) column
+
+  parts : rest ++ (x ∷ past) ≡ column
+  parts = sym (append_assoc rest (x ∷ []) past) ∙ ap (λ (l : List ℕ). l ++ past) (sym is) ∙ front
+
+  tail : drop (length rest) column ≡ x ∷ past
+  tail = ap (drop (length rest)) (sym parts) ∙ drop_at rest (x ∷ past) (length rest) refl
+
+  pub front-less : rest ++ drop (length rest) column ≡ column
+  front-less = ap (λ (l : List ℕ). rest ++ l) tail ∙ parts
+
+  inside : length rest < length column
+  inside = omega (arith, ap length parts, length-append rest (x ∷ past))
+
+  last : get_or column (length rest) 0 ≡ x
+  last = sym (ap (λ (l : List ℕ). get_or l 0 0) (sym tail ∙ drop-cons column (length rest) 0 inside))
+
+  pub front-threaded : (heads nexts : List ℕ) → length column ≤ length nexts → Below (length heads) column → Threading column heads nexts (length left)
+      → Threading column (set heads x (length rest)) (set nexts (length rest) (get_or heads x 0)) (length rest)
+  front-threaded heads nexts room froms t =
+      let next : Threading column heads nexts (length rest + 1) = subst (Threading column heads nexts) (ap length is ∙ length-append rest (x ∷ [])) t in
+      rw (← last) (threading-step column heads nexts (length rest) inside room (froms (length rest) inside) next)
 
 pub ruleset thread_steps = (threading-start, threading-step)

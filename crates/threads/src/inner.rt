@@ -14,9 +14,8 @@ pub fn thread(column: &[u32], heads: &mut [u32], nexts: &mut [u32])
     ensures { Threaded column.now heads.new nexts.new }
 {
     heads.fill(column.len() as u32);
-    // by number: it writes each row's own place and number
-    for row in (0..column.len()).rev() {
-        let m = column[row] as usize;
+    for (row, value) in column.iter().enumerate().rev() {
+        let m = *value as usize;
         nexts[row] = heads[m];
         heads[m] = row as u32;
     }

@@ -1,3 +1,2 @@
 -- What only inner contracts and proofs speak of.
-pub mod Prepared
 pub mod OverTable

@@ -1,28 +1,20 @@
-// For crates above, on tested tables: one line of an entry's page, a root with its entry chunk.
+// For crates above, on tested tables: one line of an entry's page.
 ghost use Rattle.std.specs.Prelude.{◌≡◌, ◌≤◌, length};
-ghost use Rattle.tables.specs.Readings.{modules};
-ghost use Rattle.analysed_entries.specs.inner.Entries.{Entry};
 ghost use Rattle.lines.specs.Lines.{PutAt};
 ghost use Rattle.wall_line.specs.Promise.{page_line_of};
 
-use current_columns::inner::Current;
+use analysed_entries::inner::AnalysedEntry;
 use entry_pages::inner::put_entry_line;
 use order_analysis::inner::analyze;
 use sensitivity::inner::mark_table_sensitive;
 use table::MODULE_LIMIT;
 
 // Writes one line of an entry's page, by its number, from place 0, and answers its length; past the last, 0.
-pub fn put_whole_line(
-    current: &Current,
-    out: &mut [u8],
-    root: u32,
-    chunk: u32,
-    number: usize,
-) -> usize
-    requires entry { Entry current.now root chunk }
+pub fn put_whole_line(entry: &AnalysedEntry, out: &mut [u8], number: usize) -> usize
     requires room { 41 ≤ length out.old }
-    ensures { PutAt out.old 0 (page_line_of current.now root number) out.new result }
+    ensures { PutAt out.old 0 (page_line_of entry.now.current.now entry.now.root number) out.new result }
 {
+    let current = entry.current;
     let n = current.modules();
     let mut plan = [0u32; MODULE_LIMIT];
     let plan = &mut plan[..n];
@@ -30,5 +22,5 @@ pub fn put_whole_line(
     let mut sensitives = [0u32; MODULE_LIMIT];
     let sensitives = &mut sensitives[..n];
     mark_table_sensitive(current, sensitives);
-    put_entry_line(current, sensitives, plan, out, root, chunk, number)
+    put_entry_line(entry, sensitives, plan, out, number)
 }

@@ -20,12 +20,12 @@ pub fn page_line(table: &Table, root: u32, number: u32, line: &mut [u8]) -> Resu
     let mut space = ReadSpace::EMPTY;
     let mut arranged = [0u32; ROW_LIMIT];
     let current = read_named(table, &mut space, &mut arranged)?;
-    let Some(chunk) = find_entry(&current, root) else {
+    let Some(entry) = find_entry(&current, root) else {
         return Err(Refusal::Argument);
     };
     if line.len() < 41 {
         return Err(Refusal::ShortSlice);
     }
-    let count = put_whole_line(&current, line, root, chunk, number as usize);
+    let count = put_whole_line(&entry, line, number as usize);
     Ok(count)
 }

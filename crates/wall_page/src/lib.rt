@@ -25,7 +25,7 @@ pub fn entry_page(
     let mut space = ReadSpace::EMPTY;
     let mut arranged = [0u32; ROW_LIMIT];
     let current = read_named(table, &mut space, &mut arranged)?;
-    let Some(chunk) = find_entry(&current, root) else {
+    let Some(entry) = find_entry(&current, root) else {
         return Err(Refusal::Argument);
     };
     let modules = current.modules();
@@ -35,13 +35,6 @@ pub fn entry_page(
     if page.len() < 41 * modules {
         return Err(Refusal::ShortSlice);
     }
-    let count = put_entry_page(
-        &current,
-        &grounds[..modules],
-        &plan[..modules],
-        page,
-        root,
-        chunk,
-    );
+    let count = put_entry_page(&entry, &grounds[..modules], &plan[..modules], page);
     Ok(count)
 }

@@ -13,7 +13,7 @@ use worklist_ends::inner::list_seeds;
 use worklist_step::inner::step;
 
 // Lists the eligible seeds, then takes the modules of the list in turn until all are taken. `lengths` gets the length of the list after each number of takings
-// but the last, from none on. How many there are.
+// but the last, from none on. How many there are. Seeds, list and lengths are the caller's, and each is asked for something else, so a value of them only moves the clauses.
 pub fn take_all(
     sets: &RuleSets,
     graph: &Digraph,

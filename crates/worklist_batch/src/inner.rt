@@ -88,20 +88,12 @@ impl<'a> Notes<'a> {
     {
         // one by one: Rattle doesn't cover a call with two fields of `self`
         let settled = &mut *self.settled;
-        let asked = &mut *self.asked;
+        let after = &mut *self.asked;
         let heads = &mut *self.heads;
         let nexts = &mut *self.nexts;
-        fill(asked, NEVER);
-        lower_entries(
-            sets.current,
-            sets.roots,
-            sets.sensitive,
-            sets.eligible,
-            placed,
-            settled,
-            asked,
-        );
-        thread(asked, heads, nexts);
+        fill(after, NEVER);
+        lower_entries(sets, placed, settled, after);
+        thread(after, heads, nexts);
     }
 }
 

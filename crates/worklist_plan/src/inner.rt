@@ -29,16 +29,7 @@ fn run_sets(sets: &RuleSets, seeds: &[u32], list: &mut Queue, lengths: &mut [u32
     let mut from = [0u32; EDGES];
     let mut to = [0u32; EDGES];
     let mut edges = EdgeList::new(&mut from, &mut to);
-    request_edges(
-        sets.current,
-        sets.imports.to(),
-        sets.imports.from(),
-        sets.labels,
-        sets.sensitive,
-        sets.eligible,
-        sets.candidates,
-        &mut edges,
-    );
+    request_edges(sets, &mut edges);
     let mut heads = [0u32; NODES];
     let mut nexts = [0u32; EDGES];
     let graph = Digraph::new(edges.sources(), edges.targets(), &mut heads, &mut nexts);

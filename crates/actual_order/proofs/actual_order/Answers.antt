@@ -8,4 +8,4 @@ pub returns : goal.returns
 returns c =
     let read = c.in_ok-current.ensures in
     let count = rw read.project at c.modules-modules.ensures.count in
-    rw count (run-counted _ c.args.root c.args.order.now c.args.hosts.now read.passed (rw read.project at c.in-Some.ensures.0) (omega arith) (omega arith) (rw read.project at c.prepare_and_list-count.ensures))
+    rw count (run-counted _ c.args.root c.args.order.now c.args.hosts.now read.passed (rw read.project at c.in-Some.ensures.0) (omega arith) (omega arith) (rw (c.in-Some.ensures.1, c.in-Some.ensures.2, read.project) at c.prepare_and_list-count.ensures))

@@ -1,15 +1,13 @@
 -- What marking the suffixes of several entries asks and leaves.
 -- Assumes nothing.
-use Rattle.std.specs.Prelude.{◌≡◌, ℕ, Bool, true, List, length}
+use Rattle.std.specs.Prelude.{◌≡◌, ℕ, Bool, true, List}
 use mathlib.Core.List.{Memᴰ}
 use Rattle.tables.specs.Project.{Project}
-use Rattle.tables.specs.Readings.{modules}
 use Rattle.expected_order.specs.OfProject.{expected_of}
-use Rattle.sensitivity.specs.Marks.{sensitive_marks}
-use Rattle.eligibility.specs.Eligible.{eligible, eligible_marks}
+use Rattle.eligibility.specs.Eligible.{eligible}
 use Rattle.marks.specs.Steps.{Added}
 use Rattle.wrap_rules.specs.Rules.{suffix_asks}
-use Rattle.wrap_rules.specs.Plan.{roots, orders_of}
+use Rattle.wrap_rules.specs.Plan.{orders_of}
 use Rattle.suffix_rule.specs.inner.Suffix.{InSuffix}
 
 -- m stands in the suffix of one of the roots' expected orders
@@ -17,18 +15,6 @@ pub record InSome (p : Project) (root_list sensitive S : List ℕ) (m : ℕ) : T
   pub root : ℕ
   pub listed : Memᴰ root root_list
   pub inside : InSuffix (expected_of p root) sensitive S m
-
--- marks of a project's n modules
-pub record PlanMarks (p : Project) (sensitive plan : List ℕ) (n : ℕ) : Type 0 where
-  pub size : n ≡ modules p
-  pub sensitives : length sensitive ≡ n
-  pub planned : length plan ≡ n
-
--- what is read of a project, as slices hold it
-pub record SuffixBasis (p : Project) (root_list sensitives eligibles : List ℕ) : Type 0 where
-  pub root : root_list ≡ roots p
-  pub sensitive_set : sensitives ≡ sensitive_marks p
-  pub eligible_set : eligibles ≡ eligible_marks p
 
 -- just what the rule asks for with the plan is added to it
 abbrev pub SuffixesAdded : Project → List ℕ → List ℕ → Bool → Type 0

@@ -4,7 +4,6 @@ use Rattle.std.specs.Prelude.{◌≡◌, ℕ, List}
 use Rattle.lists.specs.Words.{ones}
 use Rattle.tables.specs.Project.{Project}
 use Rattle.tables.specs.Readings.{modules}
-use Rattle.analysed_entries.specs.inner.Entries.{Entry}
 use Rattle.sensitivity.specs.Marks.{sensitive_marks}
 use Rattle.eligibility.specs.Eligible.{eligible_marks}
 use Rattle.risk_of_orders.specs.inner.Steps.{Order}
@@ -17,11 +16,6 @@ pub record Sets (p : Project) (sensitives eligibles : List ℕ) : Type 0 where
 -- an order of a project's modules, and a place a module
 pub record Placed (p : Project) (expecteds : List ℕ) (places : ℕ) : Type 0 where
   pub order : Order expecteds (modules p)
-  pub size : places ≡ modules p
-
--- an entry, and a place a module
-pub record Entered (p : Project) (root chunk places : ℕ) : Type 0 where
-  pub entry : Entry p root chunk
   pub size : places ≡ modules p
 
 -- a set is marked, and the marks are counted

@@ -1,13 +1,11 @@
--- What the pass of rule (ii) looks for and asks, over the columns that it reads, and at a project.
+-- What the pass of rule (ii) looks for, over the columns that it reads, and adds, at a project.
 -- Assumes nothing.
-use Rattle.std.specs.Prelude.{◌≡◌, ℕ, ◌<◌, ◌≤◌, Bool, true, List, length, get_or, slice_index, slice_index_or}
+use Rattle.std.specs.Prelude.{◌≡◌, ℕ, ◌<◌, Bool, true, List, length, get_or, slice_index, slice_index_or}
 use Rattle.lists.specs.Words.{has}
 use Rattle.tables.specs.Project.{Project, missing}
-use Rattle.tables.specs.Refusal.{module_limit, chunk_limit}
-use Rattle.tables.specs.Accepted.{Below}
 use Rattle.chunk_cycles.specs.Cycles.{labels_of}
-use Rattle.sensitivity.specs.Marks.{sensitive, sensitive_marks}
-use Rattle.eligibility.specs.Eligible.{eligible, eligible_marks}
+use Rattle.sensitivity.specs.Marks.{sensitive}
+use Rattle.eligibility.specs.Eligible.{eligible}
 use Rattle.marks.specs.Steps.{Added}
 use Rattle.wrap_rules.specs.Rules.{component_asks}
 
@@ -21,23 +19,6 @@ pub record Together (chunk member_chunk member labels S : List ℕ) (m : ℕ) : 
   pub holds : has S planned ≡ true
   pub same : get_or labels (slice_index member_chunk row) missing ≡ slice_index_or labels (slice_index chunk planned) missing
   pub labelled : get_or labels (slice_index chunk planned) missing < length labels
-
--- the columns fit each other, over n modules
-pub record Members (chunk member_chunk member labels sensitive eligible : List ℕ) (n : ℕ) : Type 0 where
-  pub few : n ≤ module_limit
-  pub chunks : length chunk ≡ n
-  pub rows : length member_chunk ≡ length member
-  pub inside : Below (length labels) member_chunk
-  pub members : Below n member
-  pub few_labels : length labels ≤ chunk_limit
-  pub sensitives : length sensitive ≡ n
-  pub eligibles : length eligible ≡ n
-
--- what the pass reads of an accepted project, as slices hold it
-pub record ComponentSets (p : Project) (labels sensitives eligibles : List ℕ) : Type 0 where
-  pub label : labels ≡ labels_of p
-  pub sensitive_set : sensitives ≡ sensitive_marks p
-  pub eligible_set : eligibles ≡ eligible_marks p
 
 -- what a pass leaves: just what the rule asks for with the plan as it was is added
 abbrev pub ComponentPassed : Project → List ℕ → List ℕ → Bool → Type 0

@@ -1,16 +1,14 @@
--- What the pass of rule (iii) looks for, asks and leaves, over the columns that it reads, and at a project.
+-- What the pass of rule (iii) looks for and leaves, over the columns that it reads, and at a project.
 -- Assumes nothing.
 use Rattle.std.specs.Prelude.{◌≡◌, ℕ, Bool, true, List, length}
 use Rattle.lists.specs.Words.{has}
 use Rattle.tables.specs.Project.{Project}
 use Rattle.tables.specs.Readings.{modules}
-use Rattle.tables.specs.Accepted.{Below}
-use Rattle.strong_connection.specs.inner.Graph.{EdgeColumns, Graph}
 use Rattle.eligibility.specs.Eligible.{eligible}
 use Rattle.marks.specs.Steps.{Row, Added}
 use Rattle.wrap_rules.specs.Rules.{import_asks}
 use Rattle.wrap_rules.specs.Plan.{reached}
-use Rattle.import_edges.specs.inner.Spread.{Along, Under, Spreads, record_targets, EdgesOf}
+use Rattle.import_edges.specs.inner.Spread.{Along, Under, Spreads, record_targets}
 
 -- a candidate with a planned dependency and a kind 0 target that leads to the plan
 pub record Importer (importers targets dependency_module dependency candidates S leads : List ℕ) (m : ℕ) : Type 0 where
@@ -18,24 +16,11 @@ pub record Importer (importers targets dependency_module dependency candidates S
   pub depends : Row dependency_module dependency S m
   pub leading : Row importers targets leads m
 
--- the columns fit each other, over n modules
-pub record Importing (dependency_module dependency candidates : List ℕ) (n : ℕ) : Type 0 where
-  pub dependencies : length dependency ≡ length dependency_module
-  pub dependents : Below n dependency_module
-  pub depended : Below n dependency
-  pub candidate : length candidates ≡ n
-
 -- modules that lead to a plan
 pub record Leading (p : Project) (leads plan : List ℕ) : Type 0 where
   pub size : length leads ≡ modules p
   pub along : Along (record_targets p) p.record_module leads
   pub under : Under (record_targets p) p.record_module plan leads
-
--- the import records as edges from target to importer
-pub record Edged (p : Project) (g : EdgeColumns) : Type 0 where
-  pub edges : EdgesOf p g.to g.from (length g.to)
-  pub graph : Graph g.from g.to (modules p)
-  pub places : g.places ≡ modules p
 
 -- what a pass leaves: just what the rule asks for with the plan as it was is added
 pub record ImportPassed (p : Project) (plan leads' plan' : List ℕ) (changed : Bool) : Type 0 where

@@ -1,5 +1,6 @@
-use Rattle.std.proofs.Common.{arith}
-use Rattle.lines.proofs.Printing.{line-length, refused, put_whole, written}
+use Rattle.std.proofs.Common.{rules, length, ap, refl, arith}
+use Rattle.lines.proofs.Printing.{line-length, refused, written}
+use Rattle.lines.proofs.Written.{put_whole, kept, ended}
 use Rattle.lines.proofs.put_line.Goals as goal
 
 pub returns-then-out-word : goal.returns-then-out-word
@@ -21,14 +22,25 @@ returns-in_default-behind_all c =
     let r = refused a.out.now a.word.now a.entry.now a.numbers.now (omega (arith, n, c.in-Some.ensures, c.in_default-behind_all.ensures)) in
     record { value = r.0; out_after = r.1 }
 
+pub put_fields-requires : goal.put_fields-requires
+put_fields-requires c =
+    let a = c.args in
+    let n = line-length a.word.now a.entry.now a.numbers.now in
+    omega (arith, ap length c.new-line.ensures.start.1, c.in-Some.ensures, c.in-Some-behind_all.ensures, kept c.put_bytes.ensures)
+
+pub put_fields-requires-2 : goal.put_fields-requires-2
+put_fields-requires-2 c =
+    omega (arith, ap length c.new-line.ensures.start.1, c.in-Some.ensures, c.in-Some-behind_all.ensures, kept c.put_bytes.ensures, kept c.put_fields.ensures)
+
+pub put_byte-requires : goal.put_byte-requires
+put_byte-requires c =
+    omega (arith, ap length c.new-line.ensures.start.1, c.in-Some.ensures, c.in-Some-behind_all.ensures, kept c.put_bytes.ensures, kept c.put_fields.ensures, kept c.put_fields-2.ensures)
+
 pub returns : goal.returns
 returns c =
     let a = c.args in
     let n = line-length a.word.now a.entry.now a.numbers.now in
-    let p = c.put_bytes-at in
-    let e = c.put_fields-at in
-    let f = c.put_fields-at-2 in
-    let b = c.put_byte in
-    let r = written a.out.now a.word.now a.entry.now a.numbers.now b.new.out b.result (omega (arith, n, c.in-Some.ensures, c.in-Some-behind_all.ensures))
-    (put_whole a.out.now 0 a.word.now a.entry.now a.numbers.now p.new.out p.result e.new.out e.result f.new.out f.result b.new.out b.result p.ensures e.ensures f.ensures b.ensures) in
-    record { value = r.0; out_after = r.1 }
+    let p = put_whole a.entry.now a.numbers.now c.put_bytes.ensures c.put_fields.ensures c.put_fields-2.ensures c.put_byte.ensures in
+    let r = written a.out.now a.word.now a.entry.now a.numbers.now c.put_byte.new.self.out.now c.len.result
+    (omega (arith, n, c.in-Some.ensures, c.in-Some-behind_all.ensures)) (ended c.new-line.ensures.start p c.len.ensures refl) in
+    record { value = r.0; out_after = search rules }

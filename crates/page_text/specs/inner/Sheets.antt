@@ -1,24 +1,47 @@
 -- What the functions that write a page ask.
 -- Assumes nothing.
-use Rattle.std.specs.Prelude.{◌≡◌, ℕ, ◌≤◌, List, [], ◌++◌, map, length, slice_index, slice_index_or}
+use Rattle.std.specs.Prelude.{◌≡◌, ℕ, ◌*◌, ◌≤◌, Bool, Option, Some, None, List, [], ◌++◌, map, length, slice_index, slice_index_or}
 use mathlib.Core.List.{flat_map}
 use Rattle.lists.specs.Words.{has}
 use Rattle.tables.specs.Refusal.{module_limit}
 use Rattle.risk_of_orders.specs.inner.Steps.{Order}
 use Rattle.page_lines.specs.Line.{line_by}
+use Rattle.page_text.specs.Page.{line_at, page_by}
+
+-- what a page is written from: the modules of the expected order and the others, and for each module of the table a place in both orders and a mark
+pub record SheetRows : Type 0 where
+  pub expected : List ℕ
+  pub others : List ℕ
+  pub expected_places : List ℕ
+  pub actual_places : List ℕ
+  pub plan : List ℕ
 
 -- the line of a module by the places that are written
-unfoldable pub line_with : List ℕ → List ℕ → List ℕ → ℕ → List ℕ
-line_with expected_places actual_places plan m = line_by m (slice_index expected_places m) (slice_index actual_places m) (has plan m)
+unfoldable pub line_with : SheetRows → ℕ → List ℕ
+line_with s m = line_by m (slice_index s.expected_places m) (slice_index s.actual_places m) (has s.plan m)
 
-module _ (expected_places actual_places plan expected others : List ℕ) where
-  -- the lines of the expected order and of the others, in turn
-  abbrev pub page_with : List ℕ
-  page_with = flat_map (line_with expected_places actual_places plan) expected ++ flat_map (line_with expected_places actual_places plan) others
+-- the lines of the expected order and of the others, in turn
+abbrev pub page_with : SheetRows → List ℕ
+page_with s = flat_map (line_with s) s.expected ++ flat_map (line_with s) s.others
 
-  -- the line of a number, past the last none
-  abbrev pub numbered_with : ℕ → List ℕ
-  numbered_with number = slice_index_or (map (line_with expected_places actual_places plan) (expected ++ others)) number []
+-- the line of a number, past the last none
+abbrev pub numbered_with : SheetRows → ℕ → List ℕ
+numbered_with s number = slice_index_or (map (line_with s) (s.expected ++ s.others)) number []
+
+-- the line of a number, or the page where none is given
+abbrev pub text_with : SheetRows → Option ℕ → List ℕ
+text_with s None = page_with s
+text_with s (Some number) = numbered_with s number
+
+-- the same by the orders themselves
+abbrev pub text_by : List ℕ → List ℕ → (ℕ → Bool) → Option ℕ → List ℕ
+text_by expected actual planned None = page_by expected actual planned
+text_by expected actual planned (Some number) = line_at expected actual planned number
+
+-- how many bytes a page of so many modules has, or a line
+abbrev pub text_room : ℕ → Option ℕ → ℕ
+text_room modules None = 41 * modules
+text_room modules (Some number) = 41
 
 -- a place a module in both orders, and a mark
 pub record Sheet (expected_places actual_places plan : List ℕ) : Type 0 where

@@ -1,18 +1,13 @@
 -- The analysed entries' roots, and the modules that they reach, over the columns that are read.
 -- Assumes nothing.
-use Rattle.std.specs.Prelude.{◌≡◌, ℕ, ◌<◌, true, not, ◌&&◌, List, ◌++◌, map, length, drop, ◌==◌, ◌≢◌, slice_index}
-use Rattle.lists.specs.Words.{up_to, keep, has}
+use Rattle.std.specs.Prelude.{◌≡◌, ℕ, ◌<◌, true, List, ◌++◌, length, drop, ◌≢◌, slice_index}
+use Rattle.lists.specs.Words.{has}
 use Rattle.walk.specs.Close.{Bits}
-use Rattle.tables.specs.Project.{Project, missing}
-use Rattle.tables.specs.Readings.{modules, flagged}
+use Rattle.tables.specs.Project.{Project}
+use Rattle.tables.specs.Readings.{modules}
 use Rattle.eligibility.specs.Eligible.{eligible_marks}
 use Rattle.wrap_rules.specs.Plan.{roots}
 use Rattle.import_edges.specs.inner.Spread.{Spreads, EdgesOf}
-
--- the modules of the analysed entries, in row order, over the columns that say which these are
-unfoldable pub roots_over : List ℕ → List ℕ → List ℕ → List ℕ
-roots_over included entry entry_chunk =
-    map (λ (row : ℕ). slice_index entry row) (keep (λ (row : ℕ). flagged included (slice_index entry row) && not (slice_index entry_chunk row == missing)) (up_to (length entry)))
 
 -- a list is written to a slice from place 0 and the rest stays, and r is its length
 pub record Written (list old new : List ℕ) (r : ℕ) : Type 0 where
@@ -26,15 +21,6 @@ pub record Reaching (included root_list from to : List ℕ) (n : ℕ) (reached_s
   pub root : (k : ℕ) → k < length root_list → has included (slice_index root_list k) ≡ true → slice_index root_list k < n → has start (slice_index root_list k) ≡ true
   pub only : (m : ℕ) → has start m ≡ true → (k : ℕ) × (k < length root_list) × (slice_index root_list k ≡ m)
   pub spreads : Spreads from to start reached_set
-
--- the eligible modules of that set
-pub record Chosen (included root_list from to eligibles old candidates : List ℕ) : Type 0 where
-  pub reached_set : List ℕ
-  pub reaching : Reaching included root_list from to (length old) reached_set
-  pub len : length candidates ≡ length old
-  pub bits : Bits old → Bits candidates
-  pub all : (m : ℕ) → m < length old → has reached_set m ≡ true → has eligibles m ≡ true → has candidates m ≡ true
-  pub only : (m : ℕ) → has candidates m ≡ true → (has reached_set m ≡ true) × (has eligibles m ≡ true)
 
 -- what the candidates of an accepted project are chosen by, and room for them in which nothing is marked
 pub record Choosing (p : Project) (from to root_list eligibles candidates : List ℕ) : Type 0 where

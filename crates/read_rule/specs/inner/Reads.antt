@@ -1,10 +1,8 @@
--- What the passes of rule (iv) look for and ask, over the columns that they read.
+-- What the passes of rule (iv) look for, over the columns that they read.
 -- Assumes nothing.
-use Rattle.std.specs.Prelude.{◌≡◌, ℕ, ◌<◌, ◌≤◌, Bool, true, ◌⊎◌, List, length, get_or, slice_index, slice_index_or}
+use Rattle.std.specs.Prelude.{◌≡◌, ℕ, ◌<◌, Bool, true, ◌⊎◌, List, length, get_or, slice_index, slice_index_or}
 use Rattle.lists.specs.Words.{has}
 use Rattle.tables.specs.Project.{Project, missing}
-use Rattle.tables.specs.Refusal.{module_limit, row_limit}
-use Rattle.tables.specs.Accepted.{Below}
 use Rattle.eligibility.specs.Eligible.{eligible}
 use Rattle.marks.specs.Steps.{Row, Added}
 use Rattle.wrap_rules.specs.Rules.{read_asks}
@@ -48,36 +46,6 @@ pub record TopLevelRead (reads statement_module owner canonical chain_symbol cha
   pub there : row < length reference_statement
   pub named : get_or statement_module (slice_index reference_statement row) missing ≡ m
   pub touches : Touching owner canonical chain_symbol chain_link reference_symbol depended_reference depended S row
-
--- the chains' columns fit each other, over n symbols
-pub record Linking (chain_symbol chain_link : List ℕ) (n : ℕ) : Type 0 where
-  pub links : length chain_link ≡ length chain_symbol
-  pub symbols : Below n chain_symbol
-  pub linked : Below n chain_link
-
--- the symbols' columns fit each other
-pub record Symbols (owner canonical chain_symbol chain_link : List ℕ) : Type 0 where
-  pub few : length owner ≤ row_limit
-  pub canonicals : length canonical ≡ length owner
-  pub inside : Below (length owner) canonical
-  pub chains : Linking chain_symbol chain_link (length owner)
-
--- the depended columns fit each other, over so many references and symbols
-pub record Depending (depended_reference depended : List ℕ) (references symbols : ℕ) : Type 0 where
-  pub depends : length depended ≡ length depended_reference
-  pub referring : Below references depended_reference
-  pub named : Below symbols depended
-
--- the columns fit each other, over so many symbols and n modules
-pub record Reading (reads statement_module reference_statement reference_symbol depended_reference depended candidates : List ℕ) (symbols n : ℕ) : Type 0 where
-  pub few : n ≤ module_limit
-  pub read : length reads ≡ n
-  pub modules : Below n statement_module
-  pub statements : Below (length statement_module) reference_statement
-  pub referred : length reference_symbol ≡ length reference_statement
-  pub few_references : length reference_statement ≤ row_limit
-  pub depending : Depending depended_reference depended (length reference_statement) symbols
-  pub candidate : length candidates ≡ n
 
 -- what a pass leaves of a project's plan: just what the rule asks for with the plan as it was is added
 abbrev pub ReadPassed : Project → List ℕ → List ℕ → Bool → Type 0

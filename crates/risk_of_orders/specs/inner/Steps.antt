@@ -48,6 +48,12 @@ pub record Order (order : List ℕ) (n : ℕ) : Type 0 where
   pub once : Distinct order
   pub few : length order ≤ module_limit
 
+-- what the order risk reads of each module: its host, whether it is sensitive, whether it is eligible
+pub record ModuleColumns : Type 0 where
+  pub hosts : List ℕ
+  pub sensitive : List ℕ
+  pub eligible : List ℕ
+
 -- a column of n modules each
 pub record Columns (hosts sensitive eligible : List ℕ) (n : ℕ) : Type 0 where
   pub host_rows : length hosts ≡ n

@@ -1,6 +1,6 @@
 -- What is due at the end keeps the planned modules among the eligible ones.
-use Rattle.std.proofs.Common.{IfOk, Result, Ok, Err, subst}
-use Rattle.file_names.specs.declared.Turn.{Turn}
+use Rattle.std.proofs.Common.{IfOk, Option, Result, Ok, Err, ℕ, subst}
+use Rattle.tables.specs.declared.Refusal.{Refusal}
 use Rattle.share_totals.specs.declared.Totals.{Totals}
 use Rattle.season.specs.Sound.{Acted}
 use Rattle.season.proofs.Keeping.{end-planned}
@@ -14,5 +14,5 @@ pub returns : goal.returns
 returns g c =
     let s = c.args.season in
     on-ok _ _ c.act.result
-    (λ t h. end-planned s.names s.totals s.sound c.if-names.false t (subst (λ (x : Turn). Acted x s.totals t) c.finish-turn.ensures h))
+    (λ t h. end-planned s.names s.totals s.sound c.if-names.false t (subst (λ (x : Option (Result ℕ Refusal)). Acted x s.totals t) c.finish-turn.ensures h))
     c.act.ensures

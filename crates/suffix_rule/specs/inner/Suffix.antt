@@ -5,14 +5,13 @@ use mathlib.Core.List.{Memᴰ}
 use Rattle.lists.specs.Words.{has, keep}
 use Rattle.walk.specs.Close.{Within}
 use Rattle.tables.specs.Project.{Project}
-use Rattle.tables.specs.Readings.{modules}
 use Rattle.expected_order.specs.OfProject.{expected_of}
 use Rattle.sensitivity.specs.Marks.{sensitive_marks}
 use Rattle.eligibility.specs.Eligible.{eligible, eligible_marks}
 use Rattle.marks.specs.Steps.{Added}
 use Rattle.wrap_rules.specs.Rules.{suffix_asks}
 use Rattle.wrap_rules.specs.Plan.{roots, orders_of}
-use Rattle.wrap_rules.specs.inner.Passes.{Passed, candidate_marks}
+use Rattle.wrap_rules.specs.inner.Passes.{Passed}
 
 -- r is the first place of an order whose member is in both sets, or the order's length
 pub record FirstIn (first second order : List ℕ) (r : ℕ) : Type 0 where
@@ -64,19 +63,6 @@ module _ (p : Project) where
   -- every eligible member of the roots' orders is a candidate
   unfoldable pub Candidates : List ℕ → List ℕ → List ℕ → Type 0
   Candidates root_list eligible candidates = (root m : ℕ) → Memᴰ root root_list → Memᴰ m (expected_of p root) → has eligible m ≡ true → has candidates m ≡ true
-
--- marks of a project's n modules
-pub record Markings (p : Project) (sensitive eligible : List ℕ) (n : ℕ) : Type 0 where
-  pub size : n ≡ modules p
-  pub sensitives : length sensitive ≡ n
-  pub eligibles : length eligible ≡ n
-
--- what the pass reads of a project, as slices hold it
-pub record SuffixSets (p : Project) (root_list sensitives eligibles candidates : List ℕ) : Type 0 where
-  pub root : root_list ≡ roots p
-  pub sensitive_set : sensitives ≡ sensitive_marks p
-  pub eligible_set : eligibles ≡ eligible_marks p
-  pub candidate_set : candidates ≡ candidate_marks p
 
 -- the roots of a project that are settled by a plan
 abbrev pub SettledOf : Project → List ℕ → List ℕ → Type 0

@@ -11,4 +11,4 @@ returns c =
     let t = c.args.table.now in
     let read = c.in_ok-current.ensures in
     line-put _ c.args.root c.args.number c.args.line.now read.passed (rw read.project at c.in-Some.ensures.0) (omega arith) (lent-named t.bounds.now t.columns.now t.names.now (written t) read.passed)
-    (rw read.project at c.put_whole_line-count.ensures)
+    (rw (c.in-Some.ensures.1, c.in-Some.ensures.2, read.project) at c.put_whole_line-count.ensures)

@@ -18,6 +18,7 @@ pub record NoteRoom (asked heads nexts : List ℕ) : Type 0 where
 
 -- slices of notes: each number of takings leads to the modules that are asked for after it
 pub record Led (asked heads nexts : List ℕ) : Type 0 where
+  pub few : length asked ≤ module_limit
   pub room : length heads ≡ never + 1
   pub threads : Threaded asked heads nexts
 

@@ -1,4 +1,4 @@
--- What a pass of a rule over a set of marks does, in place, and the sets that the passes over a project read.
+-- What a pass of a rule over a set of marks does, in place, and the candidates of a project.
 -- Assumes nothing.
 use Rattle.std.specs.Prelude.{◌≡◌, Bool, true, false, ◌&&◌, List, ℕ, ◌≤◌, ◌<◌, length}
 use Rattle.lists.specs.Words.{zeros, marks_of}
@@ -26,7 +26,3 @@ pub record Marked (p : Project) (plan : List ℕ) : Type 0 where
 -- the marks of the reached eligible modules
 abbrev pub candidate_marks : Project → List ℕ
 candidate_marks p = marks_of (λ (m : ℕ). eligible p m && reached p m) (modules p)
-
--- these marks of a project, as a slice holds them
-pub record CandidateSet (p : Project) (candidates : List ℕ) : Type 0 where
-  pub candidate_set : candidates ≡ candidate_marks p

@@ -1,7 +1,9 @@
 -- The suffixes of the roots passed are marked.
 -- Assumes nothing.
+use Rattle.sensitivity.specs.Marks.{sensitive_marks}
+use Rattle.wrap_rules.specs.Plan.{roots}
 use Rattle.asked_suffixes.proofs.Marking.{Before}
 use Rattle.asked_suffixes.proofs.inner.mark_entries.Given as goal
 
 abbrev pub invariant-loop-root : goal.invariant-loop-root
-invariant-loop-root l = Before l.current l.roots l.sensitive l.plan l.root-index l.initial.asked l.asked
+invariant-loop-root l = Before l.sets (roots l.sets) (sensitive_marks l.sets) l.plan l.root-index l.initial.asked l.asked

@@ -1,7 +1,21 @@
--- `mark_entry`: the order is of modules.
+-- `mark_entry`: the order is of modules, as the marks are.
 -- Assumes nothing.
-use Rattle.std.proofs.Common.{◌∙◌}
+use Rattle.std.proofs.Common.{sym, ◌∙◌}
+use Rattle.rule_sets.proofs.Sizes.{sensitive-size}
 use Rattle.asked_suffixes.proofs.inner.mark_entry.Goals as goal
 
 pub mark_suffix-requires-clause-members : goal.mark_suffix-requires-clause-members
-mark_suffix-requires-clause-members c = rw (c.requires.marks.sensitives ∙ c.requires.marks.size) c.find_expected-order.ensures.members
+mark_suffix-requires-clause-members c =
+    let s = rw c.sets.view_is at c.sets.invariant in
+    rw (sensitive-size s) (rw c.sets.view_is at c.find_expected-order.ensures.members)
+
+pub mark_suffix-requires-clause-rows : goal.mark_suffix-requires-clause-rows
+mark_suffix-requires-clause-rows c = c.requires.plan ∙ sym (sensitive-size (rw c.sets.view_is at c.sets.invariant))
+
+pub mark_suffix-requires-clause-size : goal.mark_suffix-requires-clause-size
+mark_suffix-requires-clause-size c = c.requires.size ∙ sym (sensitive-size (rw c.sets.view_is at c.sets.invariant))
+
+pub returns : goal.returns
+returns c =
+    let s = rw c.sets.view_is at c.sets.invariant in
+    rw (c.find_expected-order.ensures.order, c.sets.view_is, s.sensitive_set) at c.mark_suffix.ensures

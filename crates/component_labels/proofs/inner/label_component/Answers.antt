@@ -10,7 +10,7 @@ pub returns-then-not-leads : goal.returns-then-not-leads
 returns-then-not-leads c =
     let a = c.args in
     let g = a.graph.now in
-    let ok = c.places-n.ensures.graph in
+    let ok = c.requires.graph in
     let behind = rw (c.requires.back) at c.reach.ensures in
     let led = led-back g.from g.to g.places ok a.c c.requires.chunk behind c.leads.ensures in
     component-none g.from g.to g.places ok a.c c.requires.chunk a.labels.now c.requires.size (sym led ∙ c.if-not-leads.true)
@@ -19,7 +19,7 @@ pub returns : goal.returns
 returns c =
     let a = c.args in
     let g = a.graph.now in
-    let ok = c.places-n.ensures.graph in
+    let ok = c.requires.graph in
     let part : length {A = ℕ} (take c.places-n.result (replicate 1024 0)) ≡ g.places = length-take-le c.places-n.result (replicate 1024 0) (omega arith) ∙ c.places-n.ensures.count in
     let behind = rw (c.requires.back) at c.reach.ensures in
     let led = led-back g.from g.to g.places ok a.c c.requires.chunk behind c.leads.ensures in

@@ -5,4 +5,4 @@ use Rattle.at_risk.proofs.Joined.{cycle-risk-alone}
 use Rattle.cycle_risk.proofs.inner.mark_cycle_risk.Goals as goal
 
 pub returns : goal.returns
-returns c = record { same = cc (cycle-risk-alone c.args.current.now c.args.root (length c.args.out.now) c.requires.entry.size); marked = c.count_marked.ensures }
+returns c = record { same = cc (cycle-risk-alone c.args.entry.now.current.now c.args.entry.now.root (length c.args.out.now) c.requires.places); marked = c.count_marked.ensures }

@@ -1,4 +1,4 @@
--- `module_keys::inner::find_keys`: what is filled are the keys.
+-- `find_keys`: what is filled are the keys.
 -- Assumes nothing.
 use Rattle.std.proofs.Common.{arith}
 use Rattle.module_keys.proofs.Keys.{keys-held}
@@ -6,5 +6,6 @@ use Rattle.module_keys.proofs.inner.find_keys.Goals as goal
 
 pub returns : goal.returns
 returns c =
-    keys-held c.args.names.now c.args.normal.now c.args.importers.now c.args.sensitive.now c.args.numbers.now c.find_starts.new.starts c.fill_groups.new.groups c.put_numbers.new.places
+    let p = c.args.current.now in
+    keys-held c.args.names.now p.normal p.record_module p.sensitive c.args.numbers.now c.find_starts.new.starts c.fill_groups.new.groups c.put_numbers.new.places
     c.find_starts.ensures (omega arith) (omega arith) (omega arith) c.fill_groups.ensures c.put_numbers.ensures

@@ -21,9 +21,15 @@ loop-root-preserved c =
     let p = c.args.current.now in
     let k = c.loop-root.root-index in
     elim c.match-find_entry.branch [
-      | in-Some w ↦ roots-put (put p) c.args.roots.now c.args.out.now k c.loop-root.invariant c.loop-root-test.true (w.out-is ∙ w.add_entry_risk.ensures)
+      | in-Some w ↦ roots-put (put p) c.args.roots.now c.args.out.now k c.loop-root.invariant c.loop-root-test.true (w.out-is ∙ (rw (w.in-Some.ensures.1, w.in-Some.ensures.2) at w.add_entry_risk.ensures))
       | in_default w ↦ absurd (true≢false (sym (row-analysed p c.args.roots.now k c.requires.roots c.loop-root-test.true) ∙ w.in_default.ensures))
     ]
+
+pub add_entry_risk-requires-clause-prepared : goal.add_entry_risk-requires-clause-prepared
+add_entry_risk-requires-clause-prepared c = rw c.in-Some.ensures.1 c.requires.prepared
+
+pub add_entry_risk-requires-clause-sets : goal.add_entry_risk-requires-clause-sets
+add_entry_risk-requires-clause-sets c = c.requires.sets ∙ sym c.in-Some.ensures.1
 
 pub returns : goal.returns
 returns c =

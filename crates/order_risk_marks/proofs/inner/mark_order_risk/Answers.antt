@@ -5,4 +5,4 @@ use Rattle.at_risk.proofs.Joined.{order-risk-alone}
 use Rattle.order_risk_marks.proofs.inner.mark_order_risk.Goals as goal
 
 pub returns : goal.returns
-returns c = record { same = cc (order-risk-alone c.args.current.now c.args.root (length c.args.out.now) c.requires.entry.size); marked = c.count_marked.ensures }
+returns c = record { same = cc (order-risk-alone c.args.entry.now.current.now c.args.entry.now.root (length c.args.out.now) c.requires.places); marked = c.count_marked.ensures }

@@ -1,36 +1,33 @@
--- `reached_modules::inner::choose_candidates`: over the modules of the table.
+-- `reached_modules::inner::choose_candidates`: what the roots of the table reach, and the eligible modules of it.
 -- Assumes nothing.
-use Rattle.std.proofs.Common.{sym, ap, ◌∙◌, length}
+use Rattle.std.proofs.Common.{length, sym, ap, ◌∙◌, arith}
 use Rattle.lists.proofs.Laws.{length-marks_of}
-use Rattle.current_columns.specs.AsProject.{project}
 use Rattle.eligibility.specs.Eligible.{eligible}
+use Rattle.marks.proofs.Parts.{part_none, part_length}
 use Rattle.wrap_rules.proofs.Roots.{roots-below}
 use Rattle.reached_modules.proofs.Choosing.{candidates-made, choosing-graph}
 use Rattle.reached_modules.proofs.inner.choose_candidates.Goals as goal
 
-pub mark_candidates-requires-clause-edges : goal.mark_candidates-requires-clause-edges
-unfolding project
-mark_candidates-requires-clause-edges c = choosing-graph _ c.current.invariant _ _ _ _ _ (rw (← c.current.view_is) at c.requires.choosing)
+pub source_reachable_modules-requires : goal.source_reachable_modules-requires
+source_reachable_modules-requires c =
+    let p = c.args.current.now in
+    let g = c.requires.choosing in
+    let n = c.modules.ensures in
+    record {
+      modules = part_length 4096 _ n.few ∙ n.count;
+      rows = omega (arith, g.edges.few, n.accepted.sizes.record_module);
+      edges = choosing-graph p n.accepted _ _ _ _ _ g;
+      roots = rw g.root (roots-below p n.accepted);
+      none = part_none 4096 _;
+    }
 
-pub mark_candidates-requires-clause-includeds : goal.mark_candidates-requires-clause-includeds
-unfolding project
-mark_candidates-requires-clause-includeds c = let g = rw (← c.current.view_is) at c.requires.choosing in c.current.invariant.sizes.included ∙ sym g.size
+pub add-requires-clause-two : goal.add-requires-clause-two
+add-requires-clause-two c = let g = c.requires.choosing in ap length g.eligible_set ∙ length-marks_of (eligible c.args.current.now) _ ∙ sym g.size
 
-pub mark_candidates-requires-clause-roots : goal.mark_candidates-requires-clause-roots
-unfolding project
-mark_candidates-requires-clause-roots c =
-    let g = rw (← c.current.view_is) at c.requires.choosing in
-    rw (g.size, g.root) (roots-below (project c.current.inside) c.current.invariant)
-
-pub mark_candidates-requires-clause-modules : goal.mark_candidates-requires-clause-modules
-unfolding project
-mark_candidates-requires-clause-modules c =
-    let g = rw (← c.current.view_is) at c.requires.choosing in
-    ap length g.eligible_set ∙ length-marks_of (eligible (project c.current.inside)) _ ∙ sym g.size
-
-pub mark_candidates-requires-clause-none : goal.mark_candidates-requires-clause-none
-mark_candidates-requires-clause-none c = c.requires.choosing.none
+pub add-requires-clause-three : goal.add-requires-clause-three
+add-requires-clause-three c = add-requires-clause-two c
 
 pub returns : goal.returns
-unfolding project
-returns c = rw (← c.current.view_is) (candidates-made _ c.current.invariant _ _ _ _ _ (rw (← c.current.view_is) at c.requires.choosing) _ c.mark_candidates.ensures)
+returns c =
+    let n = c.modules.ensures in
+    candidates-made c.args.current.now n.accepted _ _ _ _ _ c.requires.choosing _ _ _ _ (part_length 4096 _ n.few ∙ n.count) c.source_reachable_modules.ensures c.add.ensures

@@ -1,23 +1,14 @@
--- `reached_modules::inner::list_table_roots`: over the entries of the table.
+-- `list_table_roots`: there is a place for each entry.
 -- Assumes nothing.
 use Rattle.std.proofs.Common.{arith}
 use Rattle.current_columns.specs.AsProject.{project}
-use Rattle.reached_modules.proofs.Reached.{roots-over}
+use Rattle.lists.proofs.Zips.{turn_at}
 use Rattle.reached_modules.proofs.Few.{entries-few}
 use Rattle.reached_modules.proofs.inner.list_table_roots.Goals as goal
 
-pub list_roots-requires-clause-modules : goal.list_roots-requires-clause-modules
+pub bounds-list-count : goal.bounds-list-count
 unfolding project
-list_roots-requires-clause-modules c = rw c.current.invariant.sizes.included c.current.invariant.values.entry
-
-pub list_roots-requires-clause-rows : goal.list_roots-requires-clause-rows
-unfolding project
-list_roots-requires-clause-rows c = c.current.invariant.sizes.entry_chunk
-
-pub list_roots-requires-clause-room : goal.list_roots-requires-clause-room
-unfolding project
-list_roots-requires-clause-room c = omega (arith, entries-few (project c.current.inside) c.current.invariant, c.current.invariant.sizes.normal)
-
-pub returns : goal.returns
-unfolding project
-returns c = rw (← c.current.view_is) (rw (roots-over (project c.current.inside)) at c.list_roots.ensures)
+bounds-list-count c =
+    let l = c.loop-m in
+    let t = turn_at c.current.inside.entry.now c.current.inside.entry_chunk.now l.yielded c.into_iter-m-iterator.result l.m-iterator c.next.new.self (cc) (cc c.zip-m-items.ensures.second.0) l.yielded_by (c.in-Some.field-0-0, c.in-Some.field-0-1) c.in-Some.ensures.steps in
+    omega (arith, t.first_in, l.invariant.few, l.auto.list, c.requires.room, entries-few (project c.current.inside) c.current.invariant, c.current.invariant.sizes.normal)

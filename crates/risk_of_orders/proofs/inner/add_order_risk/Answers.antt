@@ -1,10 +1,10 @@
 -- `risk_of_orders::inner::add_order_risk` meets its contract: what the three passes put at risk is the order risk.
 -- Assumes nothing.
-use Rattle.std.specs.Prelude.{◌≡◌, ℕ, zero, suc, List, ◌∷◌, length, take, drop, replicate}
-use mathlib.Core.Path.{refl, ap, ◌∙◌}
-use lib.Seq.{length-take-le, take_at}
+use Rattle.std.proofs.Common.{◌≡◌, ℕ, zero, suc, List, ◌∷◌, length, take, replicate, refl, ap, subst, ◌∙◌}
+use lib.Seq.{length-take-le}
+use Rattle.lists.specs.Words.{keep, has}
 use Rattle.tables.specs.Refusal.{module_limit}
-use Rattle.risk_of_orders.specs.inner.Steps.{join, listed, puts_of, unmet, overtaken}
+use Rattle.risk_of_orders.specs.inner.Steps.{join, listed, Ranked, ModuleColumns}
 use Rattle.risk_of_orders.proofs.OrderRisk.{passed-risk}
 use Rattle.risk_of_orders.proofs.inner.add_order_risk.Goals as goal
 
@@ -24,14 +24,9 @@ returns c =
     let room : List ℕ = replicate module_limit 0 in
     let places = c.place_sensitive.new.places in
     let wanted = c.mark_listed.new.marks in
-    let out1 = c.flag_unmet.new.out in
-    let out2 = c.flag_unmet-2.new.out in
     let part : length (take n room) ≡ n = length-take-le n room c.requires.few in
-    let place-room : length places ≡ n = c.place_sensitive.auto.places ∙ part in
-    let wanted-room : length wanted ≡ n = c.mark_listed.auto.marks ∙ part in
-    passed-risk a.sensitive.now a.eligible.now a.expected.now a.actual.now a.hosts.now n places wanted c.requires.orders.0.members c.requires.orders.1.members place-room c.place_sensitive.ensures
-    (c.mark_listed.ensures ∙ ap (λ (z : List ℕ). join z (listed a.expected.now a.sensitive.now)) (take-replicate n module_limit 0 ∙ ap (λ (j : ℕ). replicate j 0) part))
-    a.out.now out1 out2 c.flag_overtaken.new.out
-    (c.flag_unmet.ensures ∙ ap (λ (p : List ℕ). join a.out.now (puts_of a.eligible.now a.hosts.now (unmet a.sensitive.now p) a.expected.now)) (take_at places (drop n room) n place-room))
-    (c.flag_unmet-2.ensures ∙ ap (λ (p : List ℕ). join out1 (puts_of a.eligible.now a.hosts.now (unmet a.sensitive.now p) a.actual.now)) (take_at wanted (drop n room) n wanted-room))
-    (c.flag_overtaken.ensures ∙ ap (λ (p : List ℕ). join out2 (puts_of a.eligible.now a.hosts.now (overtaken a.sensitive.now p a.expected.now) a.expected.now)) (take_at places (drop n room) n place-room))
+    let ranked = subst (λ (s : ModuleColumns). Ranked (keep (has s.sensitive) a.actual.now) places) c.columns.view_is c.place_sensitive.ensures in
+    let marked = subst (λ (s : ModuleColumns). wanted ≡ join (take n room) (listed a.expected.now s.sensitive)) c.columns.view_is c.mark_listed.ensures in
+    passed-risk a.columns.now.sensitive a.columns.now.eligible a.expected.now a.actual.now a.columns.now.hosts n places wanted c.requires.orders.0.members c.requires.orders.1.members (c.place_sensitive.auto.places ∙ part) ranked
+    (marked ∙ ap (λ (z : List ℕ). join z (listed a.expected.now a.columns.now.sensitive)) (take-replicate n module_limit 0 ∙ ap (λ (j : ℕ). replicate j 0) part))
+    a.out.now c.flag_unmet.new.out c.flag_unmet-2.new.out c.flag_overtaken.new.out c.flag_unmet.ensures c.flag_unmet-2.ensures c.flag_overtaken.ensures

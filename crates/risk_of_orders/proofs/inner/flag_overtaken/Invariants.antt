@@ -4,4 +4,4 @@ use Rattle.risk_of_orders.proofs.Flagging.{OvertakenBelow}
 use Rattle.risk_of_orders.proofs.inner.flag_overtaken.Given as goal
 
 abbrev pub invariant-loop-m : goal.invariant-loop-m
-invariant-loop-m l = OvertakenBelow l.eligible l.hosts l.sensitive l.places l.expected l.initial.out l.m-index l.out l.latest
+invariant-loop-m l = OvertakenBelow l.columns.eligible l.columns.hosts l.columns.sensitive l.places l.expected l.initial.out l.m-index l.out l.latest

@@ -4,4 +4,4 @@ use Rattle.risk_of_orders.proofs.Flagging.{UnmetBelow}
 use Rattle.risk_of_orders.proofs.inner.flag_unmet.Given as goal
 
 abbrev pub invariant-loop-m : goal.invariant-loop-m
-invariant-loop-m l = UnmetBelow l.eligible l.hosts l.sensitive l.other l.order l.initial.out l.m-index l.out
+invariant-loop-m l = UnmetBelow l.columns.eligible l.columns.hosts l.columns.sensitive l.other l.order l.initial.out l.m-index l.out

@@ -1,27 +1,17 @@
 -- `rule_conditions::inner::lacking_importer`: what the rule adds to a copy is what the plan lacks.
 -- Assumes nothing.
-use Rattle.std.proofs.Common.{◌∙◌, arith}
 use Rattle.wrap_rules.specs.Plan.{import_rule}
-use Rattle.rule_sets.proofs.Blank.{blank-leading}
-use Rattle.rule_conditions.proofs.Copies.{lacking-rule}
+use Rattle.import_rule.proofs.OfProject.{blank-leading}
 use Rattle.rule_conditions.proofs.inner.lacking_importer.Goals as goal
 
 pub pass_importers-requires : goal.pass_importers-requires
 pass_importers-requires c =
-    let s = c.sets.invariant in
     record {
-      sets = record { candidate_set = s.candidate_set };
-      edges = s.edged;
-      plan = rw (c.copy_from_slice.ensures.after, c.sets.view_is) c.requires.plan;
-      leads = blank-leading _ 4096 _ _ c.modules.ensures.few c.modules.ensures.count;
+      plan = rw c.copy_from_slice.ensures.after c.requires.plan;
+      leads = blank-leading _ 4096 _ _ c.modules.ensures.few (rw c.sets.view_is at c.modules.ensures.count);
     }
-
-pub lowest_lacking-requires : goal.lowest_lacking-requires
-lowest_lacking-requires c =
-    let ok = rw c.sets.view_is at c.sets.invariant.accepted in
-    record { rows = omega arith; few = omega (arith, ok.sizes.normal) }
 
 pub returns : goal.returns
 returns c =
-    let added = rw (c.copy_from_slice.ensures.after, c.sets.view_is) at c.pass_importers.ensures.added in
-    c.lowest_lacking.ensures ∙ lacking-rule c.args.sets.now import_rule c.args.plan.now c.requires.plan.size added
+    let added = rw c.copy_from_slice.ensures.after at c.pass_importers.ensures.added in
+    c.lowest_added.ensures import_rule _ added

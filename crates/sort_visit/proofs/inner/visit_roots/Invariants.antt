@@ -1,10 +1,10 @@
--- Between the entry rows, the visits so far lead from the runtime's visit to what the slices and the counters hold.
+-- The visits so far are of the runtime and of the entries before this one.
 -- Assumes nothing.
-use Rattle.sort_visit.proofs.Turns.{at, Rooting}
+use Rattle.std.proofs.Common.{◌∷◌, take}
+use Rattle.sort_visit.proofs.Turns.{at, none, Visited}
 use Rattle.sort_visit.proofs.inner.visit_roots.Given as goal
 
 abbrev pub invariant-loop-m : goal.invariant-loop-m
 invariant-loop-m l =
     let f = l.fn in
-    let i = l.initial in
-    Rooting f.normal f.record_module f.record_kind f.record_target f.entry f.dynamic (at i.counters i.marks i.numbers i.sorted) l.m-index (at l.counters l.marks l.numbers l.sorted)
+    Visited f.current (at none f.marks f.numbers f.sorted) (f.current.runtime ∷ take l.m-index f.current.entry) (at l.counters l.marks l.numbers l.sorted)

@@ -1,26 +1,26 @@
--- `visit_columns::inner::prepare_wrapped`: the columns of an accepted project fit.
+-- `prepare_wrapped`: each column is written at the front of its array.
 -- Assumes nothing.
+use Rattle.std.proofs.Common.{arith}
 use Rattle.current_columns.specs.AsProject.{project}
 use Rattle.load_order.proofs.OverTable.{imports-fit}
-use Rattle.visit_columns.proofs.OverTable.{modules-fit}
+use Rattle.load_order.proofs.Arranging.{arranged-loads}
 use Rattle.visit_columns.proofs.inner.prepare_wrapped.Goals as goal
-
-pub prepare-requires-clause-fit : goal.prepare-requires-clause-fit
-unfolding project
-prepare-requires-clause-fit c = modules-fit (project c.current.inside) c.current.invariant c.args.wraps.now (rw (← c.current.view_is) at c.requires.wraps)
-
-pub prepare-requires-clause-members : goal.prepare-requires-clause-members
-unfolding project
-prepare-requires-clause-members c = (c.current.invariant.rises.member_chunk, c.current.invariant.sizes.member_chunk)
-
-pub prepare-requires-clause-imports : goal.prepare-requires-clause-imports
-unfolding project
-prepare-requires-clause-imports c = imports-fit (project c.current.inside) c.current.invariant
-
-pub prepare-requires-clause-room : goal.prepare-requires-clause-room
-unfolding project
-prepare-requires-clause-room c = (c.current.invariant.sizes.normal, c.requires.places)
 
 pub returns : goal.returns
 unfolding project
-returns c = rw (← c.current.view_is) (record { parts = c.prepare.ensures.columns; same = c.prepare.ensures.loads })
+returns c =
+    let p = project c.current.inside in
+    let a = c.current.invariant in
+    let loads = rw (← c.current.view_is) at c.arrange_table.ensures in
+    rw (← c.current.view_is) (record {
+      way = rw (← c.current.view_is) at c.write_ways.ensures;
+      starts = c.first_rows.ensures;
+      start_places = omega (arith, c.first_rows.auto.starts, rw (← c.current.view_is) at c.modules-n.ensures.count);
+      trigger = rw (← c.current.view_is) at c.write_triggers.ensures;
+      member_starts = c.first_rows-2.ensures;
+      member_places = omega (arith, c.first_rows-2.auto.starts, rw (← c.current.view_is) at c.chunks-chunks.ensures.count);
+      load_starts = c.first_rows-3.ensures;
+      load_places = omega (arith, c.first_rows-3.auto.starts, rw (← c.current.view_is) at c.chunks-chunks.ensures.count);
+      loading = arranged-loads p.order p.import_chunk p.imports (imports-fit p a) _ loads.size loads.same;
+      same = loads.same;
+    })

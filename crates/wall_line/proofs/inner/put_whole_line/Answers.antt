@@ -10,5 +10,5 @@ pub returns : goal.returns
 returns c =
     let a = c.args in
     put_as
-    (ap₂ (λ (s w : List ℕ). marked_line a.current.now s w a.root a.number) c.mark_table_sensitive.ensures c.analyze.ensures.plan ∙ marked-whole a.current.now a.root a.number)
+    (ap₂ (λ (s w : List ℕ). marked_line a.entry.now.current.now s w a.entry.now.root a.number) c.mark_table_sensitive.ensures c.analyze.ensures.plan ∙ marked-whole a.entry.now.current.now a.entry.now.root a.number)
     c.put_entry_line.ensures

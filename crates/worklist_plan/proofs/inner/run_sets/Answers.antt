@@ -1,19 +1,12 @@
 -- `worklist_plan::inner::run_sets`: the edges of the request graph are written and threaded, and the modules are taken over them.
 -- Assumes nothing.
-use Rattle.std.proofs.Common.{ℕ, sym, arith}
+use Rattle.std.proofs.Common.{ℕ, arith}
 use lib.ListN.{length-replicate}
 use Rattle.worklist_plan.proofs.Graphing.{edges-graph, graph-of}
 use Rattle.worklist_plan.proofs.inner.run_sets.Goals as goal
 
 pub request_edges-requires : goal.request_edges-requires
-request_edges-requires c =
-    let s = c.sets.invariant in
-    rw c.new-edges.ensures
-    record {
-      room = omega (arith, length-replicate {A = ℕ} 155648 0);
-      imports = rw (c.to.ensures, c.from.ensures) (record { lengths = sym s.edged.graph.lengths; edges = s.edged.edges });
-      made = record { label = s.label; sensitive_set = s.sensitive_set; eligible_set = s.eligible_set; candidate_set = s.candidate_set };
-    }
+request_edges-requires c = rw c.new-edges.ensures (omega (arith, length-replicate {A = ℕ} 155648 0))
 
 pub new-graph-requires : goal.new-graph-requires
 new-graph-requires c =
@@ -22,5 +15,5 @@ new-graph-requires c =
 
 pub run_linked-requires-clause-graph : goal.run_linked-requires-clause-graph
 run_linked-requires-clause-graph c =
-    let e = rw (c.sets.view_is, c.new-edges.ensures) at c.request_edges.ensures in
+    let e = rw c.new-edges.ensures at c.request_edges.ensures in
     rw (c.new-graph.ensures, c.sources.ensures, c.targets.ensures.targets) (graph-of _ _ _ e)

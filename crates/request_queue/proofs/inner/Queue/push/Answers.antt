@@ -3,7 +3,7 @@ use Rattle.request_queue.proofs.Growing.{count_room, put-new, put-standing}
 use Rattle.request_queue.proofs.inner.Queue.push.Goals as goal
 
 pub bounds-self-inside-self-inside : goal.bounds-self-inside-self-inside
-bounds-self-inside-self-inside c = count_room c.self.invariant c.args.x (rw (← c.self.view_is) at c.requires) c.if-self-at-ne0.false
+bounds-self-inside-self-inside c = let h = c.self.invariant in count_room _ h.room h.within h.listed c.args.x (rw (← c.self.view_is) at c.requires) c.if-self-at-ne0.false
 
 pub invariant_of-self : goal.invariant_of-self
 invariant_of-self c = put-standing c.self.invariant c.args.x (rw (← c.self.view_is) at c.requires) c.if-self-at-ne0.false

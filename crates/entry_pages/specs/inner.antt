@@ -1,2 +1,0 @@
--- What inner contracts and proofs speak of.
-pub mod OverTable
