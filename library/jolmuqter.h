@@ -1,8 +1,8 @@
 /* The order planner's operations, from target/staticlib/libjolmuqter.a (`library/build`, x86-64 Linux).
  *
  * A slice is a pointer and a length in elements, in this order; a pointer is aligned and isn't null, even where the length is 0. Outputs overlap
- * neither each other nor the inputs. A call uses less than 2 MiB of stack (measured: up to 1.35 MiB), jolmuqter_plan_by_worklist
- * and jolmuqter_takings_from_seeds less than 4 MiB (3.50), keeps nothing, and may run in several threads at once.
+ * neither each other nor the inputs. A call uses less than 2 MiB of stack (measured: up to 1.30 MiB), jolmuqter_plan_by_worklist
+ * and jolmuqter_takings_from_seeds less than 4 MiB (3.34), keeps nothing, and may run in several threads at once.
  *
  * Inputs of every call:
  *   runtime   the runtime module

@@ -22,11 +22,11 @@ use table::MODULE_LIMIT;
 use visit_columns::inner::VisitColumns;
 
 // Adds the order risk of an entry whose expected order is given to a set. `columns` are those that the visits read.
-pub fn add_entry_order_risk<'a>(
+pub fn add_entry_order_risk(
     entry: &AnalysedEntry,
     columns: &VisitColumns,
     sets: &ModuleSets,
-    expected: &'a [u32],
+    expected: &[u32],
     out: &mut [u32],
 )
     requires prepared { Prepared entry.now.current.now columns.now }
@@ -47,11 +47,11 @@ pub fn add_entry_order_risk<'a>(
 }
 
 // Adds the cycle risk of an entry whose expected order is given to a set, by the chunks' labels.
-pub fn add_entry_cycle_risk<'a>(
+pub fn add_entry_cycle_risk(
     entry: &AnalysedEntry,
-    labels: &'a [u32],
-    eligibles: &'a [u32],
-    expected: &'a [u32],
+    labels: &[u32],
+    eligibles: &[u32],
+    expected: &[u32],
     out: &mut [u32],
 )
     requires labels { labels.now ≡ labels_of entry.now.current.now }
@@ -63,11 +63,12 @@ pub fn add_entry_cycle_risk<'a>(
     add_cycle_risk(expected, eligibles, out, reaches_cycle);
 }
 
-// Adds the risk of an entry to a set. `columns` are those that the visits read, `labels` the chunks' labels.
-pub fn add_entry_risk<'a>(
+// Adds the risk of an entry to a set. `columns` are those that the visits read, `labels` the chunks' labels. They stay apart from the sets, as the order
+// risk alone is made without labels, and the cycle risk without columns.
+pub fn add_entry_risk(
     entry: &AnalysedEntry,
     columns: &VisitColumns,
-    labels: &'a [u32],
+    labels: &[u32],
     sets: &ModuleSets,
     out: &mut [u32],
 )

@@ -30,7 +30,7 @@ pub struct ModuleSets<'a, 'c> {
     pub ghost sets: { Sets current.now sensitive.now eligible.now },
 }
 
-// Makes them of a table.
+// Makes them of a table. `rule_sets::read_sets` makes the same two beside all that the rules read, in its own room.
 pub fn read_module_sets<'a, 'c>(
     current: &'a Current<'c>,
     space: &'a mut SetSpace,

@@ -15,7 +15,7 @@ use lists::inner::{count_marked, fill};
 use table::{CHUNK_LIMIT, MODULE_LIMIT};
 
 // Adds the cycle risk of an entry to a set, by the marks of the eligible modules.
-fn add_marked_cycle_risk<'a>(entry: &AnalysedEntry, eligibles: &'a [u32], out: &mut [u32])
+fn add_marked_cycle_risk(entry: &AnalysedEntry, eligibles: &[u32], out: &mut [u32])
     requires eligibles { eligibles.now ≡ eligible_marks entry.now.current.now }
     requires places { length out.old ≡ modules entry.now.current.now }
     ensures { out.new ≡ join out.old (in_cycle_risk entry.now.current.now entry.now.root) }

@@ -77,7 +77,7 @@ pub fn leave(
     numbers[at] = next;
     if current.normal[at] != 1 {
         return Counters {
-            placed: placed,
+            placed,
             next: next + 1,
         };
     }

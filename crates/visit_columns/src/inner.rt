@@ -32,7 +32,8 @@ impl VisitSpace {
 }
 
 // What the visits read besides the members: in which way modules execute, the first rows of modules, what record rows trigger, the first rows of members' chunks
-// and of imports' chunks, and the imported chunks in load order. The wraps that they are made with aren't kept, so clauses name them.
+// and of imports' chunks, and the imported chunks in load order. The wraps that they are made with aren't kept, so clauses name them, and the type
+// has no invariant: a planned load would hold its wraps, an array more, through all visits.
 #[derive(Drop)]
 pub struct VisitColumns<'a> {
     pub ways: &'a [u32],

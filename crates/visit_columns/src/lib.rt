@@ -1,4 +1,4 @@
-// The columns that the visits of the actual order read, made once as parts of one slice: in which way each module executes, which module each record row triggers, where
+// The columns that the visits of the actual order read, made once as one value: in which way each module executes, which module each record row triggers, where
 // rows start, and the load order.
 #![tactic(auto)]
 

@@ -1,4 +1,4 @@
--- What the functions over a table ask, at its project.
+-- What the functions over a table ask and ensure, at its project.
 -- Assumes nothing.
 use Rattle.std.specs.Prelude.{◌≡◌, ℕ, ◌≤◌, List}
 use Rattle.tables.specs.Project.{Project}

@@ -1,4 +1,4 @@
--- What the functions ask and ensure.
+-- What the functions ensure.
 -- Assumes nothing.
 use Rattle.std.specs.Prelude.{◌≡◌, ℕ, ◌<◌, cond, List, length, ◌==◌, slice_index}
 

@@ -1,4 +1,4 @@
--- What the functions that write a page ask.
+-- What a page is written from, what is written, and what the functions ask.
 -- Assumes nothing.
 use Rattle.std.specs.Prelude.{◌≡◌, ℕ, ◌*◌, ◌≤◌, Bool, Option, Some, None, List, [], ◌++◌, map, length, slice_index, slice_index_or}
 use mathlib.Core.List.{flat_map}
