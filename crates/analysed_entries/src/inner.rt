@@ -48,10 +48,11 @@ pub struct AnalysedEntry<'a, 'c> {
 fn find_chunk(current: &Current, root: u32) -> Option<u32>
     ensures { MatchOption result (is_analysed current.now root ≡ false) (λ chunk. (is_analysed current.now root ≡ true) × Entry current.now root chunk) }
 {
-    if !is_included(current.included, root) {
+    let columns = current.columns();
+    if !is_included(columns.included, root) {
         return None;
     }
-    entry_chunk_of(current.entry, current.entry_chunk, root)
+    entry_chunk_of(columns.entry, columns.entry_chunk, root)
 }
 
 // The analysed entry that a root is, none for any other root.

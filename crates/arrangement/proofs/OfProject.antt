@@ -20,8 +20,15 @@ use Rattle.names.specs.Names.{names_fit, names_in}
 use Rattle.module_keys.specs.Keys.{key_of}
 use Rattle.arrangement.specs.Arrangement.{arranged}
 use Rattle.arrangement.specs.OfProject.{key_in, arranged_of, members_read, named, as_named}
-use Rattle.arrangement.specs.inner.Rows.{Members}
+use Rattle.arrangement.specs.inner.Rows.{Members, Fit}
 use Rattle.arrangement.proofs.Laws.{arranged-size, arranged-below, arranged-same}
+
+-- the members arranged by what are the keys of the modules
+pub keys_arranged : (p : Project) (names found : List ℕ) → Fit p names found → (key : ℕ → List ℕ) (members : List ℕ) (count : ℕ) → members ≡ p.member → count ≡ chunks p
+    → ((m : ℕ) → m < modules p → key m ≡ key_of names p.normal p.record_module p.sensitive found m)
+    → arranged key count p.member_chunk members ≡ arranged (key_of names p.normal p.record_module p.sensitive found) (chunks p) p.member_chunk p.member
+keys_arranged p names found f key members count m c h =
+    rw (m, c) (arranged-same key (key_of names p.normal p.record_module p.sensitive found) (chunks p) (modules p) p.member_chunk p.member h f.chunked.lengths f.inside)
 
 module _ (p : Project) (ok : Accepted p) where
   pub members-fit : Members p.member_chunk p.member (chunks p)
@@ -31,12 +38,16 @@ module _ (p : Project) (ok : Accepted p) where
   unfolding numbers_of numbers
   numbers-length = length-map-up_to _ (modules p)
 
-  -- the members arranged by what are the keys of the modules
-  pub keys-arranged : (key : ℕ → List ℕ) (names numbers members : List ℕ) (count : ℕ) → numbers ≡ numbers_of p → members ≡ p.member → count ≡ chunks p
-      → ((m : ℕ) → m < modules p → key m ≡ key_of names p.normal p.record_module p.sensitive numbers m) → arranged key count p.member_chunk members ≡ arranged_of p names
-  unfolding arranged_of key_in
-  keys-arranged key names numbers members count n m c h =
-      rw (m, c) (arranged-same key (key_in p names) (chunks p) (modules p) p.member_chunk p.member (rw n at h) members-fit.lengths ok.values.member)
+  -- its columns fit each other, with its names and its numbers
+  pub arranging_fit : (names found : List ℕ) → names_fit (modules p) names ≡ true → found ≡ numbers_of p → Fit p names found
+  arranging_fit names found n e = record {
+    modules = record { normals = refl; sensitives = ok.sizes.sensitive; rising = ok.rises.record_module };
+    few = ok.sizes.normal;
+    named = n;
+    numbered = ap length e ∙ numbers-length;
+    chunked = members-fit;
+    inside = ok.values.member;
+  }
 
   -- the members as they are read: as many, and each a module
   pub read-size : (names : List ℕ) → length (members_read p names) ≡ length p.member

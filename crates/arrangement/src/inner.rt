@@ -1,15 +1,15 @@
 // For crates above, on tested tables and names.
 ghost use Rattle.std.specs.Prelude.{◌≡◌, ◌≤◌, true, length};
-ghost use Rattle.tables.specs.Readings.{modules};
+ghost use Rattle.tables.specs.Readings.{modules, chunks};
 ghost use Rattle.names.specs.Names.{names_fit};
 ghost use Rattle.merge_sort.specs.inner.Held.{key_at};
-ghost use Rattle.sort_modules.specs.OfProject.{numbers_of};
+ghost use Rattle.module_keys.specs.Keys.{key_of};
 ghost use Rattle.arrangement.specs.Arrangement.{arranged};
 ghost use Rattle.refusal.specs.Reading.{ReadAs};
 ghost use Rattle.arrangement.specs.OfProject.{arranged_of, as_named};
-ghost use Rattle.arrangement.specs.inner.Rows.{Members};
+ghost use Rattle.arrangement.specs.inner.Rows.{Members, Fit};
 
-use current_columns::inner::{Current, ReadSpace};
+use current_columns::inner::{Columns, Current, ReadSpace};
 use merge_sort::inner::Keys;
 use module_keys::inner::find_keys;
 use refusal::read_tested;
@@ -32,25 +32,25 @@ fn sort_chunks(keys: &Keys, member_chunk: &[u32], members: &mut [u32], chunks: u
     }
 }
 
-// The members of a table, arranged by these numbers, a place a member row.
-#[tactic(auto, unfolding(current_columns::specs::AsProject::project))]
-fn arrange_table(current: &Current, names: &[u8], numbers: &[u32], out: &mut [u32])
-    requires places { length out.old ≡ length current.now.member }
-    requires named { names_fit (modules current.now) names.now ≡ true }
-    requires numbered { numbers.now ≡ numbers_of current.now }
-    ensures { out.new ≡ arranged_of current.now names.now }
+// Arranges the members of each chunk, a place a member row.
+#[tactic(auto, using(crate::proofs::OfProject::keys_arranged), unfolding(current_columns::specs::AsProject::project))]
+fn arrange(columns: &Columns, names: &[u8], numbers: &[u32], out: &mut [u32])
+    requires fit { Fit columns.now names.now numbers.now }
+    requires places { length out.old ≡ length columns.now.member }
+    ensures { out.new ≡ arranged (key_of names.now columns.now.normal columns.now.record_module columns.now.sensitive numbers.now) (chunks columns.now) columns.now.member_chunk columns.now.member }
 {
-    let modules = current.modules();
+    let modules = columns.normal.len();
     let mut groups = [0u32; MODULE_LIMIT];
     let groups = &mut groups[..modules];
     let mut places = [0usize; MODULE_LIMIT];
     let places = &mut places[..modules];
-    let keys = find_keys(current, names, numbers, groups, places);
-    out.copy_from_slice(current.member);
-    sort_chunks(&keys, current.member_chunk, out, current.chunks());
+    let keys = find_keys(columns, names, numbers, groups, places);
+    out.copy_from_slice(columns.member);
+    sort_chunks(&keys, columns.member_chunk, out, columns.order.len());
 }
 
 // The members of a table that has names, arranged, a place a member row.
+#[tactic(auto, using(crate::proofs::OfProject::arranging_fit), unfolding(crate::specs::OfProject::arranged_of, crate::specs::OfProject::key_in))]
 pub fn arrange_members(current: &Current, names: &[u8], out: &mut [u32])
     requires places { length out.old ≡ length current.now.member }
     requires named { names_fit (modules current.now) names.now ≡ true }
@@ -64,7 +64,7 @@ pub fn arrange_members(current: &Current, names: &[u8], out: &mut [u32])
     let mut sorted = [0u32; MODULE_LIMIT];
     let sorted = &mut sorted[..modules];
     sort_table(current, marks, numbers, sorted);
-    arrange_table(current, names, numbers, out);
+    arrange(current.columns(), names, numbers, out);
 }
 
 // Tests a table with its names, and gives it as it is read, its members arranged if it has names.
@@ -80,8 +80,8 @@ pub fn read_named<'a, 't: 'a>(
     if table.names.len() == 0 {
         return Ok(current);
     }
-    let rows = current.member.len();
-    let members = &mut arranged[..rows];
+    let columns = current.columns();
+    let members = &mut arranged[..columns.member.len()];
     arrange_members(&current, table.names, members);
     Ok(current.with_members(members))
 }

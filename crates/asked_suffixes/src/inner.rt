@@ -10,41 +10,41 @@ ghost use Rattle.asked_suffixes.specs.inner.Asked.{InSome, SuffixesAdded};
 
 use expected_order::inner::find_expected;
 use marks::inner::add;
-use rule_sets::inner::RuleSets;
+use rule_sets::inner::RootSets;
 use suffix_rule::inner::mark_suffix;
 use table::MODULE_LIMIT;
 
 // Marks the suffix of the expected order of a module row of a table.
-fn mark_entry(sets: &RuleSets, plan: &[u32], asked: &mut [u32], root: u32)
-    requires plan { length plan.now ≡ modules sets.now }
-    requires size { length asked.old ≡ modules sets.now }
-    requires root { root < modules sets.now }
-    ensures { Joined (InSuffix (expected_of sets.now root) (sensitive_marks sets.now) plan.now) asked.old asked.new }
+fn mark_entry(rooted: &RootSets, plan: &[u32], asked: &mut [u32], root: u32)
+    requires plan { length plan.now ≡ modules rooted.now }
+    requires size { length asked.old ≡ modules rooted.now }
+    requires root { root < modules rooted.now }
+    ensures { Joined (InSuffix (expected_of rooted.now root) (sensitive_marks rooted.now) plan.now) asked.old asked.new }
 {
     let mut order = [0u32; MODULE_LIMIT];
-    let order = find_expected(sets.current, &mut order, root);
-    mark_suffix(order, sets.sensitive, plan, asked);
+    let order = find_expected(rooted.current, &mut order, root);
+    mark_suffix(order, rooted.sensitive, plan, asked);
 }
 
 // The same for each root, all by the plan as it is.
-fn mark_entries(sets: &RuleSets, plan: &[u32], asked: &mut [u32])
-    requires plan { length plan.now ≡ modules sets.now }
-    requires size { length asked.old ≡ modules sets.now }
-    ensures { Joined (InSome sets.now (roots sets.now) (sensitive_marks sets.now) plan.now) asked.old asked.new }
+fn mark_entries(rooted: &RootSets, plan: &[u32], asked: &mut [u32])
+    requires plan { length plan.now ≡ modules rooted.now }
+    requires size { length asked.old ≡ modules rooted.now }
+    ensures { Joined (InSome rooted.now (roots rooted.now) (sensitive_marks rooted.now) plan.now) asked.old asked.new }
 {
-    for &root in sets.roots {
-        mark_entry(sets, plan, asked, root);
+    for &root in rooted.roots {
+        mark_entry(rooted, plan, asked, root);
     }
 }
 
 // Adds what rule (i) asks for with a plan to a copy of it. Whether any module was new.
-pub fn add_suffixes(sets: &RuleSets, plan: &[u32], copy: &mut [u32]) -> bool
-    requires plan { Marked sets.now plan.now }
+pub fn add_suffixes(rooted: &RootSets, plan: &[u32], copy: &mut [u32]) -> bool
+    requires plan { Marked rooted.now plan.now }
     requires copy { copy.old ≡ plan.now }
-    ensures { SuffixesAdded sets.now plan.now copy.new result }
+    ensures { SuffixesAdded rooted.now plan.now copy.new result }
 {
     let mut asked = [0u32; MODULE_LIMIT];
-    let asked = &mut asked[..sets.current.modules()];
-    mark_entries(sets, plan, asked);
-    add(asked, sets.eligible, sets.eligible, copy)
+    let asked = &mut asked[..rooted.current.modules()];
+    mark_entries(rooted, plan, asked);
+    add(asked, rooted.eligible, rooted.eligible, copy)
 }

@@ -5,6 +5,7 @@ ghost use Rattle.visit_columns.specs.inner.OverTable.{Prepared};
 ghost use Rattle.tables.specs.Readings.{modules};
 ghost use Rattle.entry_run.specs.Actual.{actual_of, hosts_of};
 ghost use Rattle.chunk_cycles.specs.Cycles.{labels_of, reaches_cycle_of};
+ghost use Rattle.chunk_cycles.specs.inner.OverTable.{Reaching};
 ghost use Rattle.sensitivity.specs.Marks.{sensitive};
 ghost use Rattle.eligibility.specs.Eligible.{eligible, eligible_marks};
 ghost use Rattle.risk_of_orders.specs.Risk.{order_risk, cycle_risk};
@@ -15,6 +16,7 @@ ghost use Rattle.at_risk.specs.inner.OverTable.{Placed};
 use crate::module_sets::ModuleSets;
 use analysed_entries::inner::AnalysedEntry;
 use chunk_cycles::inner::reaches_table;
+use current_columns::inner::Current;
 use entry_run::inner::list_actual;
 use expected_order::inner::find_expected;
 use risk_of_orders::inner::{RiskColumns, add_cycle_risk, add_order_risk};
@@ -48,18 +50,19 @@ pub fn add_entry_order_risk(
 
 // Adds the cycle risk of an entry whose expected order is given to a set, by the chunks' labels.
 pub fn add_entry_cycle_risk(
-    entry: &AnalysedEntry,
+    current: &Current,
     labels: &[u32],
     eligibles: &[u32],
     expected: &[u32],
     out: &mut [u32],
+    chunk: u32,
 )
-    requires labels { labels.now ≡ labels_of entry.now.current.now }
-    requires eligibles { eligibles.now ≡ eligible_marks entry.now.current.now }
-    requires placed { Placed entry.now.current.now expected.now (length out.old) }
-    ensures { out.new ≡ join out.old (cycle_risk (eligible entry.now.current.now) expected.now (reaches_cycle_of entry.now.current.now entry.now.chunk)) }
+    requires labels { Reaching current.now labels.now chunk }
+    requires eligibles { eligibles.now ≡ eligible_marks current.now }
+    requires placed { Placed current.now expected.now (length out.old) }
+    ensures { out.new ≡ join out.old (cycle_risk (eligible current.now) expected.now (reaches_cycle_of current.now chunk)) }
 {
-    let reaches_cycle = reaches_table(entry.current, labels, entry.chunk);
+    let reaches_cycle = reaches_table(current, labels, chunk);
     add_cycle_risk(expected, eligibles, out, reaches_cycle);
 }
 
@@ -81,5 +84,12 @@ pub fn add_entry_risk(
     let mut expected = [0u32; MODULE_LIMIT];
     let expected = find_expected(entry.current, &mut expected, entry.root);
     add_entry_order_risk(entry, columns, sets, expected, out);
-    add_entry_cycle_risk(entry, labels, sets.eligible, expected, out);
+    add_entry_cycle_risk(
+        entry.current,
+        labels,
+        sets.eligible,
+        expected,
+        out,
+        entry.chunk,
+    );
 }

@@ -3,7 +3,7 @@ ghost use Rattle.std.specs.Prelude.{◌≡◌};
 ghost use Rattle.at_risk.specs.inner.OverTable.{Sets};
 
 use current_columns::inner::Current;
-use eligibility::inner::mark_table_eligible;
+use eligibility::of_table::mark_table_eligible;
 use sensitivity::inner::mark_table_sensitive;
 use table::MODULE_LIMIT;
 
@@ -30,7 +30,7 @@ pub struct ModuleSets<'a, 'c> {
     pub ghost sets: { Sets current.now sensitive.now eligible.now },
 }
 
-// Makes them of a table. `rule_sets::read_sets` makes the same two beside all that the rules read, in its own room.
+// Makes them of a table. `rule_sets::read_labels` makes the same two beside the labels, in its own room: one value of both kept the arrays of both in the deepest call.
 pub fn read_module_sets<'a, 'c>(
     current: &'a Current<'c>,
     space: &'a mut SetSpace,

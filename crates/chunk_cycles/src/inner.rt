@@ -53,7 +53,8 @@ pub fn label_table(current: &Current, labels: &mut [u32]) -> usize
     requires places { length labels.old ≡ chunks current.now }
     ensures { TableLabelled current.now labels.new result }
 {
-    label_chunks(current.import_chunk, current.imports, labels)
+    let columns = current.columns();
+    label_chunks(columns.import_chunk, columns.imports, labels)
 }
 
 // Whether a chunk of a table reaches a cyclic one, itself counted, by the chunks' labels.
@@ -61,5 +62,6 @@ pub fn reaches_table(current: &Current, labels: &[u32], chunk: u32) -> bool
     requires labels { Reaching current.now labels.now chunk }
     ensures { result ≡ reaches_cycle_of current.now chunk }
 {
-    reaches_cyclic(current.import_chunk, current.imports, labels, chunk)
+    let columns = current.columns();
+    reaches_cyclic(columns.import_chunk, columns.imports, labels, chunk)
 }

@@ -16,10 +16,11 @@ use Rattle.lists.proofs.Laws.{both, mem-elem, keep-none, mem-up_to, mem-count_fr
 use Rattle.lists.proofs.Members.{mem-flat}
 use Rattle.tables.specs.Project.{Project, missing}
 use Rattle.tables.specs.Lookups.{FirstRows}
-use Rattle.tables.specs.Accepted.{Below, Accepted}
+use Rattle.tables.specs.Accepted.{Below}
 use Rattle.tables.specs.Readings.{modules, rows_of}
 use Rattle.tables.specs.Refusal as refusal
 use Rattle.tables.proofs.Rows.{rows-of-run, run-ordered}
+use Rattle.sort_visit.specs.Visit.{Fit}
 use Rattle.sort_steps.proofs.Rows.{unless-missing, unless-one}
 use Rattle.sort_steps.specs.Steps.{unless_missing}
 use Rattle.circle_search.specs.inner.Search.{once_after, once}
@@ -81,14 +82,14 @@ pub record Led (record_module starts led : List ℕ) (n : ℕ) (targets : ℕ �
   pub same : length led ≡ length record_module
 
 -- as they stand in the parts that are lent
-pub led-in_parts : {p : Project} → Accepted p → {starts led : List ℕ} {targets : ℕ → List ℕ} → FirstRows p.record_module starts → length starts ≡ length {A = ℕ} (take (modules p + 1) (replicate 4097 0))
+pub led-in_parts : {p : Project} → Fit p (modules p) → Below (modules p) p.record_module → {starts led : List ℕ} {targets : ℕ → List ℕ} → FirstRows p.record_module starts → length starts ≡ length {A = ℕ} (take (modules p + 1) (replicate 4097 0))
     → LedOnce p.record_module targets (modules p) led → length led ≡ length {A = ℕ} (take (length p.record_module) (replicate 16384 0)) → Led p.record_module starts led (modules p) targets
-led-in_parts {p} ok firsts size once_led same = record {
+led-in_parts {p} fit inside firsts size once_led same = record {
   firsts = firsts;
-  size = size ∙ length-take-le (modules p + 1) (replicate 4097 0) (omega (arith, ok.sizes.normal));
-  inside = ok.values.record_module;
+  size = size ∙ length-take-le (modules p + 1) (replicate 4097 0) (omega (arith, fit.few));
+  inside = inside;
   once_led = once_led;
-  same = same ∙ length-take-le (length p.record_module) (replicate 16384 0) ok.sizes.record_module;
+  same = same ∙ length-take-le (length p.record_module) (replicate 16384 0) fit.rows;
 }
 
 module _ {record_module starts led : List ℕ} {n : ℕ} {targets : ℕ → List ℕ} (l : Led record_module starts led n targets) where

@@ -1,4 +1,4 @@
--- Rule (ii) at a project: the pass over its columns adds just what the rule asks for.
+-- Rule (ii) at a project: its sets fit, and the pass over its columns adds just what the rule asks for.
 -- Assumes nothing.
 use Rattle.std.specs.Prelude.{◌≡◌, ℕ, ◌<◌, Bool, true, not, eqb, List, length, get_or}
 use mathlib.Core.Path.{sym, ap, subst, ◌∙◌}
@@ -8,27 +8,38 @@ use native.Mathlib.Decide.{dec_lt}
 use lib.ListN.{get_or-eq_default}
 use borrow.Author.Tests.{eq-eqb, ne_eqb, eqb-true, eqb-false}
 use Rattle.lists.specs.Words.{has}
-use Rattle.lists.proofs.Laws.{both, not-true, and_parts, and-join, get_d-in, get_d-map-up_to}
+use Rattle.lists.proofs.Laws.{both, not-true, and_parts, and-join, length-marks_of, get_d-in, get_d-map-up_to}
 use Rattle.tables.specs.Project.{Project, missing}
-use Rattle.tables.specs.Readings.{chunks}
+use Rattle.tables.specs.Readings.{modules, chunks}
 use Rattle.tables.specs.Accepted.{Accepted}
-use Rattle.strong_connection.specs.inner.Graph.{EdgeColumns}
 use Rattle.strong_connection.specs.Cycles.{label, labels, cyclic}
 use Rattle.chunk_cycles.specs.Cycles.{imported_by, labels_of}
 use Rattle.strong_connection.proofs.Rows.{graph-inside}
 use Rattle.strong_connection.proofs.Strong.{lowest-in, label-cyclic, label-none}
 use Rattle.chunk_cycles.proofs.OverTable.{accepted-fit, length-labels}
 use Rattle.sensitivity.specs.Marks.{sensitive, sensitive_marks}
+use Rattle.sensitivity.proofs.Marks.{length-grounds}
 use Rattle.eligibility.specs.Eligible.{eligible, eligible_marks}
 use Rattle.marks.specs.Steps.{Added}
 use Rattle.marks.proofs.Steps.{added-cong}
 use Rattle.wrap_rules.specs.Rules.{component_asks}
 use Rattle.wrap_rules.proofs.Rows.{component-asks, component-rows}
 use Rattle.wrap_rules.proofs.Sets.{sensitive-has, eligible-has}
-use Rattle.rule_sets.specs.inner.Sets.{Sets}
-use Rattle.component_rule.specs.inner.Members.{Together, ComponentPassed}
+use Rattle.component_rule.specs.inner.Members.{Together, Members, ComponentPassed}
 
 module _ (p : Project) (ok : Accepted p) where
+  pub members-fit : Members p (labels_of p) (sensitive_marks p) (eligible_marks p) (modules p)
+  members-fit = record {
+    few = ok.sizes.normal;
+    chunks = ok.sizes.chunk;
+    rows = sym ok.sizes.member;
+    inside = λ i l. omega (arith, ok.values.member_chunk i l, length-labels p);
+    members = ok.values.member;
+    few_labels = omega (arith, length-labels p, ok.sizes.order);
+    sensitives = length-grounds p;
+    eligibles = length-marks_of (eligible p) (modules p);
+  }
+
   -- a label that is not the mark is a chunk row
   label-below : (c : ℕ) → (get_or (labels_of p) c missing ≡ missing → ⊥) → get_or (labels_of p) c missing < length (labels_of p)
   unfolding labels_of labels
@@ -53,8 +64,8 @@ module _ (p : Project) (ok : Accepted p) where
   Joining s m = Together p.chunk p.member_chunk p.member (labels_of p) s m × (has (sensitive_marks p) m ≡ true) × (has (eligible_marks p) m ≡ true)
 
   module _ (s : List ℕ) where
-    joined : {t : List ℕ} {r : Bool} → Added (Joining s) s t r → ComponentPassed p s t r
-    joined = added-cong (Joining s) (λ (m : ℕ). asks_of s m ≡ true) back there
+    pub component-pass : {t : List ℕ} {r : Bool} → Added (Joining s) s t r → ComponentPassed p s t r
+    component-pass = added-cong (Joining s) (λ (m : ℕ). asks_of s m ≡ true) back there
       where
         there : (m : ℕ) → Joining s m → asks_of s m ≡ true
         there m (h, q, g) =
@@ -90,7 +101,3 @@ module _ (p : Project) (ok : Accepted p) where
               sensitive-has p m ∙ h.0,
               eligible-has p m ∙ h.1,
             )
-
-    pub component-pass : {labels roots sensitives eligibles candidates : List ℕ} {imports : EdgeColumns} → Sets p labels roots sensitives eligibles candidates imports → {t : List ℕ} {r : Bool}
-        → Added (λ (m : ℕ). Together p.chunk p.member_chunk p.member labels s m × (has sensitives m ≡ true) × (has eligibles m ≡ true)) s t r → ComponentPassed p s t r
-    component-pass g h = joined (rw (g.label, g.sensitive_set, g.eligible_set) at h)

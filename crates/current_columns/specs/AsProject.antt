@@ -1,7 +1,7 @@
--- The project that a tested table is, as it is read.
+-- The project that a table's settings and columns are.
 -- Assumes nothing.
 use Rattle.tables.specs.Project.{Project}
-use Rattle.current_columns.specs.declared.inner.Current.TheInside.{Inside}
+use Rattle.current_columns.specs.declared.inner.Columns.TheInside.{Inside}
 
 -- its settings, and its columns
 unfoldable pub project : Inside → Project

@@ -1,2 +1,4 @@
--- A tested table, as it is read.
+-- A table's settings and columns.
 pub mod AsProject
+-- A table that passed the tests.
+pub mod Tested

@@ -32,9 +32,9 @@ impl ReadSpace {
     };
 }
 
-// A table that passed the tests, as it is read: record targets and dependencies through `newer`, all else as it was lent. Contracts see the project that it is.
+// The settings and columns of a table. Contracts see them as a project, and nothing is asked of it.
 #[derive(Drop)]
-pub struct Current<'a> {
+pub struct Columns<'a> {
     pub runtime: u32,
     pub dynamic: u32,
     pub normal: &'a [u32],
@@ -73,20 +73,44 @@ pub struct Current<'a> {
     pub seed: &'a [u32],
 }
 
+impl<'a> Model for Columns<'a> {
+    ghost use Rattle.tables.specs.Project.{Project};
+
+    ghost Value = { Project };
+
+    ghost use Rattle.current_columns.specs.AsProject.{project};
+
+    ghost view = { project };
+}
+
+// A table that passed the tests, as it is read: record targets and dependencies through `newer`, all else as it was lent. Contracts see the project that it is.
+// The field is open, so that the columns of any accepted project can be lent as one.
+#[derive(Drop)]
+pub struct Current<'a> {
+    pub columns: Columns<'a>,
+}
+
 impl<'a> Model for Current<'a> {
     ghost use Rattle.tables.specs.Project.{Project};
 
     ghost Value = { Project };
 
-    ghost use Rattle.tables.specs.Accepted.{Accepted};
-    ghost use Rattle.current_columns.specs.AsProject.{project};
+    ghost use Rattle.current_columns.specs.Tested.{tested, IsAccepted};
 
-    ghost view = { project };
+    ghost view = { tested };
 
-    ghost invariant = { λ c. Accepted (project c) };
+    ghost invariant = { IsAccepted };
 }
 
 impl<'a> Current<'a> {
+    // Its settings and columns.
+    pub fn columns(&self) -> &Columns<'a>
+        ensures same { result.now ≡ self.now }
+        ensures accepted { Accepted self.now }
+    {
+        &self.columns
+    }
+
     // How many modules there are.
     #[tactic(auto, unfolding(crate::specs::AsProject::project))]
     pub fn modules(&self) -> usize
@@ -94,7 +118,7 @@ impl<'a> Current<'a> {
         ensures few { result ≤ module_limit }
         ensures accepted { Accepted self.now }
     {
-        self.normal.len()
+        self.columns.normal.len()
     }
 
     // How many chunks there are.
@@ -104,7 +128,7 @@ impl<'a> Current<'a> {
         ensures few { result ≤ chunk_limit }
         ensures accepted { Accepted self.now }
     {
-        self.order.len()
+        self.columns.order.len()
     }
 
     // The same with other members.
@@ -115,7 +139,12 @@ impl<'a> Current<'a> {
         requires { Accepted (record self.now { member = member.now }) }
         ensures { result ≡ record self.now { member = member.now } }
     {
-        Current { member, ..*self }
+        Current {
+            columns: Columns {
+                member,
+                ..self.columns
+            },
+        }
     }
 }
 
@@ -137,11 +166,10 @@ fn read_column<'a>(
 
 // The table as it is written: record targets and dependencies too as they were lent.
 #[tactic(auto, unfolding(table::specs::Table::table, table::specs::Table::read, crate::specs::AsProject::project))]
-fn as_written<'t>(table: &Table<'t>) -> Current<'t>
-    requires { Accepted (written table.now) }
+fn as_written<'t>(table: &Table<'t>) -> Columns<'t>
     ensures { result ≡ written table.now }
 {
-    Current {
+    Columns {
         runtime: table.runtime,
         dynamic: table.dynamic,
         normal: table.column(NORMAL),
@@ -198,8 +226,10 @@ pub fn read_table<'a, 't: 'a>(table: &Table<'t>, space: &'a mut ReadSpace) -> Cu
         dependencies,
     } = space;
     Current {
-        record_target: read_column(newer, found, written.record_target, targets),
-        dependency: read_column(newer, found, written.dependency, dependencies),
-        ..written
+        columns: Columns {
+            record_target: read_column(newer, found, written.record_target, targets),
+            dependency: read_column(newer, found, written.dependency, dependencies),
+            ..written
+        },
     }
 }

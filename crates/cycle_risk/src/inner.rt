@@ -9,7 +9,7 @@ ghost use Rattle.at_risk.specs.inner.OverTable.{Marked};
 use analysed_entries::inner::AnalysedEntry;
 use at_risk::inner::add_entry_cycle_risk;
 use chunk_cycles::inner::label_table;
-use eligibility::inner::mark_table_eligible;
+use eligibility::of_table::mark_table_eligible;
 use expected_order::inner::find_expected;
 use lists::inner::{count_marked, fill};
 use table::{CHUNK_LIMIT, MODULE_LIMIT};
@@ -26,7 +26,7 @@ fn add_marked_cycle_risk(entry: &AnalysedEntry, eligibles: &[u32], out: &mut [u3
     let mut labels = [0u32; CHUNK_LIMIT];
     let labels = &mut labels[..current.chunks()];
     label_table(current, labels);
-    add_entry_cycle_risk(entry, labels, eligibles, expected, out);
+    add_entry_cycle_risk(current, labels, eligibles, expected, out, entry.chunk);
 }
 
 // The cycle risk of an entry, as marks. How many are marked.

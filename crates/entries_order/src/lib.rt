@@ -27,6 +27,6 @@ pub fn entries_order(table: &Table, entries: &[u32], order: &mut [u32]) -> Resul
     if order.len() < modules {
         return Err(Refusal::ShortSlice);
     }
-    let count = list_entries(&current, entries, order);
+    let count = list_entries(current.columns(), entries, order);
     Ok(count)
 }

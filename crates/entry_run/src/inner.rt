@@ -77,12 +77,13 @@ pub fn list_prepared(
     ensures { ListedAs entry.now.current.now columns.now entry.now.root order.old order.new hosts.new result }
 {
     let current = entry.current;
-    let chunks = current.order.len();
+    let read = current.columns();
+    let chunks = read.order.len();
     actual_order_for_root(
         columns.ways,
         columns.starts,
         columns.triggers,
-        current.member,
+        read.member,
         columns.member_starts,
         columns.load_starts,
         columns.loads,

@@ -1,30 +1,32 @@
-// For crates above, on tested tables.
+// For crates above: the list over columns that fit, and the one of a tested table.
 ghost use Rattle.std.specs.Prelude.{◌≡◌, ◌<◌, ◌≤◌, length};
 ghost use Rattle.tables.specs.Readings.{modules};
 ghost use Rattle.tables.specs.Refusal.{module_limit};
 ghost use Rattle.tables.specs.Accepted.{Below};
+ghost use Rattle.expected_visit.specs.Visit.{Fit};
 ghost use Rattle.expected_order.specs.OfProject.{expected_of};
 ghost use Rattle.expected_order.specs.Visit.{Listed, Rooted};
 
-use current_columns::inner::Current;
+use current_columns::inner::{Columns, Current};
 use expected_visit::inner::visit;
 use table::MODULE_LIMIT;
 use tables::inner::first_rows;
 
-// The expected order of a row of an accepted project. `marks` is working space, a place a module.
+// The expected order of a row. `marks` is working space, a place a module.
 #[tactic(auto, using(crate::proofs::Entries::blank_room), unfolding(current_columns::specs::AsProject::project))]
-pub fn list_expected(current: &Current, marks: &mut [u32], order: &mut [u32], root: u32) -> usize
-    requires rooted { Rooted current.now root (length marks.old) (length order.old) }
-    ensures { Listed (expected_of current.now root) marks.old order.old marks.new order.new result }
+pub fn list_expected(columns: &Columns, marks: &mut [u32], order: &mut [u32], root: u32) -> usize
+    requires fit { Fit columns.now (modules columns.now) }
+    requires rooted { Rooted columns.now root (length marks.old) (length order.old) }
+    ensures { Listed (expected_of columns.now root) marks.old order.old marks.new order.new result }
 {
     marks.fill(0);
-    if current.normal[root as usize] != 1 {
+    if columns.normal[root as usize] != 1 {
         return 0;
     }
     let mut starts = [0u32; MODULE_LIMIT + 1];
     let starts = &mut starts[..marks.len() + 1];
-    first_rows(current.record_module, starts);
-    let count = visit(current, starts, marks, order, root, 0);
+    first_rows(columns.record_module, starts);
+    let count = visit(columns, starts, marks, order, root, 0);
     marks.fill(0);
     count
 }
@@ -42,6 +44,6 @@ pub fn find_expected<'a>(
 {
     let n = current.modules();
     let mut marks = [0u32; MODULE_LIMIT];
-    let count = list_expected(current, &mut marks[..n], order, root);
+    let count = list_expected(current.columns(), &mut marks[..n], order, root);
     &order[..count]
 }

@@ -26,6 +26,6 @@ pub fn expected_order(table: &Table, root: u32, expected: &mut [u32]) -> Result<
         return Err(Refusal::ShortSlice);
     }
     let mut marks = [0u32; MODULE_LIMIT];
-    let count = list_expected(&current, &mut marks[..modules], expected, root);
+    let count = list_expected(current.columns(), &mut marks[..modules], expected, root);
     Ok(count)
 }

@@ -1,9 +1,21 @@
--- What the visit follows, and the state of its walk.
+-- What the visit asks, what it follows, and the state of its walk.
 -- Assumes nothing.
-use Rattle.std.specs.Prelude.{ℕ, List}
+use Rattle.std.specs.Prelude.{◌≡◌, ℕ, ◌≤◌, List, length}
 use Rattle.walk.specs.Walk.{St, Placed}
 use Rattle.tables.specs.Project.{Project}
-use Rattle.tables.specs.Readings.{is_import, normal_target, targets_of}
+use Rattle.tables.specs.Readings.{modules, is_import, normal_target, targets_of}
+use Rattle.tables.specs.Lookups.{Rising}
+use Rattle.tables.specs.Refusal.{module_limit, row_limit}
+
+-- the columns fit each other and the limits: n modules, and records in module order
+pub record Fit (p : Project) (n : ℕ) : Type 0 where
+  pub normals : modules p ≡ n
+  pub includeds : length p.included ≡ n
+  pub kinds : length p.record_kind ≡ length p.record_module
+  pub targets : length p.record_target ≡ length p.record_module
+  pub rising : Rising p.record_module
+  pub few : n ≤ module_limit
+  pub rows : length p.record_module ≤ row_limit
 
 -- the walk is "over kind 0 and normal targets", in a project
 abbrev pub normal_imports : Project → ℕ → List ℕ

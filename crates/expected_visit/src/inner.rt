@@ -1,12 +1,12 @@
-// For crates above, on tested tables.
-ghost use Rattle.std.specs.Prelude.{◌≡◌, ◌+◌, ◌<◌, ◌≤◌, [], ◌∷◌, length};
+// For crates above, on columns that fit.
+ghost use Rattle.std.specs.Prelude.{◌+◌, ◌<◌, ◌≤◌, [], ◌∷◌, length};
 ghost use Rattle.lists.specs.Words.{zeros};
 ghost use Rattle.walk.specs.Walk.{Visits, place, everywhere};
 ghost use Rattle.tables.specs.Lookups.{FirstRows};
-ghost use Rattle.tables.specs.Readings.{modules, flagged};
-ghost use Rattle.expected_visit.specs.Visit.{normal_imports, held};
+ghost use Rattle.tables.specs.Readings.{flagged};
+ghost use Rattle.expected_visit.specs.Visit.{Fit, normal_imports, held};
 
-use current_columns::inner::Current;
+use current_columns::inner::Columns;
 use tables::Target;
 use tables::inner::resolve;
 
@@ -15,19 +15,19 @@ use tables::inner::resolve;
 // The order goes on with its count: tried as a value over the slice, and what `list_expected` then leaves in the slice wasn't proved.
 #[tactic(auto, using(crate::proofs::Walking::walking_steps), unfolding(current_columns::specs::AsProject::project))]
 pub fn visit(
-    current: &Current,
+    columns: &Columns,
     starts: &[u32],
     marks: &mut [u32],
     order: &mut [u32],
     m: u32,
     placed: usize,
 ) -> usize
-    requires modules { length marks.old ≡ modules current.now }
-    requires starts { FirstRows current.now.record_module starts.now }
+    requires fit { Fit columns.now (length marks.old) }
+    requires starts { FirstRows columns.now.record_module starts.now }
     requires places { length marks.old < length starts.now }
     requires module { m < length marks.old }
     requires room { placed + zeros marks.old ≤ length order.old }
-    ensures { Visits (normal_imports current.now) everywhere (place (flagged current.now.included)) (held marks.old order.old placed) (m ∷ []) (held marks.new order.new result) }
+    ensures { Visits (normal_imports columns.now) everywhere (place (flagged columns.now.included)) (held marks.old order.old placed) (m ∷ []) (held marks.new order.new result) }
 {
     let at = m as usize;
     if marks[at] != 0 {
@@ -39,19 +39,19 @@ pub fn visit(
     let mut count = placed;
     // by number: a row's target is looked up by it
     for row in start..end {
-        if current.record_kind[row] != 0 {
+        if columns.record_kind[row] != 0 {
             continue;
         }
-        let found = resolve(current.normal, current.record_target, row);
+        let found = resolve(columns.normal, columns.record_target, row);
         let Target::Normal(t) = found else {
             continue;
         };
         if marks[t as usize] != 0 {
             continue;
         }
-        count = visit(current, starts, marks, order, t, count);
+        count = visit(columns, starts, marks, order, t, count);
     }
-    if current.included[at] == 1 {
+    if columns.included[at] == 1 {
         order[count] = m;
         count += 1;
     }

@@ -13,7 +13,7 @@ pub const NAMES: u32 = 10000;
 pub const NAME_BYTES: usize = 255;
 
 // What is known of an input: how many lines may still come, how many bytes the line at hand has so far (256 stands for any greater count),
-// whether one of them is 0, and whether a byte followed the last line that may come.
+// whether one of them is 0, and whether a byte followed the last line that may come. The last is no Option of `left`: both are 0 and false at the end of a full input too.
 #[derive(Clone, Copy)]
 pub struct Names {
     pub left: u32,

@@ -21,5 +21,5 @@ pub fn import_circles(
 {
     let mut space = ReadSpace::EMPTY;
     let current = read_tested(table, &mut space)?;
-    gather_circles(&current, paths, lengths)
+    gather_circles(current.columns(), paths, lengths)
 }

@@ -1,26 +1,28 @@
-// For crates above, on tested tables.
-ghost use Rattle.std.specs.Prelude.{◌≤◌, length};
+// For crates above, on columns that fit and on graphs.
+ghost use Rattle.std.specs.Prelude.{◌≡◌, ◌≤◌, length};
 ghost use Rattle.import_edges.specs.inner.Spread.{EdgesOf, Spreads, Spreadable};
 
-use current_columns::inner::Current;
+use current_columns::inner::Columns;
 use strong_connection::inner::{Digraph, visit};
 use tables::Target;
 use tables::inner::resolve;
 
-// Writes the importer and the target of each kind 0 record of a table that has a target. How many there are: counted beside the slices, since zipped with their
+// Writes the importer and the target of each kind 0 record that has a target. How many there are: counted beside the slices, since zipped with their
 // places the records would be counted by a second pass.
 #[tactic(auto, using(crate::proofs::Edging::import_steps), unfolding(current_columns::specs::AsProject::project))]
-pub fn list_edges(current: &Current, from: &mut [u32], to: &mut [u32]) -> usize
-    requires from { length current.now.record_module ≤ length from.old }
-    requires to { length current.now.record_module ≤ length to.old }
-    ensures { EdgesOf current.now from.new to.new result }
+pub fn list_edges(columns: &Columns, from: &mut [u32], to: &mut [u32]) -> usize
+    requires kinds { length columns.now.record_kind ≡ length columns.now.record_module }
+    requires rows { length columns.now.record_target ≡ length columns.now.record_module }
+    requires from { length columns.now.record_module ≤ length from.old }
+    requires to { length columns.now.record_module ≤ length to.old }
+    ensures { EdgesOf columns.now from.new to.new result }
 {
     let mut count = 0;
-    for (row, &importer) in current.record_module.iter().enumerate() {
-        if current.record_kind[row] != 0 {
+    for (row, &importer) in columns.record_module.iter().enumerate() {
+        if columns.record_kind[row] != 0 {
             continue;
         }
-        let found = resolve(current.normal, current.record_target, row);
+        let found = resolve(columns.normal, columns.record_target, row);
         let (Target::External(target) | Target::Normal(target)) = found else {
             continue;
         };

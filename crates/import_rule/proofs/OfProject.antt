@@ -1,4 +1,4 @@
--- Rule (iii) at a project: the pass over its columns adds just what the rule asks for, and so does the one over the edges of its records.
+-- Rule (iii) at a project: its candidates fit, the pass over its columns adds just what the rule asks for, and so does the one over the edges of its records.
 -- Assumes nothing.
 use Rattle.std.specs.Prelude.{◌≡◌, ℕ, ◌<◌, ◌≤◌, Bool, true, List, length, get_or, take, replicate}
 use mathlib.Core.Path.{sym, subst, ◌∙◌}
@@ -10,7 +10,7 @@ use Rattle.walk.specs.Close.{Within}
 use Rattle.tables.specs.Project.{Project, missing}
 use Rattle.tables.specs.Readings.{modules}
 use Rattle.tables.specs.Accepted.{Accepted}
-use Rattle.strong_connection.specs.inner.Graph.{EdgeColumns}
+use Rattle.strong_connection.specs.inner.Graph.{EdgeColumns, Graph}
 use Rattle.eligibility.specs.Eligible.{eligible}
 use Rattle.marks.specs.Steps.{Added}
 use Rattle.marks.proofs.Parts.{part_none, part_length}
@@ -24,7 +24,7 @@ use Rattle.import_edges.specs.inner.Spread.{Along, Under, Spreads, Spreadable, r
 use Rattle.import_edges.proofs.Edging.{RowsIn, rows_back, edges-rows, rows-edges, along-rows, under-rows, spreads-rows, row-rows, length-targets}
 use Rattle.import_edges.proofs.OfProject.{target_row, row_target}
 use Rattle.rule_sets.specs.inner.Sets.{Edged}
-use Rattle.import_rule.specs.inner.Imports.{Importer, Leading, ImportPassed}
+use Rattle.import_rule.specs.inner.Imports.{Importer, Importing, Leading, ImportPassed}
 use Rattle.import_rule.proofs.Leads.{Backward, leads-in, in-leads}
 
 -- what leads to a plan leads to a larger one
@@ -46,6 +46,15 @@ blank-leading p k n plan fits e = record {
 }
 
 module _ (p : Project) (ok : Accepted p) where
+  pub importing-fit : {importers targets : List ℕ} → Graph targets importers (modules p) → Importing p targets (candidate_marks p) (modules p)
+  importing-fit g = record {
+    imported = g.froms;
+    dependencies = ok.sizes.dependency;
+    dependents = ok.values.dependency_module;
+    depended = λ i l. ok.values.dependency i l;
+    candidate = length-candidates p;
+  }
+
   -- closed along the records from target to owner, and closed backward, are the same
   along-backward : (L : List ℕ) → length L ≡ modules p → Along (record_targets p) p.record_module L → Backward p L
   unfolding Along Backward

@@ -16,8 +16,8 @@ use chunk_cycles::inner::label_table;
 use current_columns::inner::Current;
 use lists::inner::{count_marked, fill};
 use plan_rounds::inner::build_order_wrap_plan;
-use reached_modules::inner::list_table_roots;
-use rule_sets::inner::{RuleSpace, read_sets};
+use reached_modules::inner::list_roots;
+use rule_sets::inner::{LabelSpace, read_labels};
 use seeds::inner::mark_table_seeds;
 use table::{CHUNK_LIMIT, MODULE_LIMIT};
 use visit_columns::inner::{VisitColumns, VisitSpace, prepare_table};
@@ -59,7 +59,7 @@ fn mark_risks(current: &Current, out: &mut [u32])
     let mut visit_space = VisitSpace::EMPTY;
     let columns = prepare_table(current, &mut visit_space);
     let mut roots = [0u32; MODULE_LIMIT];
-    let count = list_table_roots(current, &mut roots);
+    let count = list_roots(current.columns(), &mut roots);
     fill(out, 0);
     add_risks(current, &roots[..count], &columns, labels, &sets, out);
 }
@@ -70,10 +70,10 @@ fn plan_risks(current: &Current, plan: &mut [u32])
     requires { plan.old ≡ marks_of (risks_of current.now) (modules current.now) }
     ensures { plan.new ≡ whole_plan current.now }
 {
-    let mut space = RuleSpace::EMPTY;
-    let sets = read_sets(current, &mut space);
-    mark_table_seeds(current, sets.eligible, plan);
-    build_order_wrap_plan(&sets, plan);
+    let mut space = LabelSpace::EMPTY;
+    let labelled = read_labels(current, &mut space);
+    mark_table_seeds(current, labelled.eligible, plan);
+    build_order_wrap_plan(&labelled, plan);
 }
 
 // The plan of the whole analysis, as marks. How many are marked.

@@ -11,7 +11,7 @@ use lists::inner::fill;
 use plan_conditions::Judgement;
 use plan_conditions::inner::{lowest_lacking, name_first};
 use rule_conditions::inner::{lacking_importer, lacking_member, lacking_reader, lacking_suffix};
-use rule_sets::inner::{RuleSpace, read_sets};
+use rule_sets::inner::{LabelSpace, RuleSpace, read_labels, read_sets};
 use seeds::inner::mark_seeds;
 use table::MODULE_LIMIT;
 
@@ -33,15 +33,17 @@ pub fn judge_plan(current: &Current, seeds: &[u32], plan: &[u32]) -> Judgement
     requires plan { Proposed current.now seeds.now plan.now }
     ensures { result ≡ judged current.now seeds.now plan.now }
 {
-    let mut space = RuleSpace::EMPTY;
-    let sets = read_sets(current, &mut space);
+    let mut label_space = LabelSpace::EMPTY;
+    let labelled = read_labels(current, &mut label_space);
+    let mut rule_space = RuleSpace::EMPTY;
+    let sets = read_sets(&labelled, &mut rule_space);
     let mut copy = [0u32; MODULE_LIMIT];
     let copy = &mut copy[..current.modules()];
-    let wrong = lowest_lacking(plan, sets.eligible);
-    let seed = lacking_seed(seeds, sets.eligible, plan, copy);
-    let suffix = lacking_suffix(&sets, plan, copy);
-    let member = lacking_member(&sets, plan, copy);
-    let importer = lacking_importer(&sets, plan, copy);
-    let reader = lacking_reader(&sets, plan, copy);
+    let wrong = lowest_lacking(plan, labelled.eligible);
+    let seed = lacking_seed(seeds, labelled.eligible, plan, copy);
+    let suffix = lacking_suffix(&sets.rooted, plan, copy);
+    let member = lacking_member(&labelled, plan, copy);
+    let importer = lacking_importer(&sets.reached, &sets.imports, plan, copy);
+    let reader = lacking_reader(&sets.reached, plan, copy);
     name_first(wrong, seed, suffix, member, importer, reader)
 }

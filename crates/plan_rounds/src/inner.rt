@@ -6,7 +6,7 @@ ghost use Rattle.plan_rounds.specs.inner.Rounds.{Kept, Once, closed};
 use component_rule::inner::pass_members;
 use import_rule::inner::pass_importers;
 use read_rule::inner::pass_readers;
-use rule_sets::inner::RuleSets;
+use rule_sets::inner::{LabelSets, RuleSets, RuleSpace, read_sets};
 use suffix_rule::inner::pass_suffixes;
 use table::{MODULE_LIMIT, ROW_LIMIT};
 
@@ -15,10 +15,10 @@ fn close_once(sets: &RuleSets, settled: &mut [u32], leads: &mut [u32], plan: &mu
     requires kept { Kept sets.now settled.old leads.old plan.old }
     ensures { Once sets.now plan.old settled.new leads.new plan.new result }
 {
-    let suffixes = pass_suffixes(sets, settled, plan);
-    let cyclic = pass_members(sets, plan);
-    let imports = pass_importers(sets, leads, plan);
-    let readers = pass_readers(sets, plan);
+    let suffixes = pass_suffixes(&sets.rooted, &sets.reached, settled, plan);
+    let cyclic = pass_members(&sets.labelled, plan);
+    let imports = pass_importers(&sets.reached, &sets.imports, leads, plan);
+    let readers = pass_readers(&sets.reached, plan);
     suffixes | (cyclic | (imports | readers))
 }
 
@@ -36,16 +36,20 @@ fn close_plan(sets: &RuleSets, settled: &mut [u32], leads: &mut [u32], plan: &mu
 }
 
 // Closes a plan under the four rules. `plan` has the marks to start from.
-pub fn build_order_wrap_plan(sets: &RuleSets, plan: &mut [u32])
-    requires { Marked sets.now plan.old }
-    ensures { plan.new ≡ closed sets.now plan.old }
+pub fn build_order_wrap_plan(labelled: &LabelSets, plan: &mut [u32])
+    requires { Marked labelled.now plan.old }
+    ensures { plan.new ≡ closed labelled.now plan.old }
 {
-    let current = sets.current;
-    let n = current.modules();
-    let rows = sets.roots.len();
+    let mut space = RuleSpace::EMPTY;
+    // the same sets, lent for as long as the space is
+    let labelled = LabelSets { ..*labelled };
+    let sets = read_sets(&labelled, &mut space);
+    let n = labelled.current.modules();
+    let rooted = &sets.rooted;
+    let rows = rooted.roots.len();
     let mut settled = [0u32; ROW_LIMIT];
     let settled = &mut settled[..rows];
     let mut leads = [0u32; MODULE_LIMIT];
     let leads = &mut leads[..n];
-    close_plan(sets, settled, leads, plan);
+    close_plan(&sets, settled, leads, plan);
 }

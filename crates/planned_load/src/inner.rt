@@ -26,9 +26,10 @@ fn prepare_planned<'a>(
     ensures { PreparedAs current.now (read_as_two plan.now current.now.wrap) result }
 {
     let modules = current.modules();
+    let columns = current.columns();
     let mut wraps = [0u32; MODULE_LIMIT];
     let wraps = &mut wraps[..modules];
-    read_as_two(plan, current.wrap, wraps);
+    read_as_two(plan, columns.wrap, wraps);
     prepare_wrapped(current, wraps, space)
 }
 

@@ -12,14 +12,11 @@ use Rattle.lists.specs.Words.{up_to, keep, has}
 use Rattle.lists.proofs.Laws.{and-join, and-out, keep_append, count_from-append, length-keep, length-count_from, front-more}
 use Rattle.tables.specs.Project.{Project, missing}
 use Rattle.tables.specs.Readings.{flagged, analysed_row, analysed}
-use Rattle.tables.specs.Refusal.{module_limit}
-use Rattle.tables.specs.Accepted.{Accepted}
 use Rattle.marks.specs.Steps.{looked, Owners}
 use Rattle.import_edges.specs.inner.Spread.{Spreads}
 use Rattle.wrap_rules.specs.Plan.{roots}
 use Rattle.reached_modules.specs.inner.Roots.{Written, Reaching}
 use Rattle.marks.proofs.Steps.{looked-has}
-use Rattle.reached_modules.proofs.Few.{entries-few}
 
 -- listing the roots: the rows below `row` are done
 module _ (p : Project) where
@@ -100,12 +97,12 @@ module _ (p : Project) (old : List ℕ) where
         (ap (λ (b : Bool). b && not (eqb (get_or p.entry_chunk row 0) missing)) (ne_eqb (get_or p.included (get_or p.entry row 0) 0) 1 n))
 
     -- an analysed one
-    pub roots_analysed : (get_or p.entry_chunk row 0 ≡ missing → ⊥) → get_or p.included (get_or p.entry row 0) 0 ≡ 1 → Accepted p → row < length p.entry → module_limit ≤ length old → RootsBelow p old (row + 1) (set new count (get_or p.entry row 0)) (count + 1)
+    pub roots_analysed : (get_or p.entry_chunk row 0 ≡ missing → ⊥) → get_or p.included (get_or p.entry row 0) 0 ≡ 1 → row < length p.entry → length p.entry ≤ length old → RootsBelow p old (row + 1) (set new count (get_or p.entry row 0)) (count + 1)
     unfolding RootsBelow
-    roots_analysed n e ok b l =
+    roots_analysed n e b l =
         listing-put p old row new count g
         (and-join (flagged p.included (get_or p.entry row 0)) (not (eqb (get_or p.entry_chunk row 0) missing)) (eq-eqb (get_or p.included (get_or p.entry row 0) 0) 1 e) (ap not (ne_eqb (get_or p.entry_chunk row 0) missing n)))
-        (omega (arith, b, l, entries-few p ok, ok.sizes.normal))
+        (omega (arith, b, l))
 
     pub roots_end : row ≡ length p.entry → Written (roots p) old new count
     unfolding RootsBelow

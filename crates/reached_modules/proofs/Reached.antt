@@ -24,22 +24,13 @@ use Rattle.eligibility.proofs.Eligible.{eligible-normal}
 use Rattle.wrap_rules.specs.Rules.{imports_of}
 use Rattle.wrap_rules.specs.Plan.{roots, reached}
 use Rattle.import_edges.specs.inner.Spread.{Along, Under, record_targets}
-use Rattle.reached_modules.specs.inner.Roots.{Reaching}
+use Rattle.reached_modules.specs.inner.Roots.{Reaching, Chosen}
 use Rattle.wrap_rules.specs.inner.Passes.{candidate_marks}
 use Rattle.wrap_rules.proofs.Rows.{import-row}
 use Rattle.wrap_rules.proofs.Sets.{eligible-has}
 use Rattle.import_edges.proofs.OfProject.{target_row, row_target}
 use Rattle.import_edges.proofs.Edging.{RowsIn, spreads-rows}
 use Rattle.wrap_rules.proofs.Roots.{root_in}
-
--- the eligible modules of a reached set are chosen
-pub record Chosen (included root_list from to eligibles old candidates : List ℕ) : Type 0 where
-  pub reached_set : List ℕ
-  pub reaching : Reaching included root_list from to (length old) reached_set
-  pub len : length candidates ≡ length old
-  pub bits : Bits old → Bits candidates
-  pub all : (m : ℕ) → m < length old → has reached_set m ≡ true → has eligibles m ≡ true → has candidates m ≡ true
-  pub only : (m : ℕ) → has candidates m ≡ true → (has reached_set m ≡ true) × (has eligibles m ≡ true)
 
 normal-any : (t : Target) (y : ℕ) → Memᴰ y (normal_target t) → Memᴰ y (any_target t)
 normal-any Missing y h = h

@@ -8,48 +8,21 @@ use native.Mathlib.Omega.{arith}
 use native.Mathlib.Decide.{ℕ_discrete}
 use lib.Seq.{get_or-set_same, get_or-set_other}
 use Rattle.lists.specs.Words.{is_zero, has}
-use Rattle.lists.proofs.Laws.{has_in, mark-in, mark-out, get_d-in}
+use Rattle.lists.proofs.Laws.{has_in, mark-in, mark-out}
 use Rattle.walk.specs.Close.{Within}
 use Rattle.tables.specs.Lookups.{greater_of}
 use Rattle.tables.specs.Project.{Project, missing}
-use Rattle.tables.specs.Accepted.{Accepted}
 use Rattle.tables.proofs.Greater.{greater-first, greater-second, greater-one}
 use Rattle.marks.specs.Steps.{looked, Owners, InAll, Marks}
 use Rattle.marks.proofs.Steps.{length-looked, looked-at, looked-has, has-looked}
-use Rattle.read_rule.specs.inner.Reads.{ChainTouch, SymbolTouch, ReferenceTouch, Touching, by_symbol, by_depended, Reader, TopLevelRead}
+use Rattle.read_rule.proofs.Chains.{chains-marked}
+use Rattle.read_rule.specs.inner.Reads.{ChainTouch, SymbolTouch, ReferenceTouch, Touching, by_symbol, by_depended, Reader, TopLevelRead, Linking, Symbols, Depending}
 
-module _ (p : Project) (ok : Accepted p) where
-  pub chains_marked : (S owners chains₀ chains : List ℕ) → owners ≡ looked 0 S p.owner → chains₀ ≡ owners
-      → Owners p.chain_symbol (looked 0 owners p.chain_link) (length p.chain_symbol) chains₀ chains
-      → Marks (ChainTouch p.owner p.chain_symbol p.chain_link S) chains
-  unfolding Within
-  chains_marked S owners chains₀ chains start same o = record { only = back; all = there }
-    where
-      count : length owners ≡ length p.owner
-      count = ap length start ∙ length-looked 0 S p.owner
-
-      -- a symbol is in where its owner is planned
-      owned : (y : ℕ) → y < length p.owner → has owners y ≡ has S (get_or p.owner y missing)
-      owned y l = ap (λ (s : List ℕ). has s y) start ∙ looked-has S p.owner y l ∙ ap (has S) (get_d-in p.owner y 0 missing l)
-
-      linked : (row : ℕ) → row < length p.chain_symbol → has (looked 0 owners p.chain_link) row ≡ has S (get_or p.owner (get_or p.chain_link row 0) missing)
-      linked row l =
-          let i : row < length p.chain_link = omega (arith, ok.sizes.chain_link) in
-          looked-has owners p.chain_link row i ∙ owned (get_or p.chain_link row 0) (ok.values.chain_link row i)
-
-      back : (y : ℕ) → has chains y ≡ true → ChainTouch p.owner p.chain_symbol p.chain_link S y
-      back y e =
-          ⊎_elim
-          (λ h. let g : has owners y ≡ true = subst (λ (s : List ℕ). has s y ≡ true) same h in inl (sym (owned y (omega (arith, count, has_in owners y g))) ∙ g))
-          (λ r. inr (r.0, r.1, r.3, sym (linked r.0 r.1) ∙ r.2))
-          (o.only y e)
-
-      there : (y : ℕ) → y < length chains → ChainTouch p.owner p.chain_symbol p.chain_link S y → has chains y ≡ true
-      there y l t =
-          let b : y < length chains₀ = omega (arith, o.len) in
-          ⊎_elim (λ h. o.old y (subst (λ (s : List ℕ). has s y ≡ true) (sym same) (owned y (omega (arith, ap length same, count)) ∙ h)))
-          (λ r. subst (λ (x : ℕ). has chains x ≡ true) r.2 (o.new r.0 r.1 (linked r.0 r.1 ∙ r.3) (subst (λ (x : ℕ). x < length chains₀) (sym r.2) b)))
-          t
+-- from a copy of the symbols whose owner is planned
+pub chains_marked : (p : Project) → Linking p.chain_symbol p.chain_link (length p.owner) → (S owners chains₀ chains : List ℕ) → owners ≡ looked 0 S p.owner → chains₀ ≡ owners
+    → Owners p.chain_symbol (looked 0 owners p.chain_link) (length p.chain_symbol) chains₀ chains
+    → Marks (ChainTouch p.owner p.chain_symbol p.chain_link S) chains
+chains_marked p k S owners chains₀ chains start same o = chains-marked p.owner p.chain_symbol p.chain_link S owners chains k start (rw same at o)
 
 -- the marks of the symbols below y: each the greater of its own and its canonical's
 abbrev pub Joined : List ℕ → List ℕ → ℕ → List ℕ → Type 0
@@ -83,24 +56,24 @@ module _ (canonical chains : List ℕ) (y : ℕ) (symbols : List ℕ) where
       more : {a b : ℕ} → not (is_zero a) ≡ true → a ≤ b → not (is_zero b) ≡ true
       more {a} {b} e k = mark-in b (λ z. true≢false (sym e ∙ mark-out a (omega arith)))
 
-module _ (p : Project) (ok : Accepted p) where
-  pub symbols_marked : (S chains symbols : List ℕ) → length chains ≡ length p.owner → length symbols ≡ length p.owner
+module _ (p : Project) where
+  pub symbols_marked : Symbols p → (S chains symbols : List ℕ) → length chains ≡ length p.owner → length symbols ≡ length p.owner
       → Marks (ChainTouch p.owner p.chain_symbol p.chain_link S) chains → Marks (λ (y : ℕ). (has chains y ≡ true) ⊎ (has chains (get_or p.canonical y 0) ≡ true)) symbols
       → Marks (SymbolTouch p.owner p.canonical p.chain_symbol p.chain_link S) symbols
-  symbols_marked S chains symbols count size c s = record {
+  symbols_marked k S chains symbols count size c s = record {
     only = λ y e. ⊎_elim (λ h. inl (c.only y h)) (λ h. inr (c.only (get_or p.canonical y 0) h)) (s.only y e);
     all = λ y l t.
         s.all y l
         (⊎_elim (λ h. inl (c.all y (omega (arith, count, size)) h))
-        (λ h. inr (c.all (get_or p.canonical y 0) (omega (arith, count, ok.values.canonical y (omega (arith, ok.sizes.canonical, size)))) h))
+        (λ h. inr (c.all (get_or p.canonical y 0) (omega (arith, count, k.inside y (omega (arith, k.canonicals, size)))) h))
         t);
   }
 
-  pub references_marked : (symbols references₀ references : List ℕ) → references₀ ≡ looked 0 symbols p.reference_symbol
+  pub references_marked : Depending p → (symbols references₀ references : List ℕ) → references₀ ≡ looked 0 symbols p.reference_symbol
       → Owners p.depended_reference (looked 0 symbols p.depended) (length p.depended_reference) references₀ references
       → Marks (ReferenceTouch p.reference_symbol p.depended_reference p.depended symbols) references
   unfolding Within
-  references_marked symbols references₀ references start o = record {
+  references_marked k symbols references₀ references start o = record {
     only = λ r e.
         ⊎_elim (λ h. inl (has-looked symbols p.reference_symbol r (subst (λ (xs : List ℕ). has xs r ≡ true) start h)).1)
         (λ q. inr (record { row = q.0; there = q.1; named = q.3; holds = (has-looked symbols p.depended q.0 q.2).1 }))
@@ -111,7 +84,7 @@ module _ (p : Project) (ok : Accepted p) where
         (λ h. o.old r (subst (λ (xs : List ℕ). has xs r ≡ true) (sym start) (looked-has symbols p.reference_symbol r (omega (arith, o.len, size)) ∙ h)))
         (λ q.
         subst (λ (x : ℕ). has references x ≡ true) q.named
-        (o.new q.row q.there (looked-has symbols p.depended q.row (omega (arith, ok.sizes.depended, q.there)) ∙ q.holds)
+        (o.new q.row q.there (looked-has symbols p.depended q.row (omega (arith, k.depends, q.there)) ∙ q.holds)
         (subst (λ (x : ℕ). x < length references₀) (sym q.named) (omega (arith, o.len)))))
         t;
   }

@@ -1,6 +1,6 @@
--- Rule (iv) at a project: the pass adds just what the rule asks for.
+-- Rule (iv) at a project: what the pass over its columns asks, and that it adds just what the rule asks for.
 -- Assumes nothing.
-use Rattle.std.specs.Prelude.{◌≡◌, ℕ, zero, suc, ◌<◌, Bool, true, false, not, List, length, get_or}
+use Rattle.std.specs.Prelude.{◌≡◌, ℕ, zero, suc, ◌<◌, Bool, true, not, List, length, get_or}
 use mathlib.Core.Path.{refl, sym, ap, subst, ◌∙◌}
 use mathlib.Core.Logic.{inl, inr, ⊎_elim}
 use native.Mathlib.Omega.{arith}
@@ -11,18 +11,37 @@ use Rattle.tables.specs.Project.{Project, missing}
 use Rattle.tables.specs.Readings.{modules, flagged}
 use Rattle.tables.specs.Accepted.{Accepted}
 use Rattle.eligibility.specs.Eligible.{eligible}
-use Rattle.marks.specs.Steps.{Added, InAll, Marks}
-use Rattle.marks.proofs.Steps.{added_none, added-cong}
+use Rattle.marks.specs.Steps.{Added}
+use Rattle.marks.proofs.Steps.{added-cong}
 use Rattle.wrap_rules.specs.Rules.{chain_touches, symbol_touches, reference_touches, read_asks}
 use Rattle.wrap_rules.specs.Plan.{reached}
 use Rattle.wrap_rules.specs.inner.Passes.{candidate_marks}
 use Rattle.wrap_rules.proofs.Rows.{read-asks, read-rows}
 use Rattle.wrap_rules.proofs.Sets.{candidate-parts, parts-candidate, length-candidates}
-use Rattle.read_rule.specs.inner.Reads.{ChainTouch, SymbolTouch, Touching, by_symbol, by_depended, Reader, TopLevelRead, ReadPassed}
-use Rattle.read_rule.proofs.Marking.{marked-read, read-marked}
+use Rattle.read_rule.specs.inner.Reads.{ChainTouch, SymbolTouch, Touching, by_symbol, by_depended, TopLevelRead, Symbols, Reading, ReadPassed}
 use Rattle.read_rule.proofs.Touches.{chain-owner, chain_link_lem, chain-rows, reference-symbol, reference-depended, reference-rows}
 
 module _ (p : Project) (ok : Accepted p) where
+  pub symbols-fit : Symbols p
+  symbols-fit = record {
+    few = ok.sizes.owner;
+    canonicals = ok.sizes.canonical;
+    inside = ok.values.canonical;
+    chains = record { links = ok.sizes.chain_link; symbols = ok.values.chain_symbol; linked = ok.values.chain_link };
+  }
+
+  pub reading-fit : Reading p (candidate_marks p) (modules p)
+  reading-fit = record {
+    few = ok.sizes.normal;
+    read = ok.sizes.reads;
+    modules = ok.values.statement_module;
+    statements = ok.values.reference_statement;
+    referred = ok.sizes.reference_symbol;
+    few_references = ok.sizes.reference_statement;
+    depending = record { depends = ok.sizes.depended; referring = λ i l. omega (arith, ok.values.depended_reference i l, ok.sizes.reference_symbol); named = ok.values.depended };
+    candidate = length-candidates p;
+  }
+
   pub reads-flag : (m : ℕ) → has p.reads m ≡ true → flagged p.reads m ≡ true
   reads-flag m e = eq-eqb (get_or p.reads m 0) 1 (one (get_or p.reads m 0) (ok.values.reads m (has_in p.reads m e)) e)
     where
@@ -102,27 +121,3 @@ module _ (p : Project) (ok : Accepted p) where
               named = ap (λ (x : ℕ). get_or p.statement_module x missing) q.5 ∙ get_d-in p.statement_module q.0 missing 0 q.2 ∙ q.3;
               touches = touch-back q.1 q.4 q.6;
             }
-
-    module _ (candidates : List ℕ) (q : candidates ≡ candidate_marks p) where
-      -- the candidates are of all modules
-      pub candidate_rows : length s ≡ modules p → length candidates ≡ length s
-      candidate_rows n = ap length q ∙ length-candidates p ∙ sym n
-
-      abbrev Reads : ℕ → Type 0
-      Reads = TopLevelRead p.reads p.statement_module p.owner p.canonical p.chain_symbol p.chain_link p.reference_statement p.reference_symbol p.depended_reference p.depended candidates s
-
-      reads-pass : {t : List ℕ} {r : Bool} → Added Reads s t r → ReadPassed p s t r
-      reads-pass a = read-pass (rw q at a)
-
-      -- no candidate that reads is out of the plan: nothing is added
-      pub pass-shut : ((m : ℕ) → m < length s → has p.reads m ≡ true → has candidates m ≡ true → has s m ≡ true) → ReadPassed p s s false
-      pass-shut h = reads-pass (added_none Reads s (λ m l r. h m l r.reading r.candidate))
-
-      -- what the steps mark and add is what the rule asks for
-      pub pass-added : (references readers t : List ℕ) (r : Bool) → Added (InAll readers p.reads candidates) s t r → Marks (Reader p.statement_module p.reference_statement references) readers
-          → Marks Touches references → length references ≡ length p.reference_statement → length readers ≡ length s → ReadPassed p s t r
-      pass-added references readers t r a reads touches size count =
-          reads-pass (added-cong (InAll readers p.reads candidates) Reads
-          (λ m l. read-marked p candidates s references readers size touches reads m (omega (arith, count)))
-          (marked-read p candidates s references readers size touches reads)
-          a)

@@ -1,1 +1,3 @@
+-- `Adding`: edges of rows, and in turn. `Added`: the same row by row.
 pub mod Adding
+pub mod Added

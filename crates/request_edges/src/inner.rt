@@ -3,7 +3,7 @@ ghost use Rattle.std.specs.Prelude.{◌≡◌, ◌≤◌, ◌∷◌, [], ◌++�
 ghost use Rattle.tables.specs.Project.{missing};
 ghost use Rattle.tables.specs.Refusal.{row_limit};
 ghost use Rattle.marks.specs.Steps.{looked};
-ghost use Rattle.request_edges.specs.inner.Edges.{edge_limit, numbered, choice, chosen, Rows, Room, Adds};
+ghost use Rattle.request_edges.specs.inner.Edges.{numbered, choice, chosen, Rows, Room, Addable, Adds};
 
 use marks::inner::look_up;
 use std::marker::Model;
@@ -57,9 +57,9 @@ fn looked_up<'a>(column: &[u32], table: &[u32], space: &'a mut [u32; ROW_LIMIT])
 // A list of edges that grows in two slices. Contracts see their sources and targets, and how many there is room for.
 #[derive(Drop)]
 pub struct EdgeList<'a> {
-    from: &'a mut [u32],
-    to: &'a mut [u32],
-    count: usize,
+    pub from: &'a mut [u32],
+    pub to: &'a mut [u32],
+    pub count: usize,
 }
 
 impl<'a> Model for EdgeList<'a> {
@@ -111,10 +111,7 @@ impl<'a> EdgeList<'a> {
     // Adds an edge for each row of two columns that both have a row number: from the first one's place after `a` to the second one's after `b`.
     #[tactic(auto, using(crate::proofs::Adding::adding_steps))]
     pub fn add(&mut self, sources: &[u32], targets: &[u32], a: u32, b: u32)
-        requires rows { length targets.now ≡ length sources.now }
-        requires room { Room (length sources.now) self.old }
-        requires source { a ≤ edge_limit }
-        requires target { b ≤ edge_limit }
+        requires { Addable sources.now targets.now a b self.old }
         ensures { Adds (Rows sources.now a targets.now b) (length sources.now) self.old self.new }
     {
         for (&source, &target) in sources.iter().zip(targets) {
@@ -130,11 +127,8 @@ impl<'a> EdgeList<'a> {
 
     // The same, where the second column's numbers are looked up in a table.
     pub fn add_to_looked(&mut self, sources: &[u32], column: &[u32], table: &[u32], a: u32, b: u32)
-        requires rows { length column.now ≡ length sources.now }
+        requires rows { Addable sources.now column.now a b self.old }
         requires few { length column.now ≤ row_limit }
-        requires room { Room (length sources.now) self.old }
-        requires source { a ≤ edge_limit }
-        requires target { b ≤ edge_limit }
         ensures { Adds (Rows sources.now a (looked missing table.now column.now) b) (length sources.now) self.old self.new }
     {
         let mut space = [0u32; ROW_LIMIT];
@@ -151,11 +145,8 @@ impl<'a> EdgeList<'a> {
         a: u32,
         b: u32,
     )
-        requires rows { length targets.now ≡ length column.now }
+        requires rows { Addable column.now targets.now a b self.old }
         requires few { length column.now ≤ row_limit }
-        requires room { Room (length column.now) self.old }
-        requires source { a ≤ edge_limit }
-        requires target { b ≤ edge_limit }
         ensures { Adds (Rows (looked missing table.now column.now) a targets.now b) (length column.now) self.old self.new }
     {
         let mut space = [0u32; ROW_LIMIT];
@@ -173,11 +164,8 @@ impl<'a> EdgeList<'a> {
         a: u32,
         b: u32,
     )
-        requires rows { length second.now ≡ length first.now }
+        requires rows { Addable first.now second.now a b self.old }
         requires few { length first.now ≤ row_limit }
-        requires room { Room (length first.now) self.old }
-        requires source { a ≤ edge_limit }
-        requires target { b ≤ edge_limit }
         ensures { Adds (Rows (looked missing sources.now first.now) a (looked missing targets.now second.now) b) (length first.now) self.old self.new }
     {
         let mut space = [0u32; ROW_LIMIT];

@@ -1,6 +1,6 @@
 -- The edges of the import records are the records themselves; all edges in turn.
 -- Assumes nothing.
-use Rattle.std.specs.Prelude.{◌≡◌, ℕ, ◌+◌, ◌<◌, List, length, get_or}
+use Rattle.std.specs.Prelude.{◌≡◌, ℕ, ◌+◌, ◌<◌, ◌≤◌, List, length, get_or}
 use mathlib.Core.Path.{sym, ap, subst, ◌∙◌}
 use mathlib.Core.Logic.{⊎_map}
 use native.Mathlib.Omega.{arith}
@@ -9,24 +9,20 @@ use Rattle.tables.specs.Project.{Project}
 use Rattle.tables.specs.Readings.{modules}
 use Rattle.tables.specs.Accepted.{Accepted}
 use Rattle.tables.specs.Refusal.{row_limit}
-use Rattle.strong_connection.specs.inner.Graph.{EdgeColumns}
 use Rattle.chunk_cycles.specs.Cycles.{labels_of}
 use Rattle.sensitivity.specs.Marks.{sensitive_marks}
 use Rattle.eligibility.specs.Eligible.{eligible_marks}
 use Rattle.wrap_rules.specs.inner.Passes.{candidate_marks}
 use Rattle.import_edges.specs.inner.Spread.{record_targets}
 use Rattle.import_edges.proofs.Edging.{length-targets}
-use Rattle.rule_sets.specs.inner.Sets.{Edged}
 use Rattle.request_edges.specs.inner.Edges.{numbered, chosen, Rows, EdgeRows, Adds}
 use Rattle.request_edges.proofs.Adding.{adds_on, adds-as}
-use Rattle.request_graph.specs.inner.Requests.{at_lead, LeadRows, ComponentEdge, ImportEdge, SymbolEdge, RequestEdge, Requests}
+use Rattle.request_graph.specs.inner.Requests.{at_lead, ImportRows, LeadRows, ComponentEdge, ImportEdge, SymbolEdge, RequestEdge, Requests}
 
-module _ (p : Project) (ok : Accepted p) {imports : EdgeColumns} (g : Edged p imports) where
-  abbrev importers : List ℕ
-  importers = imports.to
-
-  abbrev targets : List ℕ
-  targets = imports.from
+module _ (p : Project) (ok : Accepted p) {importers targets : List ℕ} (g : ImportRows p importers targets) where
+  -- no more than a list has
+  pub few-rows : length importers ≤ row_limit
+  few-rows = omega (arith, g.edges.few, ok.sizes.record_module)
 
   abbrev Led : ℕ → ℕ → Type 0
   Led u v = Rows targets at_lead importers at_lead u v
@@ -36,7 +32,7 @@ module _ (p : Project) (ok : Accepted p) {imports : EdgeColumns} (g : Edged p im
 
   import-rows : (u v : ℕ) → Led u v → Recorded u v
   import-rows u v e =
-      let r = g.edges.row e.row (omega (arith, e.there, g.graph.lengths)) in
+      let r = g.edges.row e.row (omega (arith, e.there, g.lengths)) in
       record {
         row = r.0;
         there = omega (arith, r.1, length-targets p.record_kind p.record_target, ok.sizes.record_target);
@@ -51,7 +47,7 @@ module _ (p : Project) (ok : Accepted p) {imports : EdgeColumns} (g : Edged p im
       let r = g.edges.edge e.row (omega (arith, e.there, length-targets p.record_kind p.record_target, ok.sizes.record_target)) (λ z. omega (arith, z, e.known)) in
       record {
         row = r.0;
-        there = omega (arith, r.1, g.graph.lengths);
+        there = omega (arith, r.1, g.lengths);
         known = subst (λ (x : ℕ). x < row_limit) (sym r.3) e.known;
         aimed = subst (λ (x : ℕ). x < row_limit) (sym r.2) e.aimed;
         source = ap (λ (x : ℕ). x + at_lead) r.3 ∙ e.source;

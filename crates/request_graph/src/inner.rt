@@ -4,12 +4,12 @@ ghost use Rattle.tables.specs.Readings.{modules};
 ghost use Rattle.chunk_cycles.specs.Cycles.{labels_of};
 ghost use Rattle.wrap_rules.specs.inner.Passes.{candidate_marks};
 ghost use Rattle.request_edges.specs.inner.Edges.{Room, Adds};
-ghost use Rattle.request_graph.specs.inner.Requests.{ComponentEdge, ImportEdge, ChainEdge, ReadEdge, readers_of, SymbolEdge, Requests};
+ghost use Rattle.request_graph.specs.inner.Requests.{ImportRows, ComponentEdge, ImportEdge, ChainEdge, ReadEdge, readers_of, SymbolEdge, Requests};
 
 use current_columns::inner::Current;
 use marks::inner::look_up;
 use request_edges::inner::{EdgeList, number, number_chosen};
-use rule_sets::inner::RuleSets;
+use rule_sets::inner::{LabelSets, ReachedSet};
 use table::{MODULE_LIMIT, ROW_LIMIT};
 use tables::ModuleIdx;
 
@@ -33,30 +33,36 @@ pub const EDGES: usize = 155648;
 
 // Adds the edges of rule (ii): from a module to its chunk's label, and from a label to the sensitive eligible members of its chunks.
 #[tactic(auto, unfolding(current_columns::specs::AsProject::project))]
-fn add_component_edges(sets: &RuleSets, numbers: &[u32], asked: &[u32], edges: &mut EdgeList)
-    requires modules { length numbers.now ≡ modules sets.now }
+fn add_component_edges(labelled: &LabelSets, numbers: &[u32], asked: &[u32], edges: &mut EdgeList)
+    requires modules { length numbers.now ≡ modules labelled.now }
     requires room { Room 20480 edges.old }
-    ensures { Adds (ComponentEdge sets.now (labels_of sets.now) numbers.now asked.now) 20480 edges.old edges.new }
+    ensures { Adds (ComponentEdge labelled.now (labels_of labelled.now) numbers.now asked.now) 20480 edges.old edges.new }
 {
-    let current = sets.current;
-    let labels = sets.labels;
-    let chunks = current.member_chunk;
-    edges.add_to_looked(numbers, current.chunk, labels, 0, LABEL);
-    edges.add_looked(chunks, labels, current.member, asked, LABEL, REQUEST);
+    let columns = labelled.current.columns();
+    let labels = labelled.labels;
+    let chunks = columns.member_chunk;
+    edges.add_to_looked(numbers, columns.chunk, labels, 0, LABEL);
+    edges.add_looked(chunks, labels, columns.member, asked, LABEL, REQUEST);
 }
 
 // Adds the edges of rule (iii): from a module to what leads to it by the import records, and to what depends on it.
 #[tactic(auto, unfolding(current_columns::specs::AsProject::project))]
-fn add_import_edges(sets: &RuleSets, numbers: &[u32], edges: &mut EdgeList)
-    requires modules { length numbers.now ≡ modules sets.now }
+fn add_import_edges(
+    current: &Current,
+    from: &[u32],
+    to: &[u32],
+    numbers: &[u32],
+    edges: &mut EdgeList,
+)
+    requires imports { ImportRows current.now from.now to.now }
+    requires modules { length numbers.now ≡ modules current.now }
     requires room { Room 36864 edges.old }
-    ensures { Adds (ImportEdge sets.now numbers.now) 36864 edges.old edges.new }
+    ensures { Adds (ImportEdge current.now numbers.now) 36864 edges.old edges.new }
 {
-    let current = sets.current;
-    let imports = &sets.imports;
+    let columns = current.columns();
     edges.add(numbers, numbers, 0, LEAD);
-    edges.add(imports.from(), imports.to(), LEAD, LEAD);
-    edges.add(current.dependency, current.dependency_module, 0, DEPENDENT);
+    edges.add(to, from, LEAD, LEAD);
+    edges.add(columns.dependency, columns.dependency_module, 0, DEPENDENT);
 }
 
 // Adds the first edges of rule (iv): from a module to the chains of its symbols, and of those with a link that it owns.
@@ -66,11 +72,12 @@ fn add_chain_edges(current: &Current, symbols: &[u32], edges: &mut EdgeList)
     requires symbols { length symbols.now ≡ length current.now.owner }
     ensures { Adds (ChainEdge current.now symbols.now) 32768 edges.old edges.new }
 {
-    edges.add(current.owner, symbols, 0, CHAIN);
+    let columns = current.columns();
+    edges.add(columns.owner, symbols, 0, CHAIN);
     edges.add_from_looked(
-        current.chain_link,
-        current.owner,
-        current.chain_symbol,
+        columns.chain_link,
+        columns.owner,
+        columns.chain_symbol,
         0,
         CHAIN,
     );
@@ -78,19 +85,19 @@ fn add_chain_edges(current: &Current, symbols: &[u32], edges: &mut EdgeList)
 
 // Writes each reference's module, where that is a candidate that reads at the top level, else the mark.
 #[tactic(auto, unfolding(current_columns::specs::AsProject::project))]
-fn find_readers(sets: &RuleSets, readers: &mut [u32])
-    requires { length readers.old ≡ length sets.now.reference_statement }
-    ensures { readers.new ≡ readers_of sets.now (candidate_marks sets.now) }
+fn find_readers(reached: &ReachedSet, readers: &mut [u32])
+    requires { length readers.old ≡ length reached.now.reference_statement }
+    ensures { readers.new ≡ readers_of reached.now (candidate_marks reached.now) }
 {
-    let current = sets.current;
+    let columns = reached.current.columns();
     let mut reading = [0u32; MODULE_LIMIT];
     let mut modules = [0u32; ROW_LIMIT];
-    let reading = &mut reading[..current.normal.len()];
-    let modules = &mut modules[..current.reference_statement.len()];
-    number_chosen(sets.candidates, current.reads, reading);
+    let reading = &mut reading[..columns.normal.len()];
+    let modules = &mut modules[..columns.reference_statement.len()];
+    number_chosen(reached.candidates, columns.reads, reading);
     look_up(
-        current.reference_statement,
-        current.statement_module,
+        columns.reference_statement,
+        columns.statement_module,
         modules,
         ModuleIdx::MISSING,
     );
@@ -104,46 +111,57 @@ fn add_read_edges(current: &Current, readers: &[u32], edges: &mut EdgeList)
     requires readers { length readers.now ≡ length current.now.reference_statement }
     ensures { Adds (ReadEdge current.now readers.now) 65536 edges.old edges.new }
 {
-    let symbols = current.reference_symbol;
-    let canonical = current.canonical;
+    let columns = current.columns();
+    let symbols = columns.reference_symbol;
+    let canonical = columns.canonical;
     edges.add(symbols, readers, CHAIN, REQUEST);
     edges.add_from_looked(symbols, canonical, readers, CHAIN, REQUEST);
-    let depended = current.depended;
-    let references = current.depended_reference;
+    let depended = columns.depended;
+    let references = columns.depended_reference;
     edges.add_to_looked(depended, references, readers, CHAIN, REQUEST);
     edges.add_looked(depended, canonical, references, readers, CHAIN, REQUEST);
 }
 
 // Adds the edges of rule (iv).
 #[tactic(auto, unfolding(current_columns::specs::AsProject::project))]
-fn add_symbol_edges(sets: &RuleSets, edges: &mut EdgeList)
+fn add_symbol_edges(reached: &ReachedSet, edges: &mut EdgeList)
     requires { Room 98304 edges.old }
-    ensures { Adds (SymbolEdge sets.now (candidate_marks sets.now)) 98304 edges.old edges.new }
+    ensures { Adds (SymbolEdge reached.now (candidate_marks reached.now)) 98304 edges.old edges.new }
 {
-    let current = sets.current;
+    let current = reached.current;
+    let columns = current.columns();
     let mut names = [0u32; ROW_LIMIT];
     let mut readers = [0u32; ROW_LIMIT];
-    let names = &mut names[..current.owner.len()];
-    let readers = &mut readers[..current.reference_statement.len()];
+    let names = &mut names[..columns.owner.len()];
+    let readers = &mut readers[..columns.reference_statement.len()];
     number(names);
     add_chain_edges(current, names, edges);
-    find_readers(sets, readers);
+    find_readers(reached, readers);
     add_read_edges(current, readers, edges);
 }
 
-// Adds the edges of a table.
-pub fn request_edges(sets: &RuleSets, edges: &mut EdgeList)
-    requires { Room 155648 edges.old }
-    ensures { Requests sets.now edges.old edges.new }
+// Adds the edges of a table, of whose import records `from` and `to` have the importers and the targets.
+pub fn request_edges(
+    labelled: &LabelSets,
+    reached: &ReachedSet,
+    from: &[u32],
+    to: &[u32],
+    edges: &mut EdgeList,
+)
+    requires same { reached.now ≡ labelled.now }
+    requires imports { ImportRows labelled.now from.now to.now }
+    requires room { Room 155648 edges.old }
+    ensures { Requests labelled.now edges.old edges.new }
 {
-    let n = sets.current.modules();
+    let current = labelled.current;
+    let n = current.modules();
     let mut numbers = [0u32; MODULE_LIMIT];
     let mut asked = [0u32; MODULE_LIMIT];
     let numbers = &mut numbers[..n];
     let asked = &mut asked[..n];
     number(numbers);
-    number_chosen(sets.sensitive, sets.eligible, asked);
-    add_component_edges(sets, numbers, asked, edges);
-    add_import_edges(sets, numbers, edges);
-    add_symbol_edges(sets, edges);
+    number_chosen(labelled.sensitive, labelled.eligible, asked);
+    add_component_edges(labelled, numbers, asked, edges);
+    add_import_edges(current, from, to, numbers, edges);
+    add_symbol_edges(reached, edges);
 }

@@ -7,11 +7,12 @@ use std::marker::Model;
 use strong_connection::inner::Digraph;
 
 // A list of places that grows in a slice, each member once. Contracts see it, and the marks: a member's is one more than its place in the list, every other is 0.
+// The fields are open here and in the other values that grow in slices, so that any that are right can be lent as one.
 #[derive(Drop)]
 pub struct Queue<'a> {
-    marks: &'a mut [u32],
-    queue: &'a mut [u32],
-    count: usize,
+    pub marks: &'a mut [u32],
+    pub queue: &'a mut [u32],
+    pub count: usize,
 }
 
 impl<'a> Model for Queue<'a> {

@@ -8,28 +8,28 @@ use Rattle.tables.specs.Project.{Project}
 use Rattle.tables.specs.Readings.{modules, chunks}
 use Rattle.tables.specs.Accepted.{Below}
 use Rattle.chunk_cycles.proofs.OverTable.{length-labels}
+use Rattle.sensitivity.specs.Marks.{sensitive_marks}
 use Rattle.sensitivity.proofs.Marks.{length-grounds}
-use Rattle.eligibility.specs.Eligible.{eligible}
-use Rattle.strong_connection.specs.inner.Graph.{EdgeColumns}
+use Rattle.eligibility.specs.Eligible.{eligible, eligible_marks}
 use Rattle.wrap_rules.proofs.Roots.{roots-below}
 use Rattle.wrap_rules.proofs.Sets.{length-candidates}
-use Rattle.rule_sets.specs.inner.Sets.{Sets}
+use Rattle.rule_sets.specs.inner.Sets.{Labelled, Rooted, Reached}
 
-module _ {p : Project} {labels root_list sensitives eligibles candidates : List ℕ} {imports : EdgeColumns} (s : Sets p labels root_list sensitives eligibles candidates imports) where
-  pub label-size : length labels ≡ chunks p
-  label-size = ap length s.label ∙ length-labels p
+module _ (p : Project) where
+  pub label-size : {labels sensitives eligibles : List ℕ} → Labelled p labels sensitives eligibles → length labels ≡ chunks p
+  label-size s = ap length s.label ∙ length-labels p
 
-  pub label-few : length labels ≤ 1024
-  label-few = omega (arith, label-size, s.accepted.sizes.order)
+  pub label-few : {labels sensitives eligibles : List ℕ} → Labelled p labels sensitives eligibles → length labels ≤ 1024
+  label-few s = omega (arith, label-size s, s.accepted.sizes.order)
 
-  pub sensitive-size : length sensitives ≡ modules p
-  sensitive-size = ap length s.sensitive_set ∙ length-grounds p
+  pub sensitive-size : {sensitives : List ℕ} → sensitives ≡ sensitive_marks p → length sensitives ≡ modules p
+  sensitive-size e = ap length e ∙ length-grounds p
 
-  pub eligible-size : length eligibles ≡ modules p
-  eligible-size = ap length s.eligible_set ∙ length-marks_of (eligible p) (modules p)
+  pub eligible-size : {eligibles : List ℕ} → eligibles ≡ eligible_marks p → length eligibles ≡ modules p
+  eligible-size e = ap length e ∙ length-marks_of (eligible p) (modules p)
 
-  pub candidate-size : length candidates ≡ modules p
-  candidate-size = ap length s.candidate_set ∙ length-candidates p
+  pub candidate-size : {candidates : List ℕ} → Reached p candidates → length candidates ≡ modules p
+  candidate-size s = ap length s.candidate_set ∙ length-candidates p
 
-  pub roots-in : Below (modules p) root_list
-  roots-in = rw s.root (roots-below p s.accepted)
+  pub roots-in : {root_list sensitives eligibles : List ℕ} → Rooted p root_list sensitives eligibles → Below (modules p) root_list
+  roots-in s = rw s.root (roots-below p s.accepted)

@@ -3,22 +3,35 @@ ghost use Rattle.std.specs.Prelude.{◌≡◌};
 
 use chunk_cycles::inner::label_table;
 use current_columns::inner::Current;
-use eligibility::inner::mark_table_eligible;
+use eligibility::of_table::mark_table_eligible;
 use import_edges::inner::list_edges;
 use lists::inner::fill;
-use reached_modules::inner::{choose_candidates, list_table_roots};
+use reached_modules::inner::{choose_candidates, list_roots};
 use sensitivity::inner::mark_table_sensitive;
 use std::marker::Model;
 use strong_connection::inner::Digraph;
 use table::{CHUNK_LIMIT, MODULE_LIMIT, ROW_LIMIT};
 
-// Room for what the rules read.
+// Room for the labels and marks.
 #[derive(Drop)]
-pub struct RuleSpace {
+pub struct LabelSpace {
     labels: [u32; CHUNK_LIMIT],
-    roots: [u32; MODULE_LIMIT],
     sensitive: [u32; MODULE_LIMIT],
     eligible: [u32; MODULE_LIMIT],
+}
+
+impl LabelSpace {
+    pub const EMPTY: LabelSpace = LabelSpace {
+        labels: [0; CHUNK_LIMIT],
+        sensitive: [0; MODULE_LIMIT],
+        eligible: [0; MODULE_LIMIT],
+    };
+}
+
+// Room for the roots, the reached modules and the import records.
+#[derive(Drop)]
+pub struct RuleSpace {
+    roots: [u32; MODULE_LIMIT],
     candidates: [u32; MODULE_LIMIT],
     from: [u32; ROW_LIMIT],
     to: [u32; ROW_LIMIT],
@@ -28,10 +41,7 @@ pub struct RuleSpace {
 
 impl RuleSpace {
     pub const EMPTY: RuleSpace = RuleSpace {
-        labels: [0; CHUNK_LIMIT],
         roots: [0; MODULE_LIMIT],
-        sensitive: [0; MODULE_LIMIT],
-        eligible: [0; MODULE_LIMIT],
         candidates: [0; MODULE_LIMIT],
         from: [0; ROW_LIMIT],
         to: [0; ROW_LIMIT],
@@ -40,16 +50,73 @@ impl RuleSpace {
     };
 }
 
-// What the four rules read of a table: the chunks' labels, the analysed entries' roots, the marks of the sensitive, of the eligible and of the reached eligible
-// modules, and the import records as edges from target to importer. Contracts see the project that it is of.
+// The chunks' labels of a table, and the marks of its sensitive and of its eligible modules: what rule (ii) reads. Contracts see the project that they are of, here and below.
 #[derive(Drop)]
-pub struct RuleSets<'a, 'c> {
+pub struct LabelSets<'a, 'c> {
     pub current: &'a Current<'c>,
     pub labels: &'a [u32],
+    pub sensitive: &'a [u32],
+    pub eligible: &'a [u32],
+}
+
+impl<'a, 'c> Model for LabelSets<'a, 'c> {
+    ghost use Rattle.tables.specs.Project.{Project};
+
+    ghost Value = { Project };
+
+    ghost use Rattle.rule_sets.specs.inner.View.{labelled_of, AreLabelled};
+
+    ghost view = { labelled_of };
+
+    ghost invariant = { AreLabelled };
+}
+
+// The roots of a table's analysed entries, with the same marks: what rule (i) asks by.
+#[derive(Drop)]
+pub struct RootSets<'a, 'c> {
+    pub current: &'a Current<'c>,
     pub roots: &'a [u32],
     pub sensitive: &'a [u32],
     pub eligible: &'a [u32],
+}
+
+impl<'a, 'c> Model for RootSets<'a, 'c> {
+    ghost use Rattle.tables.specs.Project.{Project};
+
+    ghost Value = { Project };
+
+    ghost use Rattle.rule_sets.specs.inner.View.{rooted_of, AreRooted};
+
+    ghost view = { rooted_of };
+
+    ghost invariant = { AreRooted };
+}
+
+// The marks of the eligible modules that the roots reach: the candidates of rules (iii) and (iv).
+#[derive(Drop)]
+pub struct ReachedSet<'a, 'c> {
+    pub current: &'a Current<'c>,
     pub candidates: &'a [u32],
+}
+
+impl<'a, 'c> Model for ReachedSet<'a, 'c> {
+    ghost use Rattle.tables.specs.Project.{Project};
+
+    ghost Value = { Project };
+
+    ghost use Rattle.rule_sets.specs.inner.View.{reached_of, AreReached};
+
+    ghost view = { reached_of };
+
+    ghost invariant = { AreReached };
+}
+
+// What the four rules read of a table: these, and the import records as edges from target to importer.
+#[derive(Drop)]
+pub struct RuleSets<'a, 'c> {
+    pub labelled: LabelSets<'a, 'c>,
+    pub rooted: RootSets<'a, 'c>,
+    pub reached: ReachedSet<'a, 'c>,
     pub imports: Digraph<'a>,
 }
 
@@ -58,15 +125,15 @@ impl<'a, 'c> Model for RuleSets<'a, 'c> {
 
     ghost Value = { Project };
 
-    ghost use Rattle.rule_sets.specs.inner.View.{project_of, AreRead};
+    ghost use Rattle.rule_sets.specs.inner.View.{project_of, AreJoined};
 
     ghost view = { project_of };
 
-    ghost invariant = { AreRead };
+    ghost invariant = { AreJoined };
 }
 
-// Makes them of a table.
-pub fn read_sets<'a, 'c>(current: &'a Current<'c>, space: &'a mut RuleSpace) -> RuleSets<'a, 'c>
+// Makes the labels and marks of a table.
+pub fn read_labels<'a, 'c>(current: &'a Current<'c>, space: &'a mut LabelSpace) -> LabelSets<'a, 'c>
     ensures { result ≡ current.now }
 {
     let n = current.modules();
@@ -79,12 +146,32 @@ pub fn read_sets<'a, 'c>(current: &'a Current<'c>, space: &'a mut RuleSpace) -> 
     let eligible = &mut space.eligible;
     let eligible = &mut eligible[..n];
     mark_table_eligible(current, eligible);
+    LabelSets {
+        current,
+        labels,
+        sensitive,
+        eligible,
+    }
+}
+
+// Makes all that the rules read.
+pub fn read_sets<'a, 'c>(labelled: &LabelSets<'a, 'c>, space: &'a mut RuleSpace) -> RuleSets<'a, 'c>
+    ensures { result ≡ labelled.now }
+{
+    let LabelSets {
+        current,
+        sensitive,
+        eligible,
+        ..
+    } = *labelled;
+    let n = current.modules();
     let roots = &mut space.roots;
-    let count = list_table_roots(current, roots);
+    let columns = current.columns();
+    let count = list_roots(columns, roots);
     let roots = &roots[..count];
     let from = &mut space.from;
     let to = &mut space.to;
-    let edges = list_edges(current, from, to);
+    let edges = list_edges(columns, from, to);
     let from = &from[..edges];
     let to = &to[..edges];
     let candidates = &mut space.candidates;
@@ -96,12 +183,17 @@ pub fn read_sets<'a, 'c>(current: &'a Current<'c>, space: &'a mut RuleSpace) -> 
     let nexts = &mut space.nexts;
     let imports = Digraph::new(to, from, heads, nexts);
     RuleSets {
-        current,
-        labels,
-        roots,
-        sensitive,
-        eligible,
-        candidates,
+        labelled: LabelSets { ..*labelled },
+        rooted: RootSets {
+            current,
+            roots,
+            sensitive,
+            eligible,
+        },
+        reached: ReachedSet {
+            current,
+            candidates,
+        },
         imports,
     }
 }

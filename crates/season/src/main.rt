@@ -30,7 +30,7 @@ pub struct Season {
     ghost sound: { Sound names totals },
 }
 
-// What is known after a piece of the input, and whether more may come.
+// What is known after a piece of the input, and whether more may come: the season is there either way, so no Option says it.
 #[derive(Clone, Copy)]
 pub struct Taken {
     pub season: Season,

@@ -27,10 +27,12 @@ pub fn mark_seeds(seeds: &[u32], eligible: &[u32], plan: &mut [u32])
 }
 
 // Marks the eligible seeds of a table.
+#[tactic(auto, unfolding(current_columns::specs::AsProject::project))]
 pub fn mark_table_seeds(current: &Current, eligible: &[u32], plan: &mut [u32])
     requires eligible { length eligible.now ≡ modules current.now }
     requires plan { length plan.old ≡ modules current.now }
     ensures { Owners current.now.seed (looked 0 eligible.now current.now.seed) (length current.now.seed) plan.old plan.new }
 {
-    mark_seeds(current.seed, eligible, plan);
+    let columns = current.columns();
+    mark_seeds(columns.seed, eligible, plan);
 }

@@ -1,3 +1,4 @@
--- Sensitive modules. `View` is what the statements and uses of a table are.
+-- Sensitive modules. `Ready` is what functions on columns ask, `View` what the statements and uses of columns are.
 pub mod Marks
+pub mod Ready
 pub mod View

@@ -21,7 +21,8 @@ pub fn sort_chunk_modules(table: &Table, out: &mut [u32]) -> Result<usize, Refus
     }
     let mut space = ReadSpace::EMPTY;
     let current = read_table(table, &mut space);
-    let members = current.member.len();
+    let columns = current.columns();
+    let members = columns.member.len();
     if out.len() < members {
         return Err(Refusal::ShortSlice);
     }

@@ -80,6 +80,12 @@ replicate-at zero v j l = absurd (not-suc-le-zero l)
 replicate-at (suc n) v zero l = refl
 replicate-at (suc n) v (suc j) l = replicate-at n v j (omega arith)
 
+module _ (dynamic : ℕ) (normal record_module record_kind record_target : List ℕ) (runtime : ℕ) (entry : List ℕ) where
+  -- there is a number for each module
+  pub numbers-count : length (numbers dynamic normal record_module record_kind record_target runtime entry) ≡ length normal
+  unfolding numbers
+  numbers-count = length-map-run _ 0 (length normal)
+
 module _ (p : Project) where
   abbrev targets : ℕ → List ℕ
   targets = statics_of p.dynamic p.normal p.record_module p.record_kind p.record_target

@@ -21,12 +21,13 @@ pub fn sort_table(
     requires places { Sortable current.now (length marks.old) (length numbers.old) (length sorted.old) }
     ensures { Sorted (numbers_of current.now) (sorted_of current.now) marks.old sorted.old marks.new numbers.new sorted.new result }
 {
+    let columns = current.columns();
     fill(marks, 0);
     fill(numbers, ModuleIdx::MISSING);
     let mut starts = [0u32; MODULE_LIMIT + 1];
     let starts = &mut starts[..current.modules() + 1];
-    first_rows(current.record_module, starts);
-    let last = visit_roots(current, starts, marks, numbers, sorted);
+    first_rows(columns.record_module, starts);
+    let last = visit_roots(columns, starts, marks, numbers, sorted);
     fill(marks, 0);
     last.placed
 }

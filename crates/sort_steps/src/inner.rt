@@ -1,10 +1,11 @@
-// For crates above, on tested tables.
-ghost use Rattle.std.specs.Prelude.{◌≡◌, ◌<◌, ◌≤◌, length, IfSome};
+// For crates above, on columns that fit.
+ghost use Rattle.std.specs.Prelude.{◌≡◌, ℕ, ◌<◌, length, IfSome};
 ghost use Rattle.tables.specs.Project.{missing};
-ghost use Rattle.tables.specs.Readings.{modules, is_static, any_target, row_targets};
+ghost use Rattle.tables.specs.Readings.{is_static, any_target, row_targets};
+ghost use Rattle.tables.specs.Accepted.{BelowOrMissing};
 ghost use Rattle.sort_steps.specs.Steps.{Met, one_or_none, unmet_of, made, number};
 
-use current_columns::inner::Current;
+use current_columns::inner::Columns;
 use tables::Target;
 use tables::inner::{is_static, resolve};
 
@@ -30,16 +31,16 @@ pub fn met(marks: &mut [u32], m: u32) -> bool
 
 // The module that a record leads to, if any.
 #[tactic(auto, unfolding(current_columns::specs::AsProject::project, tables::specs::Readings::resolved))]
-pub fn led(current: &Current, row: usize) -> Option<u32>
-    requires { row < length current.now.record_module }
-    ensures leads { row_targets (is_static current.now.dynamic) any_target current.now.normal current.now.record_kind current.now.record_target row ≡ one_or_none result }
-    ensures within { IfSome result (λ t. t < modules current.now) }
+pub fn led(columns: &Columns, row: usize) -> Option<u32>
+    requires { (row < length columns.now.record_kind) × (row < length columns.now.record_target) }
+    ensures leads { row_targets (is_static columns.now.dynamic) any_target columns.now.normal columns.now.record_kind columns.now.record_target row ≡ one_or_none result }
+    ensures within { (n : ℕ) → BelowOrMissing n columns.now.record_target → IfSome result (λ t. t < n) }
 {
-    let kinds = current.record_kind;
-    if !is_static(current.dynamic, kinds[row]) {
+    let kinds = columns.record_kind;
+    if !is_static(columns.dynamic, kinds[row]) {
         return None;
     }
-    let found = resolve(current.normal, current.record_target, row);
+    let found = resolve(columns.normal, columns.record_target, row);
     let (Target::External(t) | Target::Normal(t)) = found else {
         return None;
     };
@@ -47,12 +48,12 @@ pub fn led(current: &Current, row: usize) -> Option<u32>
 }
 
 // The unmet module that a record leads to, if any.
-pub fn unmet(current: &Current, marks: &[u32], row: usize) -> Option<u32>
-    requires { (row < length current.now.record_module) × (modules current.now ≤ length marks.now) }
-    ensures leads { unmet_of marks.now (row_targets (is_static current.now.dynamic) any_target current.now.normal current.now.record_kind current.now.record_target row) ≡ one_or_none result }
-    ensures within { IfSome result (λ t. t < modules current.now) }
+pub fn unmet(columns: &Columns, marks: &[u32], row: usize) -> Option<u32>
+    requires { (row < length columns.now.record_kind) × (row < length columns.now.record_target) × BelowOrMissing (length marks.now) columns.now.record_target }
+    ensures leads { unmet_of marks.now (row_targets (is_static columns.now.dynamic) any_target columns.now.normal columns.now.record_kind columns.now.record_target row) ≡ one_or_none result }
+    ensures within { IfSome result (λ t. t < length marks.now) }
 {
-    let t = led(current, row)?;
+    let t = led(columns, row)?;
     if marks[t as usize] != 0 {
         return None;
     }
@@ -62,20 +63,20 @@ pub fn unmet(current: &Current, marks: &[u32], row: usize) -> Option<u32>
 // Leaves a module: it takes the next number, and is listed if it is normal.
 #[tactic(auto, unfolding(current_columns::specs::AsProject::project))]
 pub fn leave(
-    current: &Current,
+    columns: &Columns,
     numbers: &mut [u32],
     sorted: &mut [u32],
     m: u32,
     counters: Counters,
 ) -> Counters
-    requires { (m < modules current.now) × (m < length numbers.old) × (counters.placed < length sorted.old) × (counters.next < missing) }
-    ensures { made numbers.new sorted.new result.placed result.next ≡ number current.now.normal (made numbers.old sorted.old counters.placed counters.next) m }
+    requires { (m < length columns.now.normal) × (m < length numbers.old) × (counters.placed < length sorted.old) × (counters.next < missing) }
+    ensures { made numbers.new sorted.new result.placed result.next ≡ number columns.now.normal (made numbers.old sorted.old counters.placed counters.next) m }
 {
     let at = m as usize;
     let placed = counters.placed;
     let next = counters.next;
     numbers[at] = next;
-    if current.normal[at] != 1 {
+    if columns.normal[at] != 1 {
         return Counters {
             placed,
             next: next + 1,

@@ -14,7 +14,7 @@ use Rattle.walk.proofs.Visits.{set-zeros}
 use Rattle.walk.proofs.Going.{Going, going_start, going-row, going-found, going_end, met-visited, left-visited, visited-then}
 use Rattle.tables.specs.Project.{Project, missing}
 use Rattle.tables.specs.Lookups.{FirstRow}
-use Rattle.tables.specs.Readings.{modules, is_static, any_target, row_targets, targets_of}
+use Rattle.tables.specs.Readings.{is_static, any_target, row_targets, targets_of}
 use Rattle.tables.proofs.Rows.{run-ordered, targets-of-run}
 use Rattle.sort_steps.specs.declared.inner.Counters.{Counters}
 use Rattle.sort_steps.specs.Steps.{Met, unmet_of, Numbered, made, number}
@@ -145,11 +145,11 @@ module _ (p : Project) where
             leads = led-all p.dynamic p.normal p.record_kind p.record_target u.row u.at.ms t e
 
             -- a row that leads to a module, which is visited
-            pub call-ready : t < modules p → Prepared starts u.at t
+            pub call-ready : t < length u.at.ms → Prepared starts u.at t
             call-ready l =
                 let q = roomy in (
                   subst (Indexed p starts) (sym marks-len) ready.0,
-                  omega (arith, l, ready.0.size, marks-len),
+                  l,
                   record { places = q.places; lists = omega (arith, q.lists); counts = omega (arith, q.counts) },
                 )
 
@@ -165,10 +165,10 @@ module _ (p : Project) where
             }
 
           -- past the last row, the module is left
-          pub leave-ready : (m < modules p) × (m < length u.at.ns) × (u.at.c.placed < length u.at.ss) × (u.at.c.next < missing)
+          pub leave-ready : (m < length p.normal) × (m < length u.at.ns) × (u.at.c.placed < length u.at.ss) × (u.at.c.next < missing)
           leave-ready =
               let q = roomy in
-              (omega (arith, ready.0.size, ready.1), omega (arith, ready.1, ready.2.places, numbers-len), omega (arith, q.lists), omega (arith, q.counts))
+              (omega (arith, ready.0.fit.size, ready.1), omega (arith, ready.1, ready.2.places, numbers-len), omega (arith, q.lists), omega (arith, q.counts))
 
           pub ended : end ≤ u.row → (r : Counters) (ns ss : List ℕ) → made ns ss r.placed r.next ≡ number p.normal (made u.at.ns u.at.ss u.at.c.placed u.at.c.next) m
               → Visited t₀ (m ∷ []) (record { c = r; ms = u.at.ms; ns = ns; ss = ss })
@@ -181,8 +181,8 @@ module _ (p : Project) where
 -- ---- the roots
 module _ (p : Project) {starts : List ℕ} {t : Now} (indexed : Indexed p starts (length t.ms)) (room : Room t.ms t.ns t.ss t.c.placed t.c.next) where
   -- after visits of some roots, a further one may be visited
-  pub root-ready : {u : Now} {xs : List ℕ} {m : ℕ} → Visited p t xs u → m < modules p → Prepared p starts u m
-  root-ready v l = let k = carried_on p v in (subst (Indexed p starts) (sym k.marks-len) indexed, omega (arith, l, indexed.size, k.marks-len), room_after room k)
+  pub root-ready : {u : Now} {xs : List ℕ} {m : ℕ} → Visited p t xs u → m < length t.ms → Prepared p starts u m
+  root-ready v l = let k = carried_on p v in (subst (Indexed p starts) (sym k.marks-len) indexed, omega (arith, l, k.marks-len), room_after room k)
 
 -- one root more
 pub root-visited : (p : Project) {t u v : Now} {m : ℕ} (roots : List ℕ) (i : ℕ) → i < length roots → Visited p t (m ∷ take i roots) u → Visited p u (get_or roots i 0 ∷ []) v → Visited p t (m ∷ take (i + 1) roots) v

@@ -5,12 +5,24 @@ use Rattle.lists.specs.Words.{zeros}
 use Rattle.walk.specs.Walk.{St}
 use Rattle.tables.specs.Project.{Project, missing}
 use Rattle.tables.specs.Readings.{modules}
-use Rattle.tables.specs.Lookups.{FirstRows}
+use Rattle.tables.specs.Lookups.{Rising, FirstRows}
+use Rattle.tables.specs.Refusal.{module_limit, row_limit}
+use Rattle.tables.specs.Accepted.{BelowOrMissing}
 use Rattle.sort_steps.specs.Steps.{Numbered, made}
 
--- there are n modules, and starts has the first record row of each, and of one more
-pub record Indexed (p : Project) (starts : List ℕ) (n : ℕ) : Type 0 where
+-- the columns fit each other, within the limits: n modules, and records in module order with targets among the modules
+pub record Fit (p : Project) (n : ℕ) : Type 0 where
   pub size : modules p ≡ n
+  pub kinds : length p.record_kind ≡ length p.record_module
+  pub targets : length p.record_target ≡ length p.record_module
+  pub rising : Rising p.record_module
+  pub within : BelowOrMissing n p.record_target
+  pub few : n ≤ module_limit
+  pub rows : length p.record_module ≤ row_limit
+
+-- and starts has the first record row of each module, and of one more
+pub record Indexed (p : Project) (starts : List ℕ) (n : ℕ) : Type 0 where
+  pub fit : Fit p n
   pub firsts : FirstRows p.record_module starts
   pub places : n < length starts
 

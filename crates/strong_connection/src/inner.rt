@@ -11,7 +11,7 @@ use std::marker::Model;
 use threads::inner::{Rows, Threads};
 
 // A directed graph: the rows of two columns as edges, threaded by their sources. Contracts see the columns, and how many places it has.
-// Targets are places; a source need not be one.
+// Targets are places; a source need not be one. The fields are open: any threaded columns may be lent as a graph.
 #[derive(Drop)]
 pub struct Digraph<'a> {
     pub sources: Threads<'a>,

@@ -14,7 +14,7 @@ ghost use Rattle.suffix_rule.specs.inner.Suffix.{FirstIn, InSuffix, Joined, Whol
 use expected_order::inner::find_expected;
 use lists::inner::count_marked;
 use marks::inner::{add, any_open, mark_owners};
-use rule_sets::inner::RuleSets;
+use rule_sets::inner::{ReachedSet, RootSets};
 use table::MODULE_LIMIT;
 
 // The place of the first member of an order that is in two sets, or the order's length. Orders and sets are slices here and below: this is of any order and any sets.
@@ -95,29 +95,35 @@ fn extend_order(
 }
 
 // The same for the expected order of a module row of a table.
-fn extend_entry(sets: &RuleSets, settled: &mut [u32], plan: &mut [u32], root: u32, k: usize) -> bool
-    requires plan { length plan.old ≡ modules sets.now }
-    requires root { root < modules sets.now }
+fn extend_entry(
+    rooted: &RootSets,
+    settled: &mut [u32],
+    plan: &mut [u32],
+    root: u32,
+    k: usize,
+) -> bool
+    requires plan { length plan.old ≡ modules rooted.now }
+    requires root { root < modules rooted.now }
     requires entry { k < length settled.old }
-    ensures { Extended (expected_of sets.now root) (sensitive_marks sets.now) (eligible_marks sets.now) k settled.old settled.new plan.old plan.new result }
+    ensures { Extended (expected_of rooted.now root) (sensitive_marks rooted.now) (eligible_marks rooted.now) k settled.old settled.new plan.old plan.new result }
 {
     let mut order = [0u32; MODULE_LIMIT];
-    let order = find_expected(sets.current, &mut order, root);
-    extend_order(order, sets.sensitive, sets.eligible, settled, plan, k)
+    let order = find_expected(rooted.current, &mut order, root);
+    extend_order(order, rooted.sensitive, rooted.eligible, settled, plan, k)
 }
 
 // The same for each root; a settled one isn't walked again.
-fn extend_entries(sets: &RuleSets, settled: &mut [u32], plan: &mut [u32]) -> bool
-    requires plan { Marked sets.now plan.old }
-    requires settled { Settling sets.now settled.old plan.old }
-    ensures { SuffixPassed sets.now plan.old settled.new plan.new result }
+fn extend_entries(rooted: &RootSets, settled: &mut [u32], plan: &mut [u32]) -> bool
+    requires plan { Marked rooted.now plan.old }
+    requires settled { Settling rooted.now settled.old plan.old }
+    ensures { SuffixPassed rooted.now plan.old settled.new plan.new result }
 {
     let mut changed = false;
-    for (k, &root) in sets.roots.iter().enumerate() {
+    for (k, &root) in rooted.roots.iter().enumerate() {
         if settled[k] != 0 {
             continue;
         }
-        if !extend_entry(sets, settled, plan, root, k) {
+        if !extend_entry(rooted, settled, plan, root, k) {
             continue;
         }
         changed = true;
@@ -126,17 +132,23 @@ fn extend_entries(sets: &RuleSets, settled: &mut [u32], plan: &mut [u32]) -> boo
 }
 
 // One pass of rule (i) over a table. It asks for nothing where every entry is settled, or every sensitive candidate, a reached eligible module, is planned.
-// Whether any module was added.
-pub fn pass_suffixes(sets: &RuleSets, settled: &mut [u32], plan: &mut [u32]) -> bool
-    requires plan { Marked sets.now plan.old }
-    requires settled { Settling sets.now settled.old plan.old }
-    ensures { SuffixPassed sets.now plan.old settled.new plan.new result }
+// Whether any module was added. The reached modules stand beside the roots' sets, since rules (iii) and (iv) take them alone.
+pub fn pass_suffixes(
+    rooted: &RootSets,
+    reached: &ReachedSet,
+    settled: &mut [u32],
+    plan: &mut [u32],
+) -> bool
+    requires same { reached.now ≡ rooted.now }
+    requires plan { Marked rooted.now plan.old }
+    requires settled { Settling rooted.now settled.old plan.old }
+    ensures { SuffixPassed rooted.now plan.old settled.new plan.new result }
 {
     if count_marked(settled) == settled.len() {
         return false;
     }
-    if !any_open(sets.sensitive, sets.candidates, plan) {
+    if !any_open(rooted.sensitive, reached.candidates, plan) {
         return false;
     }
-    extend_entries(sets, settled, plan)
+    extend_entries(rooted, settled, plan)
 }

@@ -5,7 +5,7 @@ ghost use Rattle.share_totals.specs.Shares.{share_of};
 ghost use Rattle.table_share.specs.Counts.{eligible_count, planned_count};
 
 use current_columns::inner::Current;
-use eligibility::inner::mark_table_eligible;
+use eligibility::of_table::mark_table_eligible;
 use lists::inner::count_marked;
 use order_analysis::inner::analyze;
 use share_totals::Share;

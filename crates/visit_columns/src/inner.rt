@@ -56,24 +56,25 @@ pub fn prepare_wrapped<'a>(
 {
     let n = current.modules();
     let chunks = current.chunks();
+    let columns = current.columns();
     let ways = &mut space.ways;
     let ways = &mut ways[..n];
-    write_ways(current, wraps, ways);
+    write_ways(columns, wraps, ways);
     let starts = &mut space.starts;
     let starts = &mut starts[..n + 1];
-    first_rows(current.record_module, starts);
+    first_rows(columns.record_module, starts);
     let triggers = &mut space.triggers;
-    let triggers = &mut triggers[..current.record_module.len()];
-    write_triggers(current, wraps, triggers);
+    let triggers = &mut triggers[..columns.record_module.len()];
+    write_triggers(columns, wraps, triggers);
     let member_starts = &mut space.member_starts;
     let member_starts = &mut member_starts[..chunks + 1];
-    first_rows(current.member_chunk, member_starts);
+    first_rows(columns.member_chunk, member_starts);
     let load_starts = &mut space.load_starts;
     let load_starts = &mut load_starts[..chunks + 1];
-    first_rows(current.import_chunk, load_starts);
+    first_rows(columns.import_chunk, load_starts);
     let loads = &mut space.loads;
-    let loads = &mut loads[..current.imports.len()];
-    arrange_table(current, loads);
+    let loads = &mut loads[..columns.imports.len()];
+    arrange_table(columns, loads);
     VisitColumns {
         ways,
         starts,
@@ -89,5 +90,6 @@ pub fn prepare_wrapped<'a>(
 pub fn prepare_table<'a>(current: &Current, space: &'a mut VisitSpace) -> VisitColumns<'a>
     ensures { Prepared current.now result }
 {
-    prepare_wrapped(current, current.wrap, space)
+    let columns = current.columns();
+    prepare_wrapped(current, columns.wrap, space)
 }

@@ -1,12 +1,12 @@
 // For crates above, on tested tables.
-ghost use Rattle.std.specs.Prelude.{◌≤◌, length};
+ghost use Rattle.std.specs.Prelude.{◌≡◌, ◌≤◌, length};
 ghost use Rattle.tables.specs.Readings.{modules};
 ghost use Rattle.tables.specs.Accepted.{Below};
 ghost use Rattle.worklist_taking.specs.inner.State.{GraphOf};
 ghost use Rattle.worklist.specs.inner.Taking.{Fresh, TakenAll};
 
 use request_queue::inner::Queue;
-use rule_sets::inner::RuleSets;
+use rule_sets::inner::{ReachedSet, RootSets};
 use strong_connection::inner::Digraph;
 use worklist_batch::inner::{Notes, advance};
 use worklist_ends::inner::list_seeds;
@@ -15,7 +15,8 @@ use worklist_step::inner::step;
 // Lists the eligible seeds, then takes the modules of the list in turn until all are taken. `lengths` gets the length of the list after each number of takings
 // but the last, from none on. How many there are. Seeds, list and lengths are the caller's, and each is asked for something else, so a value of them only moves the clauses.
 pub fn take_all(
-    sets: &RuleSets,
+    rooted: &RootSets,
+    reached: &ReachedSet,
     graph: &Digraph,
     seeds: &[u32],
     met: &mut Queue,
@@ -23,24 +24,25 @@ pub fn take_all(
     notes: &mut Notes,
     lengths: &mut [u32],
 ) -> usize
-    requires graph { GraphOf sets.now graph.now }
-    requires seeds { Below (modules sets.now) seeds.now }
-    requires fresh { Fresh sets.now met.old list.old notes.old }
-    requires room { modules sets.now ≤ length lengths.old }
-    ensures { TakenAll sets.now seeds.now list.new.marks list.new.list lengths.old lengths.new result }
+    requires same { reached.now ≡ rooted.now }
+    requires graph { GraphOf rooted.now graph.now }
+    requires seeds { Below (modules rooted.now) seeds.now }
+    requires fresh { Fresh rooted.now met.old list.old notes.old }
+    requires room { modules rooted.now ≤ length lengths.old }
+    ensures { TakenAll rooted.now seeds.now list.new.marks list.new.list lengths.old lengths.new result }
 {
-    list_seeds(seeds, sets.eligible, list);
+    list_seeds(seeds, rooted.eligible, list);
     let mut end = 0;
     let mut k = 0;
     // the list grows while it is read
     while k < list.len() {
-        end = advance(sets, list, notes, k, end);
+        end = advance(rooted, reached, list, notes, k, end);
         let listed = list.len();
         lengths[k] = listed as u32;
         step(
             graph,
-            sets.candidates,
-            sets.eligible,
+            reached.candidates,
+            rooted.eligible,
             &notes.threads(),
             met,
             list,

@@ -9,7 +9,7 @@ ghost use Rattle.worklist_batch.specs.inner.Noting.{NoteRoom, Noting, Batching, 
 use lists::inner::fill;
 use marks::inner::any_open;
 use request_queue::inner::Queue;
-use rule_sets::inner::RuleSets;
+use rule_sets::inner::{ReachedSet, RootSets};
 use std::marker::Model;
 use suffix_places::inner::{NEVER, lower_entries};
 use threads::inner::{Threads, thread};
@@ -32,10 +32,10 @@ fn any_sensitive(part: &[u32], sensitive: &[u32]) -> bool
 // Contracts see it without the threads.
 #[derive(Drop)]
 pub struct Notes<'a> {
-    settled: &'a mut [u32],
-    asked: &'a mut [u32],
-    heads: &'a mut [u32],
-    nexts: &'a mut [u32],
+    pub settled: &'a mut [u32],
+    pub asked: &'a mut [u32],
+    pub heads: &'a mut [u32],
+    pub nexts: &'a mut [u32],
 }
 
 impl<'a> Model for Notes<'a> {
@@ -82,9 +82,9 @@ impl<'a> Notes<'a> {
     }
 
     // Notes after how many takings the rule asks for each module, for all that are listed.
-    fn note(&mut self, sets: &RuleSets, placed: &[u32])
-        requires noting { Noting sets.now placed.now self.old }
-        ensures { (end : ℕ) → Batch sets.now placed.now self.new end }
+    fn note(&mut self, rooted: &RootSets, placed: &[u32])
+        requires noting { Noting rooted.now placed.now self.old }
+        ensures { (end : ℕ) → Batch rooted.now placed.now self.new end }
     {
         // one by one: Rattle doesn't cover a call with two fields of `self`
         let settled = &mut *self.settled;
@@ -92,27 +92,41 @@ impl<'a> Notes<'a> {
         let heads = &mut *self.heads;
         let nexts = &mut *self.nexts;
         fill(after, NEVER);
-        lower_entries(sets, placed, settled, after);
+        let RootSets {
+            current,
+            roots,
+            sensitive,
+            eligible,
+        } = *rooted;
+        lower_entries(current, roots, sensitive, eligible, placed, settled, after);
         thread(after, heads, nexts);
     }
 }
 
 // Where place k starts a new batch, notes what rule (i) asks for: nothing new where none of the batch is sensitive, or every sensitive candidate is listed.
 // The place where the batch ends.
-pub fn advance(sets: &RuleSets, list: &Queue, notes: &mut Notes, k: usize, end: usize) -> usize
-    requires batch { Batching sets.now list.now notes.old k end }
-    ensures { Advanced sets.now list.now k notes.new result }
+pub fn advance(
+    rooted: &RootSets,
+    reached: &ReachedSet,
+    list: &Queue,
+    notes: &mut Notes,
+    k: usize,
+    end: usize,
+) -> usize
+    requires same { reached.now ≡ rooted.now }
+    requires batch { Batching rooted.now list.now notes.old k end }
+    ensures { Advanced rooted.now list.now k notes.new result }
 {
     if k < end {
         return end;
     }
     let count = list.len();
-    if !any_sensitive(list.since(end), sets.sensitive) {
+    if !any_sensitive(list.since(end), rooted.sensitive) {
         return count;
     }
-    if !any_open(sets.sensitive, sets.candidates, list.marks()) {
+    if !any_open(rooted.sensitive, reached.candidates, list.marks()) {
         return count;
     }
-    notes.note(sets, list.marks());
+    notes.note(rooted, list.marks());
     count
 }

@@ -13,7 +13,7 @@ use lists::inner::count_marked;
 use request_edges::inner::EdgeList;
 use request_graph::inner::{EDGES, NODES, request_edges};
 use request_queue::inner::Queue;
-use rule_sets::inner::{RuleSets, RuleSpace, read_sets};
+use rule_sets::inner::{LabelSpace, RuleSets, RuleSpace, read_labels, read_sets};
 use strong_connection::inner::Digraph;
 use table::MODULE_LIMIT;
 use worklist_ends::inner::{mark_members, write_listed};
@@ -29,11 +29,18 @@ fn run_sets(sets: &RuleSets, seeds: &[u32], list: &mut Queue, lengths: &mut [u32
     let mut from = [0u32; EDGES];
     let mut to = [0u32; EDGES];
     let mut edges = EdgeList::new(&mut from, &mut to);
-    request_edges(sets, &mut edges);
+    let imports = &sets.imports;
+    request_edges(
+        &sets.labelled,
+        &sets.reached,
+        imports.to(),
+        imports.from(),
+        &mut edges,
+    );
     let mut heads = [0u32; NODES];
     let mut nexts = [0u32; EDGES];
     let graph = Digraph::new(edges.sources(), edges.targets(), &mut heads, &mut nexts);
-    run_linked(sets, &graph, seeds, list, lengths)
+    run_linked(&sets.rooted, &sets.reached, &graph, seeds, list, lengths)
 }
 
 // Takes the modules of a worklist, of a table.
@@ -43,8 +50,10 @@ fn run_table(current: &Current, seeds: &[u32], list: &mut Queue, lengths: &mut [
     requires room { modules current.now ≤ length lengths.old }
     ensures { Ran current.now seeds.now list.new.marks lengths.old lengths.new result }
 {
+    let mut label_space = LabelSpace::EMPTY;
+    let labelled = read_labels(current, &mut label_space);
     let mut space = RuleSpace::EMPTY;
-    let sets = read_sets(current, &mut space);
+    let sets = read_sets(&labelled, &mut space);
     run_sets(&sets, seeds, list, lengths)
 }
 

@@ -8,9 +8,8 @@ use Rattle.tables.specs.Project.{Project}
 use Rattle.tables.specs.Readings.{modules}
 use Rattle.wrap_rules.specs.Plan.{roots}
 use Rattle.suffix_rule.specs.inner.Suffix.{Settled}
-use Rattle.strong_connection.specs.inner.Graph.{EdgeColumns}
 use Rattle.reached_modules.proofs.Choosing.{few-roots}
-use Rattle.rule_sets.specs.inner.Sets.{Sets}
+use Rattle.rule_sets.specs.inner.Sets.{Rooted}
 use Rattle.rule_sets.proofs.Blank.{blank-none}
 use Rattle.suffix_places.specs.inner.Places.{never}
 use Rattle.worklist_taking.specs.inner.State.{Batch}
@@ -20,7 +19,7 @@ take-zeros zero K l = refl
 take-zeros (suc n) zero l = absurd (omega arith)
 take-zeros (suc n) (suc K) l = ap (λ (xs : List ℕ). 0 ∷ xs) (take-zeros n K (omega arith))
 
-module _ {p : Project} {labels root_list sensitives eligibles candidates : List ℕ} {imports : EdgeColumns} (s : Sets p labels root_list sensitives eligibles candidates imports) where
+module _ {p : Project} {root_list sensitives eligibles : List ℕ} (s : Rooted p root_list sensitives eligibles) where
   pub roots_fit : length root_list ≤ 16384
   roots_fit = omega (arith, ap length s.root, few-roots p s.accepted)
 

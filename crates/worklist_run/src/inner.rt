@@ -7,7 +7,7 @@ ghost use Rattle.worklist_run.specs.inner.Run.{Ran};
 
 use request_graph::inner::NODES;
 use request_queue::inner::Queue;
-use rule_sets::inner::RuleSets;
+use rule_sets::inner::{ReachedSet, RootSets};
 use strong_connection::inner::Digraph;
 use table::{MODULE_LIMIT, ROW_LIMIT};
 use worklist::inner::take_all;
@@ -19,22 +19,24 @@ const TAKINGS: usize = 4098;
 // Takes the modules of a worklist over a request graph; `list` is emptied first. `lengths` gets the length of the list after each number of takings but the last,
 // from none on. How many there are.
 pub fn run_linked(
-    sets: &RuleSets,
+    rooted: &RootSets,
+    reached: &ReachedSet,
     graph: &Digraph,
     seeds: &[u32],
     list: &mut Queue,
     lengths: &mut [u32],
 ) -> usize
-    requires graph { GraphOf sets.now graph.now }
-    requires seeds { Below (modules sets.now) seeds.now }
-    requires size { length list.old.marks ≡ modules sets.now }
-    requires room { modules sets.now ≤ length lengths.old }
-    ensures { Ran sets.now seeds.now list.new.marks lengths.old lengths.new result }
+    requires same { reached.now ≡ rooted.now }
+    requires graph { GraphOf rooted.now graph.now }
+    requires seeds { Below (modules rooted.now) seeds.now }
+    requires size { length list.old.marks ≡ modules rooted.now }
+    requires room { modules rooted.now ≤ length lengths.old }
+    ensures { Ran rooted.now seeds.now list.new.marks lengths.old lengths.new result }
 {
     list.clear();
-    let n = sets.current.modules();
+    let n = rooted.current.modules();
     let mut settled = [0u32; ROW_LIMIT];
-    let settled = &mut settled[..sets.roots.len()];
+    let settled = &mut settled[..rooted.roots.len()];
     let mut asked = [0u32; MODULE_LIMIT];
     let mut heads = [0u32; TAKINGS];
     let mut nexts = [0u32; MODULE_LIMIT];
@@ -42,5 +44,7 @@ pub fn run_linked(
     let mut marks = [0u32; NODES];
     let mut queue = [0u32; NODES];
     let mut met = Queue::new(&mut marks, &mut queue);
-    take_all(sets, graph, seeds, &mut met, list, &mut notes, lengths)
+    take_all(
+        rooted, reached, graph, seeds, &mut met, list, &mut notes, lengths,
+    )
 }

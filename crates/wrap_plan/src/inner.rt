@@ -7,7 +7,7 @@ ghost use Rattle.wrap_plan.specs.inner.Seeded.{Seeds};
 use current_columns::inner::Current;
 use lists::inner::{count_marked, fill};
 use plan_rounds::inner::build_order_wrap_plan;
-use rule_sets::inner::{RuleSpace, read_sets};
+use rule_sets::inner::{LabelSpace, read_labels};
 use seeds::inner::mark_seeds;
 
 // The plan from seeds, as marks. How many are marked.
@@ -16,10 +16,10 @@ pub fn plan_seeds(current: &Current, seeds: &[u32], plan: &mut [u32]) -> usize
     ensures plan { plan.new ≡ plan_of current.now seeds.now }
     ensures count { result ≡ ones (plan_of current.now seeds.now) }
 {
-    let mut space = RuleSpace::EMPTY;
-    let sets = read_sets(current, &mut space);
+    let mut space = LabelSpace::EMPTY;
+    let labelled = read_labels(current, &mut space);
     fill(plan, 0);
-    mark_seeds(seeds, sets.eligible, plan);
-    build_order_wrap_plan(&sets, plan);
+    mark_seeds(seeds, labelled.eligible, plan);
+    build_order_wrap_plan(&labelled, plan);
     count_marked(plan)
 }

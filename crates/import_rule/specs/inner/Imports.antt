@@ -1,9 +1,10 @@
--- What the pass of rule (iii) looks for and leaves, over the columns that it reads, and at a project.
+-- What the pass of rule (iii) looks for, asks and leaves, over the columns that it reads, and at a project.
 -- Assumes nothing.
 use Rattle.std.specs.Prelude.{◌≡◌, ℕ, Bool, true, List, length}
 use Rattle.lists.specs.Words.{has}
 use Rattle.tables.specs.Project.{Project}
 use Rattle.tables.specs.Readings.{modules}
+use Rattle.tables.specs.Accepted.{Below}
 use Rattle.eligibility.specs.Eligible.{eligible}
 use Rattle.marks.specs.Steps.{Row, Added}
 use Rattle.wrap_rules.specs.Rules.{import_asks}
@@ -15,6 +16,14 @@ pub record Importer (importers targets dependency_module dependency candidates S
   pub candidate : has candidates m ≡ true
   pub depends : Row dependency_module dependency S m
   pub leading : Row importers targets leads m
+
+-- a project's dependencies fit each other, these targets and these candidates, over n modules
+pub record Importing (p : Project) (targets candidates : List ℕ) (n : ℕ) : Type 0 where
+  pub imported : Below n targets
+  pub dependencies : length p.dependency ≡ length p.dependency_module
+  pub dependents : Below n p.dependency_module
+  pub depended : Below n p.dependency
+  pub candidate : length candidates ≡ n
 
 -- modules that lead to a plan
 pub record Leading (p : Project) (leads plan : List ℕ) : Type 0 where

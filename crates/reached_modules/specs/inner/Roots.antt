@@ -22,6 +22,15 @@ pub record Reaching (included root_list from to : List ℕ) (n : ℕ) (reached_s
   pub only : (m : ℕ) → has start m ≡ true → (k : ℕ) × (k < length root_list) × (slice_index root_list k ≡ m)
   pub spreads : Spreads from to start reached_set
 
+-- the eligible modules of that set
+pub record Chosen (included root_list from to eligibles old candidates : List ℕ) : Type 0 where
+  pub reached_set : List ℕ
+  pub reaching : Reaching included root_list from to (length old) reached_set
+  pub len : length candidates ≡ length old
+  pub bits : Bits old → Bits candidates
+  pub all : (m : ℕ) → m < length old → has reached_set m ≡ true → has eligibles m ≡ true → has candidates m ≡ true
+  pub only : (m : ℕ) → has candidates m ≡ true → (has reached_set m ≡ true) × (has eligibles m ≡ true)
+
 -- what the candidates of an accepted project are chosen by, and room for them in which nothing is marked
 pub record Choosing (p : Project) (from to root_list eligibles candidates : List ℕ) : Type 0 where
   pub edges : EdgesOf p from to (length from)

@@ -43,6 +43,13 @@ pub record EdgeRows : Type 0 where
 abbrev pub Room : ℕ → EdgeRows → Type 0
 Room rows e = length e.from + rows ≤ e.room
 
+-- an edge for each row of two columns, after the places a and b, can be added
+pub record Addable (sources targets : List ℕ) (a b : ℕ) (e : EdgeRows) : Type 0 where
+  pub rows : length targets ≡ length sources
+  pub room : Room (length sources) e
+  pub source : a ≤ edge_limit
+  pub target : b ≤ edge_limit
+
 -- an edge from u to v is in the list
 abbrev pub In : EdgeRows → ℕ → ℕ → Type 0
 In e u v = (i : ℕ) × (i < length e.from) × (slice_index e.from i ≡ u) × (slice_index e.to i ≡ v)

@@ -1,6 +1,6 @@
 -- What the rules (ii) to (iv) ask for as a graph, at a project.
 -- Assumes nothing.
-use Rattle.std.specs.Prelude.{ℕ, ◌⊎◌, List, length}
+use Rattle.std.specs.Prelude.{◌≡◌, ℕ, ◌⊎◌, List, length}
 use Rattle.tables.specs.Project.{Project, missing}
 use Rattle.tables.specs.Readings.{modules}
 use Rattle.chunk_cycles.specs.Cycles.{labels_of}
@@ -8,7 +8,7 @@ use Rattle.sensitivity.specs.Marks.{sensitive_marks}
 use Rattle.eligibility.specs.Eligible.{eligible_marks}
 use Rattle.marks.specs.Steps.{looked}
 use Rattle.wrap_rules.specs.inner.Passes.{candidate_marks}
-use Rattle.import_edges.specs.inner.Spread.{record_targets}
+use Rattle.import_edges.specs.inner.Spread.{record_targets, EdgesOf}
 use Rattle.request_edges.specs.inner.Edges.{numbered, chosen, Rows, EdgeRows, Adds}
 
 -- where the places of each kind start: the requests, "is planned or leads to a planned module", "has a planned dependency", the labels, the chains
@@ -26,6 +26,11 @@ at_label = 16384
 
 abbrev pub at_chain : ℕ
 at_chain = 32768
+
+-- the import records as edges
+pub record ImportRows (p : Project) (importers targets : List ℕ) : Type 0 where
+  pub lengths : length targets ≡ length importers
+  pub edges : EdgesOf p importers targets (length importers)
 
 -- (ii): from a module to its chunk's label, and on to the members of the label's chunks
 abbrev pub ComponentRows : List ℕ → List ℕ → List ℕ → List ℕ → List ℕ → List ℕ → ℕ → ℕ → Type 0

@@ -4,12 +4,19 @@
 use Rattle.std.specs.Prelude.{◌≡◌, ℕ, ◌<◌, ◌≤◌, Bool, true, ◌⊎◌, List, length, ◌≢◌, slice_index, slice_index_or}
 use Rattle.lists.specs.Words.{has}
 use Rattle.tables.specs.Project.{Project}
+use Rattle.tables.specs.Readings.{modules}
 use Rattle.expected_order.specs.OfProject.{expected_of}
 use Rattle.suffix_rule.specs.inner.Suffix.{AllPlanned, Settled}
 
 -- more than any place
 abbrev pub never : ℕ
 never = 4097
+
+-- marks of a project's n modules
+pub record Markings (p : Project) (sensitive eligible : List ℕ) (n : ℕ) : Type 0 where
+  pub size : n ≡ modules p
+  pub sensitives : length sensitive ≡ n
+  pub eligibles : length eligible ≡ n
 
 -- r is the lesser of two, of which the second counts only if it isn't 0
 pub record Earlier (least place r : ℕ) : Type 0 where

@@ -12,18 +12,18 @@ use Rattle.asked_suffixes.proofs.Marking.{asks-some, some-asks}
 use Rattle.asked_suffixes.proofs.inner.add_suffixes.Goals as goal
 
 pub add-requires-clause-two : goal.add-requires-clause-two
-add-requires-clause-two c = eligible-size (rw c.sets.view_is at c.sets.invariant) ∙ sym c.requires.plan.size ∙ ap length (sym c.requires.copy)
+add-requires-clause-two c = eligible-size _ (rw c.rooted.view_is at c.rooted.invariant).eligible_set ∙ sym c.requires.plan.size ∙ ap length (sym c.requires.copy)
 
 pub add-requires-clause-three : goal.add-requires-clause-three
-add-requires-clause-three c = eligible-size (rw c.sets.view_is at c.sets.invariant) ∙ sym c.requires.plan.size ∙ ap length (sym c.requires.copy)
+add-requires-clause-three c = eligible-size _ (rw c.rooted.view_is at c.rooted.invariant).eligible_set ∙ sym c.requires.plan.size ∙ ap length (sym c.requires.copy)
 
 pub returns : goal.returns
 returns c =
     let a = c.args in
-    let p = a.sets.now in
+    let p = a.rooted.now in
     let n = c.modules.result in
-    let s = rw c.sets.view_is at c.sets.invariant in
-    let size : length {A = ℕ} (take n (replicate 4096 0)) ≡ length a.copy.now = part_length 4096 n c.modules.ensures.few ∙ (rw c.sets.view_is at c.modules.ensures.count) ∙ sym c.requires.plan.size ∙ ap length (sym c.requires.copy) in
+    let s = rw c.rooted.view_is at c.rooted.invariant in
+    let size : length {A = ℕ} (take n (replicate 4096 0)) ≡ length a.copy.now = part_length 4096 n c.modules.ensures.few ∙ (rw c.rooted.view_is at c.modules.ensures.count) ∙ sym c.requires.plan.size ∙ ap length (sym c.requires.copy) in
     let marked = c.mark_entries.ensures in
     let added =
     added-cong (InAll c.mark_entries.new.asked (eligible_marks p) (eligible_marks p)) _
@@ -34,4 +34,4 @@ returns c =
     rw c.requires.copy at added
 
 pub mark_entries-requires-clause-size : goal.mark_entries-requires-clause-size
-mark_entries-requires-clause-size c = part_length 4096 c.modules.result c.modules.ensures.few ∙ (rw c.sets.view_is at c.modules.ensures.count)
+mark_entries-requires-clause-size c = part_length 4096 c.modules.result c.modules.ensures.few ∙ (rw c.rooted.view_is at c.modules.ensures.count)

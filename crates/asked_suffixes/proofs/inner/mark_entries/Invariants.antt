@@ -6,4 +6,4 @@ use Rattle.asked_suffixes.proofs.Marking.{Before}
 use Rattle.asked_suffixes.proofs.inner.mark_entries.Given as goal
 
 abbrev pub invariant-loop-root : goal.invariant-loop-root
-invariant-loop-root l = Before l.sets (roots l.sets) (sensitive_marks l.sets) l.plan l.root-index l.initial.asked l.asked
+invariant-loop-root l = Before l.rooted (roots l.rooted) (sensitive_marks l.rooted) l.plan l.root-index l.initial.asked l.asked

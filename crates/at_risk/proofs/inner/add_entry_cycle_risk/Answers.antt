@@ -12,7 +12,7 @@ pub add_cycle_risk-requires-clause-order : goal.add_cycle_risk-requires-clause-o
 add_cycle_risk-requires-clause-order c = rw c.requires.placed.size c.requires.placed.order
 
 pub add_cycle_risk-requires-clause-rows : goal.add_cycle_risk-requires-clause-rows
-add_cycle_risk-requires-clause-rows c = let p = c.args.entry.now.current.now in ap length c.requires.eligibles ∙ length-marks_of (eligible p) (modules p) ∙ sym c.requires.placed.size
+add_cycle_risk-requires-clause-rows c = let p = c.args.current.now in ap length c.requires.eligibles ∙ length-marks_of (eligible p) (modules p) ∙ sym c.requires.placed.size
 
 pub returns : goal.returns
-returns c = cc (ap has c.requires.eligibles ∙ eligible-marks c.args.entry.now.current.now)
+returns c = cc (ap has c.requires.eligibles ∙ eligible-marks c.args.current.now)

@@ -9,9 +9,9 @@ use Rattle.chunk_cycles.proofs.inner.label_table.Goals as goal
 pub label_chunks-requires : goal.label_chunks-requires
 unfolding project
 label_chunks-requires c =
-    let p = project c.current.inside in
-    let n : length c.args.labels.now ≡ chunks p = rw (← c.current.view_is) at c.requires.places in
-    let fit = accepted-fit p c.current.invariant in
+    let p = project c.columns.inside in
+    let n : length c.args.labels.now ≡ chunks p = rw (← c.columns-columns.ensures.same, ← c.columns.view_is) at c.requires.places in
+    let fit = accepted-fit p (rw (← c.columns-columns.ensures.same, ← c.columns.view_is) at c.columns-columns.ensures.accepted) in
     record {
       few = rw n fit.few;
       rows = fit.rows;
@@ -20,4 +20,6 @@ label_chunks-requires c =
 
 pub returns : goal.returns
 unfolding project
-returns c = rw (← c.current.view_is) (table-labelled (project c.current.inside) (length c.args.labels.now) (rw (← c.current.view_is) at c.requires.places) c.label_chunks.ensures)
+returns c =
+    let n = rw (← c.columns-columns.ensures.same, ← c.columns.view_is) at c.requires.places in
+    rw (← c.columns-columns.ensures.same, ← c.columns.view_is) (table-labelled (project c.columns.inside) (length c.args.labels.now) n c.label_chunks.ensures)

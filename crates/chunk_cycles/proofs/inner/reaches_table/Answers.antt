@@ -8,10 +8,10 @@ use Rattle.chunk_cycles.proofs.inner.reaches_table.Goals as goal
 pub reaches_cyclic-requires : goal.reaches_cyclic-requires
 unfolding project
 reaches_cyclic-requires c =
-    let p = project c.current.inside in
-    let q = rw (← c.current.view_is) at c.requires.labels in
+    let p = project c.columns.inside in
+    let q = rw (← c.columns-columns.ensures.same, ← c.columns.view_is) at c.requires.labels in
     let n = reaching-length p c.args.labels.now c.args.chunk q in
-    let fit = accepted-fit p c.current.invariant in
+    let fit = accepted-fit p (rw (← c.columns-columns.ensures.same, ← c.columns.view_is) at c.columns-columns.ensures.accepted) in
     record {
       few = rw n fit.few;
       rows = fit.rows;
@@ -23,4 +23,5 @@ reaches_cyclic-requires c =
 pub returns : goal.returns
 unfolding project
 returns c =
-    rw (← c.current.view_is) (reaching-said (project c.current.inside) c.args.labels.now c.args.chunk (rw (← c.current.view_is) at c.requires.labels) c.reaches_cyclic.result c.reaches_cyclic.ensures)
+    let q = rw (← c.columns-columns.ensures.same, ← c.columns.view_is) at c.requires.labels in
+    rw (← c.columns-columns.ensures.same, ← c.columns.view_is) (reaching-said (project c.columns.inside) c.args.labels.now c.args.chunk q c.reaches_cyclic.result c.reaches_cyclic.ensures)

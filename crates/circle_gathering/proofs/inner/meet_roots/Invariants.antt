@@ -7,5 +7,5 @@ use Rattle.circle_gathering.proofs.inner.meet_roots.Given as goal
 
 abbrev pub invariant-loop-root : goal.invariant-loop-root
 invariant-loop-root l =
-    Searches (led_by l.starts l.led) write (held l.fn.states l.fn.stack 0 l.fn.paths l.fn.lengths 0 0) (l.current.runtime ∷ take l.root-index l.current.entry)
+    Searches (led_by l.starts l.led) write (held l.fn.states l.fn.stack 0 l.fn.paths l.fn.lengths 0 0) (l.columns.runtime ∷ take l.root-index l.columns.entry)
     (held l.states l.stack 0 l.paths l.lengths l.found.count l.found.used)

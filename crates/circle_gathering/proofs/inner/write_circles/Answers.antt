@@ -1,7 +1,6 @@
 -- `circle_gathering::inner::write_circles` meets its contract: the first search counts, and the second writes.
 -- Assumes nothing.
 use Rattle.std.proofs.Common.{◌≡◌, [], ◌∷◌, length, sym, ◌∙◌, arith}
-use Rattle.tables.specs.Readings.{modules}
 use Rattle.circle_search.specs.Circles.{circles}
 use Rattle.circle_visit.specs.Visit.{led_by}
 use Rattle.circle_gathering.specs.Gathering.{joined}
@@ -14,8 +13,8 @@ returns-then-count-eq0 c = none-there _ _ _ (sym (counted-all _ [] [] c.search_c
 
 pub returns-then-paths-used : goal.returns-then-paths-used
 returns-then-paths-used c =
-    let p = c.args.current.now in
-    let found = circles (led_by c.args.starts.now c.args.led.now) (modules p) (p.runtime ∷ p.entry) in
+    let p = c.args.columns.now in
+    let found = circles (led_by c.args.starts.now c.args.led.now) c.args.n (p.runtime ∷ p.entry) in
     let count : c.search_circles-found.result.count ≡ length found = counted-all found [] [] c.search_circles-found.ensures in
     let used : c.search_circles-found.result.used ≡ length (joined found) = used-all found [] [] c.search_circles-found.ensures in
     elim c.then-paths-used.branch [
@@ -25,8 +24,8 @@ returns-then-paths-used c =
 
 pub returns : goal.returns
 returns c =
-    let p = c.args.current.now in
-    let found = circles (led_by c.args.starts.now c.args.led.now) (modules p) (p.runtime ∷ p.entry) in
+    let p = c.args.columns.now in
+    let found = circles (led_by c.args.starts.now c.args.led.now) c.args.n (p.runtime ∷ p.entry) in
     let count : c.search_circles-found.result.count ≡ length found = counted-all found [] [] c.search_circles-found.ensures in
     let used : c.search_circles-found.result.used ≡ length (joined found) = used-all found [] [] c.search_circles-found.ensures in
     both-fit found _ _ (omega (arith, used, c.if-paths-used.false)) (omega (arith, count, c.if-lengths-count.false)) count c.search_circles.ensures

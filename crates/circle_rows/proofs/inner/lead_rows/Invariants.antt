@@ -6,5 +6,5 @@ use Rattle.circle_rows.proofs.inner.lead_rows.Given as goal
 
 abbrev pub invariant-loop-row : goal.invariant-loop-row
 invariant-loop-row l =
-    let p = l.current in
+    let p = l.columns in
     Pass p.record_module (row_targets (is_static p.dynamic) any_target p.normal p.record_kind p.record_target) (modules p) l.row l.seen l.leads

@@ -12,6 +12,6 @@ pub returns-clause-members : goal.returns-clause-members
 returns-clause-members c =
     let p = c.args.current.now in
     let list = expected_of p c.args.root in
-    let w = c.list_expected-count.ensures in
+    let w = rw c.columns.ensures.same at c.list_expected-count.ensures in
     let back : take c.list_expected-count.result c.list_expected-count.new.order ≡ list = ap (take c.list_expected-count.result) w.written ∙ take_at list (drop (length list) _) c.list_expected-count.result (sym w.count) in
     subst (Below (modules p)) (sym back) (expected-below p c.args.root)

@@ -10,6 +10,6 @@ decreases-visit l = zeros l.marks.now
 
 abbrev pub invariant-loop-row : goal.invariant-loop-row
 invariant-loop-row l = record {
-  going : Walking l.current l.fn.marks l.fn.order l.m l.placed l.start l.row l.marks l.order l.count;
+  going : Walking l.columns l.fn.marks l.fn.order l.m l.placed l.start l.row l.marks l.order l.count;
   within : l.row ≤ l.end;
 }

@@ -7,5 +7,5 @@ use Rattle.import_edges.proofs.inner.list_edges.Given as goal
 abbrev pub invariant-loop-row : goal.invariant-loop-row
 invariant-loop-row l = record {
   few : l.count ≤ l.row;
-  edges : ImportsBelow l.current.record_module l.current.record_kind l.current.record_target l.row l.from l.to l.count;
+  edges : ImportsBelow l.columns.record_module l.columns.record_kind l.columns.record_target l.row l.from l.to l.count;
 }

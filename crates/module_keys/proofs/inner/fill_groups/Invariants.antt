@@ -7,4 +7,4 @@ use Rattle.module_keys.specs.Keys.{group_by}
 use Rattle.module_keys.proofs.inner.fill_groups.Given as goal
 
 abbrev pub invariant-loop-m : goal.invariant-loop-m
-invariant-loop-m l = (k : ℕ) → k < l.m → slice_index_or l.groups k 0 ≡ group_by (turned (line_at l.names (slice_index_or l.starts k 0))) l.current.normal l.current.record_module l.current.sensitive k
+invariant-loop-m l = (k : ℕ) → k < l.m → slice_index_or l.groups k 0 ≡ group_by (turned (line_at l.names (slice_index_or l.starts k 0))) l.columns.normal l.columns.record_module l.columns.sensitive k

@@ -7,9 +7,11 @@ use Rattle.planned_load.proofs.inner.prepare_planned.Goals as goal
 pub read_as_two-requires : goal.read_as_two-requires
 unfolding project
 read_as_two-requires c =
-    let counted = rw (← c.current.view_is) at c.modules-modules.ensures.count in
-    record { plan = omega (arith, room-length c.modules-modules.ensures.few, c.requires.plan, c.modules-modules.ensures.count); wraps = omega (arith, room-length c.modules-modules.ensures.few, counted, c.current.invariant.sizes.wrap) }
+    let counted = rw (← c.columns-columns.ensures.same, ← c.columns.view_is) at c.modules-modules.ensures.count in
+    let accepted = rw (← c.columns-columns.ensures.same, ← c.columns.view_is) at c.columns-columns.ensures.accepted in
+    record { plan = omega (arith, room-length c.modules-modules.ensures.few, c.requires.plan, c.modules-modules.ensures.count); wraps = omega (arith, room-length c.modules-modules.ensures.few, counted, accepted.sizes.wrap) }
 
 pub returns : goal.returns
 unfolding project
-returns c = rw (← c.current.view_is) (rw (← c.current.view_is, c.read_as_two.ensures) at c.prepare_wrapped.ensures)
+returns c =
+    rw (← c.columns-columns.ensures.same, ← c.columns.view_is) (rw (← c.columns-columns.ensures.same, ← c.columns.view_is, c.read_as_two.ensures) at c.prepare_wrapped.ensures)

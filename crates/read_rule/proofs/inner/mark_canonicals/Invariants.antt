@@ -4,4 +4,4 @@ use Rattle.read_rule.proofs.Marking.{Joined}
 use Rattle.read_rule.proofs.inner.mark_canonicals.Given as goal
 
 abbrev pub invariant-loop-y : goal.invariant-loop-y
-invariant-loop-y l = Joined l.current.canonical l.chains l.y l.symbols
+invariant-loop-y l = Joined l.columns.canonical l.chains l.y l.symbols

@@ -1,27 +1,22 @@
--- References that touch, modules that have them, and of these the candidates that read.
+-- `pass_readers`: over the columns of an accepted project.
 -- Assumes nothing.
-use Rattle.std.proofs.Common.{length, ◌∙◌, arith}
-use Rattle.current_columns.specs.AsProject.{project}
-use Rattle.marks.proofs.Parts.{part_none, part_length}
-use Rattle.read_rule.proofs.OfProject.{pass-shut, pass-added}
+use Rattle.read_rule.proofs.OfProject.{symbols-fit, reading-fit, read-pass}
 use Rattle.read_rule.proofs.inner.pass_readers.Goals as goal
 
-pub returns-then-not-any_open : goal.returns-then-not-any_open
-unfolding project
-returns-then-not-any_open c =
-    let s = rw (← c.current.view_is) at c.sets.invariant in
-    rw (← c.sets.view_is, ← c.current.view_is) (pass-shut _ c.current.invariant _ _ s.candidate_set (c.any_open.ensures c.if-not-any_open.true))
+pub close_top_level_readers-requires-clause-symbols : goal.close_top_level_readers-requires-clause-symbols
+close_top_level_readers-requires-clause-symbols c =
+    let p = c.args.reached.now in
+    let reached = rw c.reached.view_is at c.reached.invariant in
+    rw (c.columns-columns.ensures.same, c.reached.view_is) (symbols-fit p reached.accepted)
 
-pub mark_readers-requires-clause-none : goal.mark_readers-requires-clause-none
-mark_readers-requires-clause-none c = part_none 4096 (length c.args.plan.now)
+pub close_top_level_readers-requires-clause-columns : goal.close_top_level_readers-requires-clause-columns
+close_top_level_readers-requires-clause-columns c =
+    let p = c.args.reached.now in
+    let reached = rw c.reached.view_is at c.reached.invariant in
+    rw (c.columns-columns.ensures.same, c.reached.view_is, reached.candidate_set, c.requires.size) (reading-fit p reached.accepted)
 
 pub returns : goal.returns
-unfolding project
 returns c =
-    let s = rw (← c.current.view_is) at c.sets.invariant in
-    let plan = rw (← c.sets.view_is, ← c.current.view_is) at c.requires.size in
-    let reads = rw (← c.current.view_is) at c.mark_readers.ensures in
-    let size = c.mark_touching.auto.references ∙ part_length 16384 _ c.current.invariant.sizes.reference_statement in
-    let count = c.mark_readers.auto.readers ∙ part_length 4096 _ (omega (arith, plan, c.current.invariant.sizes.normal)) in
-    let touches = rw (← c.current.view_is) at c.mark_touching.ensures in
-    rw (← c.sets.view_is, ← c.current.view_is) (pass-added _ c.current.invariant _ _ s.candidate_set _ _ _ _ c.add.ensures reads touches size count)
+    let p = c.args.reached.now in
+    let reached = rw c.reached.view_is at c.reached.invariant in
+    read-pass p reached.accepted c.args.plan.now (rw (c.columns-columns.ensures.same, c.reached.view_is, reached.candidate_set) at c.close_top_level_readers.ensures)

@@ -8,5 +8,6 @@ use Rattle.request_graph.proofs.inner.add_chain_edges.Goals as goal
 pub returns : goal.returns
 unfolding project
 returns c =
-    let ok = c.current.invariant.sizes in
-    rw (← c.current.view_is) (adds-wide (omega (arith, ok.owner, ok.chain_link, ok.chain_symbol)) (adds_on c.add.ensures c.add_from_looked.ensures))
+    let t = c.columns-columns.ensures in
+    let ok = (rw (← t.same, ← c.columns.view_is) at t.accepted).sizes in
+    rw (← t.same, ← c.columns.view_is) (adds-wide (omega (arith, ok.owner, ok.chain_link, ok.chain_symbol)) (adds_on c.add.ensures c.add_from_looked.ensures))

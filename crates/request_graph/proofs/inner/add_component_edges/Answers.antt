@@ -8,8 +8,9 @@ use Rattle.request_graph.proofs.inner.add_component_edges.Goals as goal
 pub returns : goal.returns
 unfolding project
 returns c =
-    let ok = c.current.invariant.sizes in
-    let s = rw (← c.current.view_is) at c.sets.invariant in
-    let size = rw (← c.sets.view_is, ← c.current.view_is) at c.requires.modules in
-    rw (← c.sets.view_is, ← c.current.view_is, ← s.label)
+    let t = c.columns-columns.ensures in
+    let ok = (rw (← t.same, ← c.columns.view_is) at t.accepted).sizes in
+    let s = rw (← t.same, ← c.columns.view_is) at c.labelled.invariant in
+    let size = rw (← c.labelled.view_is, ← t.same, ← c.columns.view_is) at c.requires.modules in
+    rw (← c.labelled.view_is, ← t.same, ← c.columns.view_is, ← s.label)
     (adds-wide (omega (arith, size, ok.normal, ok.member_chunk)) (adds_on c.add_to_looked.ensures c.add_looked.ensures))

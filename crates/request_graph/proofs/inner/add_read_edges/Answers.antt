@@ -8,7 +8,8 @@ use Rattle.request_graph.proofs.inner.add_read_edges.Goals as goal
 pub returns : goal.returns
 unfolding project
 returns c =
-    let ok = c.current.invariant.sizes in
-    rw (← c.current.view_is)
+    let t = c.columns-columns.ensures in
+    let ok = (rw (← t.same, ← c.columns.view_is) at t.accepted).sizes in
+    rw (← t.same, ← c.columns.view_is)
     (adds-wide (omega (arith, ok.reference_symbol, ok.reference_statement, ok.depended, ok.depended_reference))
     (adds_on c.add.ensures (adds_on c.add_from_looked.ensures (adds_on c.add_to_looked.ensures c.add_looked.ensures))))

@@ -11,7 +11,9 @@ use Rattle.request_graph.proofs.inner.add_symbol_edges.Goals as goal
 pub returns : goal.returns
 unfolding project
 returns c =
-    let own : c.number.new.out ≡ numbered (length c.args.sets.now.owner) =
-    c.number.ensures ∙ ap numbered (part_length 16384 _ c.current.invariant.sizes.owner) ∙ ap (λ (p : Project). numbered (length p.owner)) (c.current.view_is ∙ c.sets.view_is)
+    let t = c.columns-columns.ensures in
+    let ok = (rw (← t.same, ← c.columns.view_is) at t.accepted).sizes in
+    let own : c.number.new.out ≡ numbered (length c.args.reached.now.owner) =
+    c.number.ensures ∙ ap numbered (part_length 16384 _ ok.owner) ∙ ap (λ (p : Project). numbered (length p.owner)) (c.columns.view_is ∙ t.same ∙ c.reached.view_is)
     in
-    adds_on (rw (c.sets.view_is, own) at c.add_chain_edges.ensures) (rw (c.sets.view_is, c.find_readers.ensures) at c.add_read_edges.ensures)
+    adds_on (rw (c.reached.view_is, own) at c.add_chain_edges.ensures) (rw (c.reached.view_is, c.find_readers.ensures) at c.add_read_edges.ensures)

@@ -8,4 +8,7 @@ use Rattle.request_graph.proofs.inner.find_readers.Goals as goal
 
 pub number_chosen-requires-clause-first : goal.number_chosen-requires-clause-first
 unfolding project
-number_chosen-requires-clause-first c = candidate-size (rw (← c.current.view_is) at c.sets.invariant) ∙ sym (part_length 4096 _ c.current.invariant.sizes.normal)
+number_chosen-requires-clause-first c =
+    let t = c.columns-columns.ensures in
+    let ok = (rw (← t.same, ← c.columns.view_is) at t.accepted).sizes in
+    candidate-size _ (rw (← t.same, ← c.columns.view_is) at c.reached.invariant) ∙ sym (part_length 4096 _ ok.normal)

@@ -7,11 +7,12 @@ use Rattle.rule_conditions.proofs.inner.lacking_importer.Goals as goal
 pub pass_importers-requires : goal.pass_importers-requires
 pass_importers-requires c =
     record {
+      edges = c.requires.edges;
       plan = rw c.copy_from_slice.ensures.after c.requires.plan;
-      leads = blank-leading _ 4096 _ _ c.modules.ensures.few (rw c.sets.view_is at c.modules.ensures.count);
+      leads = blank-leading _ 4096 _ _ c.modules.ensures.few (rw c.reached.view_is at c.modules.ensures.count);
     }
 
 pub returns : goal.returns
 returns c =
     let added = rw c.copy_from_slice.ensures.after at c.pass_importers.ensures.added in
-    c.lowest_added.ensures import_rule _ added
+    (rw c.reached.view_is at c.lowest_added.ensures) import_rule _ added

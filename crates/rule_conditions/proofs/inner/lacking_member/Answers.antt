@@ -9,4 +9,4 @@ pass_members-requires c = rw c.copy_from_slice.ensures.after c.requires.plan
 pub returns : goal.returns
 returns c =
     let added = rw c.copy_from_slice.ensures.after at c.pass_members.ensures in
-    c.lowest_added.ensures component_rule _ added
+    (rw c.labelled.view_is at c.lowest_added.ensures) component_rule _ added

@@ -9,4 +9,4 @@ pass_readers-requires c = rw c.copy_from_slice.ensures.after c.requires.plan
 pub returns : goal.returns
 returns c =
     let added = rw c.copy_from_slice.ensures.after at c.pass_readers.ensures in
-    c.lowest_added.ensures read_rule _ added
+    (rw c.reached.view_is at c.lowest_added.ensures) read_rule _ added

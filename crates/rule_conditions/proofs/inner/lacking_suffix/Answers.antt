@@ -9,4 +9,4 @@ add_suffixes-requires c = record { plan = c.requires.plan; copy = c.copy_from_sl
 pub returns : goal.returns
 returns c =
     let added = c.add_suffixes.ensures in
-    c.lowest_added.ensures suffix_rule _ added
+    (rw c.rooted.view_is at c.lowest_added.ensures) suffix_rule _ added

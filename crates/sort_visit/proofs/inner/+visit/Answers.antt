@@ -13,15 +13,15 @@ same-now e₁ e₂ e₃ e₄ = cc
 pub returns-then-met : goal.returns-then-met
 returns-then-met t c =
     let a = c.args in
-    passed a.current.now (at a.counters.now a.marks.now a.numbers.now a.sorted.now) a.m c.met.new.marks c.met.ensures c.if-met.true
+    passed a.columns.now (at a.counters.now a.marks.now a.numbers.now a.sorted.now) a.m c.met.new.marks c.met.ensures c.if-met.true
 
 pub loop-row-init : goal.loop-row-init
 loop-row-init t c =
     let a = c.args in
     let t₀ = at a.counters.now a.marks.now a.numbers.now a.sorted.now in
     let k = is-marked t₀ a.m c.met.new.marks c.met.ensures c.if-met.false in
-    let b = begin a.current.now t₀ a.m a.starts.now c.requires k.0 in
-    subst (λ (l : List ℕ). Between a.current.now t₀ a.m a.starts.now b.row (at a.counters.now l a.numbers.now a.sorted.now)) (sym k.1) (between _ _ _ _ b)
+    let b = begin a.columns.now t₀ a.m a.starts.now c.requires k.0 in
+    subst (λ (l : List ℕ). Between a.columns.now t₀ a.m a.starts.now b.row (at a.counters.now l a.numbers.now a.sorted.now)) (sym k.1) (between _ _ _ _ b)
 
 pub visit-requires : goal.visit-requires
 visit-requires t c =
@@ -29,7 +29,7 @@ visit-requires t c =
     let l = c.loop-row in
     let t₀ = at a.counters.now a.marks.now a.numbers.now a.sorted.now in
     let k = is-marked t₀ a.m c.met.new.marks c.met.ensures c.if-met.false in
-    let u = turn a.current.now t₀ a.m a.starts.now l.row (at l.counters l.marks l.numbers l.sorted) l.invariant in
+    let u = turn a.columns.now t₀ a.m a.starts.now l.row (at l.counters l.marks l.numbers l.sorted) l.invariant in
     let less = c.loop-row-test.true in
     let e = c.in-Some.ensures in (
       (let h : zeros l.marks < zeros a.marks.now = fewer _ t₀ a.m a.starts.now c.requires k.0 u c.in-Some.t less e.leads in omega (arith, h, c.decreases)),
@@ -42,16 +42,16 @@ loop-row-preserved t c =
     let l = c.loop-row in
     let t₀ = at a.counters.now a.marks.now a.numbers.now a.sorted.now in
     let k = is-marked t₀ a.m c.met.new.marks c.met.ensures c.if-met.false in
-    let u = turn a.current.now t₀ a.m a.starts.now l.row (at l.counters l.marks l.numbers l.sorted) l.invariant in
+    let u = turn a.columns.now t₀ a.m a.starts.now l.row (at l.counters l.marks l.numbers l.sorted) l.invariant in
     let less = c.loop-row-test.true in
-    let kept : Now → Type 0 = Between a.current.now t₀ a.m a.starts.now (l.row + 1) in
+    let kept : Now → Type 0 = Between a.columns.now t₀ a.m a.starts.now (l.row + 1) in
     elim c.match-unmet.branch [
       | in-Some w ↦
           let v = w.visit.new in
-          let b = found a.current.now t₀ a.m a.starts.now c.requires k.0 u w.in-Some.t less w.in-Some.ensures.leads (at v.counters v.marks v.numbers v.sorted) w.visit.ensures in
+          let b = found a.columns.now t₀ a.m a.starts.now c.requires k.0 u w.in-Some.t less w.in-Some.ensures.leads (at v.counters v.marks v.numbers v.sorted) w.visit.ensures in
           subst kept (sym (same-now w.counters-is w.marks-is w.numbers-is w.sorted-is)) (between _ _ _ _ b)
       | in_default w ↦
-          let b = skip a.current.now t₀ a.m a.starts.now c.requires k.0 u less w.in_default.ensures.leads in
+          let b = skip a.columns.now t₀ a.m a.starts.now c.requires k.0 u less w.in_default.ensures.leads in
           subst kept (sym (same-now w.counters-is w.marks-is w.numbers-is w.sorted-is)) (between _ _ _ _ b)
     ]
 
@@ -61,7 +61,7 @@ leave-requires t c =
     let l = c.loop-row in
     let t₀ = at a.counters.now a.marks.now a.numbers.now a.sorted.now in
     let k = is-marked t₀ a.m c.met.new.marks c.met.ensures c.if-met.false in
-    let u = turn a.current.now t₀ a.m a.starts.now l.row (at l.counters l.marks l.numbers l.sorted) l.invariant in
+    let u = turn a.columns.now t₀ a.m a.starts.now l.row (at l.counters l.marks l.numbers l.sorted) l.invariant in
     leave-ready _ t₀ a.m a.starts.now c.requires k.0 u
 
 pub returns : goal.returns
@@ -70,5 +70,5 @@ returns t c =
     let l = c.loop-row in
     let t₀ = at a.counters.now a.marks.now a.numbers.now a.sorted.now in
     let k = is-marked t₀ a.m c.met.new.marks c.met.ensures c.if-met.false in
-    let u = turn a.current.now t₀ a.m a.starts.now l.row (at l.counters l.marks l.numbers l.sorted) l.invariant in
+    let u = turn a.columns.now t₀ a.m a.starts.now l.row (at l.counters l.marks l.numbers l.sorted) l.invariant in
     ended _ t₀ a.m a.starts.now c.requires k.0 u c.loop-row-test.false c.leave.result c.leave.new.numbers c.leave.new.sorted c.leave.ensures

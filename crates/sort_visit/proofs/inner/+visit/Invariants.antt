@@ -11,4 +11,4 @@ decreases-visit l = zeros l.marks.now
 abbrev pub invariant-loop-row : goal.invariant-loop-row
 invariant-loop-row l =
     let f = l.fn in
-    Between f.current (at f.counters f.marks f.numbers f.sorted) f.m f.starts l.row (at l.counters l.marks l.numbers l.sorted)
+    Between f.columns (at f.counters f.marks f.numbers f.sorted) f.m f.starts l.row (at l.counters l.marks l.numbers l.sorted)

@@ -7,4 +7,4 @@ use Rattle.sort_visit.proofs.inner.visit_roots.Given as goal
 abbrev pub invariant-loop-m : goal.invariant-loop-m
 invariant-loop-m l =
     let f = l.fn in
-    Visited f.current (at none f.marks f.numbers f.sorted) (f.current.runtime ∷ take l.m-index f.current.entry) (at l.counters l.marks l.numbers l.sorted)
+    Visited f.columns (at none f.marks f.numbers f.sorted) (f.columns.runtime ∷ take l.m-index f.columns.entry) (at l.counters l.marks l.numbers l.sorted)

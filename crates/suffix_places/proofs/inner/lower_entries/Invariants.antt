@@ -1,10 +1,7 @@
 -- The roots before k are done.
 -- Assumes nothing.
-use Rattle.sensitivity.specs.Marks.{sensitive_marks}
-use Rattle.eligibility.specs.Eligible.{eligible_marks}
-use Rattle.wrap_rules.specs.Plan.{roots}
 use Rattle.suffix_places.specs.inner.Places.{LowestBelow}
 use Rattle.suffix_places.proofs.inner.lower_entries.Given as goal
 
 abbrev pub invariant-loop-k : goal.invariant-loop-k
-invariant-loop-k l = LowestBelow l.sets (roots l.sets) (sensitive_marks l.sets) (eligible_marks l.sets) l.placed l.initial.asked l.k l.settled l.asked
+invariant-loop-k l = LowestBelow l.current l.roots l.sensitive l.eligible l.placed l.initial.asked l.k l.settled l.asked

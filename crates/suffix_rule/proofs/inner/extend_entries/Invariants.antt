@@ -7,4 +7,4 @@ use Rattle.suffix_rule.proofs.Extending.{Walked}
 use Rattle.suffix_rule.proofs.inner.extend_entries.Given as goal
 
 abbrev pub invariant-loop-k : goal.invariant-loop-k
-invariant-loop-k l = Walked l.sets (roots l.sets) (sensitive_marks l.sets) (eligible_marks l.sets) l.initial.plan l.k l.settled l.plan l.changed
+invariant-loop-k l = Walked l.rooted (roots l.rooted) (sensitive_marks l.rooted) (eligible_marks l.rooted) l.initial.plan l.k l.settled l.plan l.changed

@@ -5,10 +5,10 @@ use Rattle.rule_sets.proofs.Sizes.{sensitive-size, eligible-size}
 use Rattle.suffix_rule.proofs.inner.extend_entry.Goals as goal
 
 pub extend_order-requires-clause-members : goal.extend_order-requires-clause-members
-extend_order-requires-clause-members c = rw c.requires.plan (rw c.sets.view_is at c.find_expected-order.ensures.members)
+extend_order-requires-clause-members c = rw c.requires.plan (rw c.rooted.view_is at c.find_expected-order.ensures.members)
 
 pub extend_order-requires-clause-sensitive : goal.extend_order-requires-clause-sensitive
-extend_order-requires-clause-sensitive c = sensitive-size (rw c.sets.view_is at c.sets.invariant) ∙ sym c.requires.plan
+extend_order-requires-clause-sensitive c = sensitive-size _ (rw c.rooted.view_is at c.rooted.invariant).sensitive_set ∙ sym c.requires.plan
 
 pub extend_order-requires-clause-eligible : goal.extend_order-requires-clause-eligible
-extend_order-requires-clause-eligible c = eligible-size (rw c.sets.view_is at c.sets.invariant) ∙ sym c.requires.plan
+extend_order-requires-clause-eligible c = eligible-size _ (rw c.rooted.view_is at c.rooted.invariant).eligible_set ∙ sym c.requires.plan

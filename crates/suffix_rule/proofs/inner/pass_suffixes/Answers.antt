@@ -22,21 +22,22 @@ quiet p settled plan s bits c = record { settles = s.settles; passed = suffix-pa
 
 pub returns-then-count_marked-settled : goal.returns-then-count_marked-settled
 returns-then-count_marked-settled c =
-    let p = c.args.sets.now in
+    let p = c.args.rooted.now in
     let s = c.requires.settled in
     quiet p _ _ s c.requires.plan.bits
     (all_settled p (roots p) (sensitive_marks p) (eligible_marks p) c.args.plan.now c.args.settled.now s.size s.settles (sym c.count_marked.ensures ∙ c.if-count_marked-settled.true))
 
 pub any_open-requires-clause-one : goal.any_open-requires-clause-one
-any_open-requires-clause-one c = sensitive-size (rw c.sets.view_is at c.sets.invariant) ∙ sym c.requires.plan.size
+any_open-requires-clause-one c = sensitive-size _ (rw c.rooted.view_is at c.rooted.invariant).sensitive_set ∙ sym c.requires.plan.size
 
 pub any_open-requires-clause-two : goal.any_open-requires-clause-two
-any_open-requires-clause-two c = candidate-size (rw c.sets.view_is at c.sets.invariant) ∙ sym c.requires.plan.size
+any_open-requires-clause-two c = candidate-size _ (rw (c.reached.view_is, c.requires.same) at c.reached.invariant) ∙ sym c.requires.plan.size
 
 pub returns-then-not-any_open : goal.returns-then-not-any_open
 returns-then-not-any_open c =
-    let p = c.args.sets.now in
-    let s = rw c.sets.view_is at c.sets.invariant in
+    let p = c.args.rooted.now in
+    let s = rw c.rooted.view_is at c.rooted.invariant in
+    let r = rw (c.reached.view_is, c.requires.same) at c.reached.invariant in
     quiet p _ _ c.requires.settled c.requires.plan.bits
     (none_open p (roots p) (sensitive_marks p) (eligible_marks p) c.args.plan.now (candidate_marks p) (orders-ready p s.accepted)
-    (rw (s.sensitive_set, s.candidate_set) at (c.any_open.ensures c.if-not-any_open.true)))
+    (rw (s.sensitive_set, r.candidate_set) at (c.any_open.ensures c.if-not-any_open.true)))

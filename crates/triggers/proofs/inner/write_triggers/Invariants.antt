@@ -5,4 +5,4 @@ use Rattle.triggers.specs.inner.Columns.{row_trigger}
 use Rattle.triggers.proofs.inner.write_triggers.Given as goal
 
 abbrev pub invariant-loop-row : goal.invariant-loop-row
-invariant-loop-row l = (k : ℕ) → k < l.row → get_or l.triggers k 0 ≡ row_trigger l.current.normal l.current.included l.wraps l.current.record_kind l.current.record_target k
+invariant-loop-row l = (k : ℕ) → k < l.row → get_or l.triggers k 0 ≡ row_trigger l.columns.normal l.columns.included l.wraps l.columns.record_kind l.columns.record_target k

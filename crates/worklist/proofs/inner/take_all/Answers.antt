@@ -1,39 +1,37 @@
 -- `take_all`: it starts from the seeds, and each step is one taking more.
 -- Assumes nothing.
-use Rattle.std.proofs.Common.{ℕ, length, sym, ap, ◌∙◌, arith}
+use Rattle.std.proofs.Common.{ℕ, sym, ◌∙◌, arith}
 use lib.ListN.{length-replicate}
-use Rattle.lists.proofs.Laws.{length-marks_of}
 use Rattle.tables.specs.Readings.{modules}
-use Rattle.eligibility.specs.Eligible.{eligible}
+use Rattle.rule_sets.proofs.Sizes.{eligible-size}
 use Rattle.worklist.proofs.Running.{running-start, noted-start, steppable, running-next, noted-next, listed_few}
 use Rattle.worklist.proofs.inner.take_all.Goals as goal
 
 pub list_seeds-requires-clause-seeds : goal.list_seeds-requires-clause-seeds
 list_seeds-requires-clause-seeds c =
-    let s = rw c.sets.view_is at c.sets.invariant in
-    let p = c.args.sets.now in
-    λ i l. omega (arith, c.requires.seeds i l, ap length s.eligible_set, length-marks_of (eligible p) (modules p))
+    let s = rw c.rooted.view_is at c.rooted.invariant in
+    λ i l. omega (arith, c.requires.seeds i l, eligible-size _ s.eligible_set)
 
 pub list_seeds-requires-clause-eligible : goal.list_seeds-requires-clause-eligible
 list_seeds-requires-clause-eligible c =
-    let s = rw c.sets.view_is at c.sets.invariant in
-    let p = c.args.sets.now in
-    rw c.requires.fresh.empty (length-replicate {A = ℕ} (modules p) 0) ∙ sym (ap length s.eligible_set ∙ length-marks_of (eligible p) (modules p))
+    let s = rw c.rooted.view_is at c.rooted.invariant in
+    rw c.requires.fresh.empty (length-replicate {A = ℕ} (modules c.args.rooted.now) 0) ∙ sym (eligible-size _ s.eligible_set)
 
 pub loop-k-init : goal.loop-k-init
 loop-k-init c =
-    let s = rw c.sets.view_is at c.sets.invariant in
+    let s = rw c.rooted.view_is at c.rooted.invariant in
     let h = rw s.eligible_set at c.list_seeds.ensures in
     record { running = running-start _ s.accepted _ _ c.requires.graph c.requires.fresh h; noted = noted-start _ _ _ _ }
 
 pub step-requires : goal.step-requires
 step-requires c =
-    let s = rw c.sets.view_is at c.sets.invariant in
-    rw (s.candidate_set, s.eligible_set, c.threads.ensures) (steppable _ s.accepted _ _ c.requires.graph c.loop-k.invariant.running (rw c.len.ensures.count at c.loop-k-test.true) c.advance-end.ensures)
+    let s = rw c.rooted.view_is at c.rooted.invariant in
+    let r = rw (c.reached.view_is, c.requires.same) at c.reached.invariant in
+    rw (r.candidate_set, s.eligible_set, c.threads.ensures) (steppable _ s.accepted _ _ c.requires.graph c.loop-k.invariant.running (rw c.len.ensures.count at c.loop-k-test.true) c.advance-end.ensures)
 
 pub overflow_cast-lengths : goal.overflow_cast-lengths
 overflow_cast-lengths c =
-    let s = rw c.sets.view_is at c.sets.invariant in
+    let s = rw c.rooted.view_is at c.rooted.invariant in
     record { fits = omega (arith, c.len-listed.ensures.count, listed_few c.loop-k.invariant.running.state, s.accepted.sizes.normal) }
 
 pub bounds-lengths-k : goal.bounds-lengths-k
@@ -45,9 +43,10 @@ loop-k-smaller c = omega (arith, c.loop-k-test.true, c.len.ensures.count, listed
 
 pub loop-k-preserved : goal.loop-k-preserved
 loop-k-preserved c =
-    let s = rw c.sets.view_is at c.sets.invariant in
+    let s = rw c.rooted.view_is at c.rooted.invariant in
     let v = c.loop-k.invariant in
-    let h = rw (s.candidate_set, s.eligible_set, c.threads.ensures) at c.step.ensures in
+    let r = rw (c.reached.view_is, c.requires.same) at c.reached.invariant in
+    let h = rw (r.candidate_set, s.eligible_set, c.threads.ensures) at c.step.ensures in
     let ahead = rw c.len.ensures.count at c.loop-k-test.true in
     record {
       running = running-next _ s.accepted _ _ c.requires.graph v.running ahead c.advance-end.ensures h;
@@ -56,5 +55,5 @@ loop-k-preserved c =
 
 pub offset_bounds-lengths-k : goal.offset_bounds-lengths-k
 offset_bounds-lengths-k c =
-    let s = rw c.sets.view_is at c.sets.invariant in
+    let s = rw c.rooted.view_is at c.rooted.invariant in
     record { fits = omega (arith, c.loop-k-test.true, c.len.ensures.count, listed_few c.loop-k.invariant.running.state, s.accepted.sizes.normal) }

@@ -7,9 +7,9 @@ use Rattle.worklist.proofs.inner.take_all.Given as goal
 
 abbrev pub invariant-loop-k : goal.invariant-loop-k
 invariant-loop-k l = record {
-  running : Running l.sets l.seeds l.graph l.met l.list l.notes l.k l.end;
-  noted : Noted l.sets l.seeds l.list.list l.initial.lengths l.lengths l.k;
+  running : Running l.rooted l.seeds l.graph l.met l.list l.notes l.k l.end;
+  noted : Noted l.rooted l.seeds l.list.list l.initial.lengths l.lengths l.k;
 }
 
 abbrev pub decreases-loop-k : goal.decreases-loop-k
-decreases-loop-k l = modules l.sets - l.k
+decreases-loop-k l = modules l.rooted - l.k

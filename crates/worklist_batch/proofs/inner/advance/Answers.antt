@@ -1,25 +1,24 @@
 -- `advance`: a batch that isn't taken yet goes on, and for a new one all that is listed is noted where that can matter.
 -- Assumes nothing.
-use Rattle.std.proofs.Common.{◌+◌, length, sym, ap, ◌∙◌, arith}
+use Rattle.std.proofs.Common.{◌+◌, sym, ◌∙◌, arith}
 use lib.ListN.{length-drop}
 use lib.Seq.{get_or-drop}
-use Rattle.sensitivity.proofs.Marks.{length-grounds}
-use Rattle.wrap_rules.proofs.Sets.{length-candidates}
+use Rattle.rule_sets.proofs.Sizes.{sensitive-size, candidate-size}
 use Rattle.worklist_batch.proofs.Noting.{none-sensitive, none_open}
 use Rattle.worklist_batch.proofs.inner.advance.Goals as goal
 
 pub any_sensitive-requires : goal.any_sensitive-requires
 any_sensitive-requires c =
-    let s = rw c.sets.view_is at c.sets.invariant in
+    let s = rw c.rooted.view_is at c.rooted.invariant in
     let list = c.args.list.now.list in
     let end = c.args.end in
     rw c.since.ensures
     (λ i l.
-    omega (arith, (c.len-count.ensures.listed.placed (end + i) (omega (arith, l, length-drop end list))).0, get_or-drop end list i 0, c.requires.batch.size, ap length s.sensitive_set, length-grounds c.args.sets.now))
+    omega (arith, (c.len-count.ensures.listed.placed (end + i) (omega (arith, l, length-drop end list))).0, get_or-drop end list i 0, c.requires.batch.size, sensitive-size _ s.sensitive_set))
 
 pub returns-then-not-any_sensitive : goal.returns-then-not-any_sensitive
 returns-then-not-any_sensitive c =
-    let s = rw c.sets.view_is at c.sets.invariant in
+    let s = rw c.rooted.view_is at c.rooted.invariant in
     let b = c.requires.batch in
     let none = rw (s.sensitive_set, c.since.ensures) at (c.any_sensitive.ensures c.if-not-any_sensitive.true) in
     rw c.len-count.ensures.count
@@ -27,19 +26,20 @@ returns-then-not-any_sensitive c =
 
 pub any_open-requires-clause-one : goal.any_open-requires-clause-one
 any_open-requires-clause-one c =
-    let s = rw c.sets.view_is at c.sets.invariant in
-    rw c.marks.ensures (ap length s.sensitive_set ∙ length-grounds c.args.sets.now ∙ sym c.requires.batch.size)
+    let s = rw c.rooted.view_is at c.rooted.invariant in
+    rw c.marks.ensures (sensitive-size _ s.sensitive_set ∙ sym c.requires.batch.size)
 
 pub any_open-requires-clause-two : goal.any_open-requires-clause-two
 any_open-requires-clause-two c =
-    let s = rw c.sets.view_is at c.sets.invariant in
-    rw c.marks.ensures (ap length s.candidate_set ∙ length-candidates c.args.sets.now ∙ sym c.requires.batch.size)
+    let r = rw (c.reached.view_is, c.requires.same) at c.reached.invariant in
+    rw c.marks.ensures (candidate-size _ r ∙ sym c.requires.batch.size)
 
 pub returns-then-not-any_open : goal.returns-then-not-any_open
 returns-then-not-any_open c =
-    let s = rw c.sets.view_is at c.sets.invariant in
+    let s = rw c.rooted.view_is at c.rooted.invariant in
+    let r = rw (c.reached.view_is, c.requires.same) at c.reached.invariant in
     let b = c.requires.batch in
-    let shut = rw (s.sensitive_set, s.candidate_set, c.marks.ensures) at (c.any_open.ensures c.if-not-any_open.true) in
+    let shut = rw (s.sensitive_set, r.candidate_set, c.marks.ensures) at (c.any_open.ensures c.if-not-any_open.true) in
     rw c.len-count.ensures.count
     record { batch = none_open _ s.accepted _ _ _ _ c.len-count.ensures.listed b.batch shut b.size; before = b.ahead; within = omega arith }
 

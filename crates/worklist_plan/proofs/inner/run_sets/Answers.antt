@@ -1,12 +1,17 @@
 -- `worklist_plan::inner::run_sets`: the edges of the request graph are written and threaded, and the modules are taken over them.
 -- Assumes nothing.
-use Rattle.std.proofs.Common.{ℕ, arith}
+use Rattle.std.proofs.Common.{ℕ, sym, arith}
 use lib.ListN.{length-replicate}
 use Rattle.worklist_plan.proofs.Graphing.{edges-graph, graph-of}
 use Rattle.worklist_plan.proofs.inner.run_sets.Goals as goal
 
-pub request_edges-requires : goal.request_edges-requires
-request_edges-requires c = rw c.new-edges.ensures (omega (arith, length-replicate {A = ℕ} 155648 0))
+pub request_edges-requires-clause-imports : goal.request_edges-requires-clause-imports
+request_edges-requires-clause-imports c =
+    let g = c.sets.invariant.edged in
+    rw (c.to.ensures, c.from.ensures) record { lengths = sym g.graph.lengths; edges = g.edges }
+
+pub request_edges-requires-clause-room : goal.request_edges-requires-clause-room
+request_edges-requires-clause-room c = rw c.new-edges.ensures (omega (arith, length-replicate {A = ℕ} 155648 0))
 
 pub new-graph-requires : goal.new-graph-requires
 new-graph-requires c =
@@ -16,4 +21,4 @@ new-graph-requires c =
 pub run_linked-requires-clause-graph : goal.run_linked-requires-clause-graph
 run_linked-requires-clause-graph c =
     let e = rw c.new-edges.ensures at c.request_edges.ensures in
-    rw (c.new-graph.ensures, c.sources.ensures, c.targets.ensures.targets) (graph-of _ _ _ e)
+    rw (c.new-graph.ensures, c.sources.ensures, c.targets.ensures.targets, c.sets.invariant.root_sets) (graph-of _ _ _ e)

@@ -7,17 +7,17 @@ use Rattle.worklist_run.proofs.Starting.{roots_fit, none-settled, batch-none}
 use Rattle.worklist_run.proofs.inner.run_linked.Goals as goal
 
 pub slice_bounds-settled-end : goal.slice_bounds-settled-end
-slice_bounds-settled-end c = roots_fit c.sets.invariant
+slice_bounds-settled-end c = roots_fit c.rooted.invariant
 
 pub slice_bounds-settled-end-2 : goal.slice_bounds-settled-end-2
-slice_bounds-settled-end-2 c = sym (part_length 16384 (length c.sets.inside.roots.now) (roots_fit c.sets.invariant))
+slice_bounds-settled-end-2 c = sym (part_length 16384 (length c.rooted.inside.roots.now) (roots_fit c.rooted.invariant))
 
 pub take_all-requires-clause-fresh : goal.take_all-requires-clause-fresh
 take_all-requires-clause-fresh c =
     let n = c.modules-n.result in
-    let part : length {A = ℕ} (take n (replicate 4096 0)) ≡ modules c.args.sets.now = part_length 4096 n (omega arith) ∙ rw c.sets.view_is at c.modules-n.ensures.count in
+    let part : length {A = ℕ} (take n (replicate 4096 0)) ≡ modules c.args.rooted.now = part_length 4096 n (omega arith) ∙ rw c.rooted.view_is at c.modules-n.ensures.count in
     record {
       none = c.new-met.ensures;
       empty = rw c.requires.size at c.clear.ensures;
-      batch = rw (c.clear.ensures, c.requires.size, c.new-notes.ensures, none-settled (rw c.sets.view_is at c.sets.invariant), part) (batch-none c.args.sets.now);
+      batch = rw (c.clear.ensures, c.requires.size, c.new-notes.ensures, none-settled (rw c.rooted.view_is at c.rooted.invariant), part) (batch-none c.args.rooted.now);
     }

@@ -4,7 +4,7 @@ use Rattle.std.proofs.Common.{◌≡◌, ◌-◌, false}
 use Rattle.lists.specs.Words.{any, count_from}
 use Rattle.sensitivity.specs.Marks.{wakes, statement_wakes, uses_wrapped}
 use Rattle.sensitivity.proofs.Searches.{at_row}
-use Rattle.sensitivity.proofs.inner.Statements.eagerly_triggers_interop_module.Given as goal
+use Rattle.sensitivity.proofs.inner.StatementRows.eagerly_triggers_interop_module.Given as goal
 
 abbrev pub invariant-search : goal.invariant-search
 invariant-search l =

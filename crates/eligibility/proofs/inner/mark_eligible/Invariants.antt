@@ -2,7 +2,7 @@
 -- Assumes nothing.
 use Rattle.lists.proofs.Passes.{Passed}
 use Rattle.eligibility.specs.Eligible.{eligible}
-use Rattle.eligibility.proofs.inner.mark_table_eligible.Given as goal
+use Rattle.eligibility.proofs.inner.mark_eligible.Given as goal
 
 abbrev pub invariant-loop-m : goal.invariant-loop-m
-invariant-loop-m l = Passed (eligible l.current) l.initial.marks l.m l.marks
+invariant-loop-m l = Passed (eligible l.columns) l.initial.marks l.m l.marks

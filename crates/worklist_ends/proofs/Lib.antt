@@ -1,0 +1,2 @@
+-- `Ends`: listing the seeds, row by row.
+pub mod Ends
