@@ -2,41 +2,33 @@
 // whether the plan is accepted or what it breaks first.
 #![tactic(auto)]
 
-use listing::{TextSpace, read_text};
-use parts::first_of;
+use listing::TextSpace;
+use parts::{first_of, split_number};
 use plan_check::check_plan;
 use plan_conditions::Judgement;
 use std::io;
 use std::rt::Env;
-use streams::read_full;
+use streams::{TEXT_BYTES, read_table};
 use table::{MODULE_LIMIT, NORMAL, Table};
 use tables::Refusal;
-
-// The number with a digit more; the mark where it is too large.
-fn with_digit(value: u32, digit: u8) -> u32 {
-    let n = value as u64 * 10 + digit as u64;
-    if 4294967295 < n {
-        return 4294967295;
-    }
-    n as u32
-}
 
 // The numbers of a text, a comma behind each, written to `out`: how many, if it is such a text and they fit.
 fn read_numbers(text: &[u8], out: &mut [u32]) -> Option<usize> {
     let mut count = 0;
-    let mut value: u32 = 0;
-    for &b in text {
-        match b {
-            b',' => {
+    let mut left = text;
+    // numbers are read as they come
+    loop {
+        let (value, rest) = split_number(left);
+        match rest.split_first() {
+            None => return Some(count),
+            Some((b',', behind)) => {
                 *out.get_mut(count)? = value;
                 count += 1;
-                value = 0;
+                left = behind;
             }
-            b'0'..=b'9' => value = with_digit(value, b - b'0'),
-            _ => return None,
+            Some(_) => return None,
         }
     }
-    Some(count)
 }
 
 // The numbers of an argument.
@@ -58,6 +50,7 @@ fn mark_members(members: &[u32], marks: &mut [u32], n: usize) -> bool {
     true
 }
 
+// Prints a refusal: one line in each program, since no contract says what is printed, and a function of a library needs one.
 fn refused(rt: &impl Print, refusal: Refusal) -> io::Result<()> {
     println!(rt; "refused {}", refusal.number())
 }
@@ -121,17 +114,11 @@ fn judge_argument(rt: &(impl Env + Print), table: &Table) -> io::Result<()> {
     }
 }
 
-// Judges it for a text.
-fn judge_text(rt: &(impl Env + Print), text: &[u8]) -> io::Result<()> {
-    let mut space = TextSpace::EMPTY;
-    match read_text(text, &mut space) {
-        Err(refusal) => refused(rt, refusal),
-        Ok(table) => judge_argument(rt, &table),
-    }
-}
-
 fn main(rt: HostRuntime) -> io::Result<()> {
-    let mut text = [0u8; 65537];
-    let n = read_full(&mut rt.reader(), &mut text)?;
-    judge_text(&rt, &text[..n])
+    let mut text = [0u8; TEXT_BYTES];
+    let mut space = TextSpace::EMPTY;
+    match read_table(&mut rt.reader(), &mut text, &mut space)? {
+        Err(refusal) => refused(&rt, refusal),
+        Ok(table) => judge_argument(&rt, &table),
+    }
 }

@@ -33,8 +33,8 @@ use Rattle.load_trial.specs.Promise.{trial_refusal}
 use Rattle.circle_gathering.specs.Gathering.{joined}
 use Rattle.import_circles.specs.OfProject.{circles_of}
 use Rattle.import_circles.proofs.Counts.{circles-few}
-use Rattle.expected_order.specs.OfProject.{expected_of}
-use Rattle.expected_order.proofs.Laws.{expected-length}
+use Rattle.expected_visit.specs.OfProject.{expected_of}
+use Rattle.expected_visit.proofs.Laws.{expected-length}
 use Rattle.entries_order.specs.OfEntries.{expected_of_entries}
 use Rattle.entries_order.proofs.Parts.{entries-length}
 use Rattle.entry_run.specs.Actual.{actual_of}

@@ -1,11 +1,11 @@
 -- What an exported function answers and promises.
 -- Assumes nothing.
-use Rattle.std.specs.Prelude.{◌≡◌, List, ℕ, zero, ◌+◌, ◌*◌, ◌^◌, Option, None, Some, Result, Ok, Err}
+use Rattle.std.specs.Prelude.{◌≡◌, List, ℕ, ◌+◌, ◌*◌, ◌^◌, Option, None, Some, Result, Ok, Err}
 use Rattle.tables.specs.declared.Refusal.{Refusal}
 use Rattle.tables.specs.Answers.{number}
 use Rattle.table.specs.Table.{Lent}
 use Rattle.plan_conditions.specs.declared.Judgement.{Judgement}
-use Rattle.plan_conditions.specs.declared.Judgement.TheVariants.{Accepted, Broken}
+use Rattle.plan_conditions.specs.Conditions.{judgement_number}
 use Rattle.planned_load.specs.declared.LoadStep.{LoadStep}
 use Rattle.answer_codes.specs.Calls.{Call, Promise}
 
@@ -20,8 +20,7 @@ coded (Err r) = coded_refusal r
 
 -- what is said of a plan: 0 where it is accepted, the number of the broken condition times 2 ^ 16 plus the module, or 2 ^ 32 plus the refusal's number
 abbrev pub coded_judgement : Result Judgement Refusal → ℕ
-coded_judgement (Ok Accepted) = zero
-coded_judgement (Ok (Broken condition m)) = condition * 2 ^ 16 + m
+coded_judgement (Ok judgement) = judgement_number judgement
 coded_judgement (Err r) = coded_refusal r
 
 -- a step of a tried load: its module times 2 ^ 16 plus its host, 2 ^ 31 where none is left, or 2 ^ 32 plus the refusal's number

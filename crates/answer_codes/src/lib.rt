@@ -32,8 +32,7 @@ pub fn judgement_code(judgement: Result<Judgement, Refusal>) -> u64
     ensures { result ≡ coded_judgement judgement }
 {
     match judgement {
-        Ok(Judgement::Accepted) => 0,
-        Ok(Judgement::Broken(condition, module)) => condition as u64 * 65536 + module as u64,
+        Ok(judgement) => judgement.number(),
         Err(refusal) => refusal_code(refusal),
     }
 }

@@ -18,7 +18,7 @@ use table::{MODULE_LIMIT, ROW_LIMIT, Table};
 use tables::Refusal;
 use tables::inner::first_row;
 
-// Sorts the members of each chunk in place.
+// Sorts the members of each chunk in place, by keys without ties; the load order's sort keeps ties as they stand.
 fn sort_chunks(keys: &Keys, member_chunk: &[u32], members: &mut [u32], chunks: usize)
     requires { Members member_chunk.now members.old chunks }
     ensures { members.new ≡ arranged (key_at keys.now) chunks member_chunk.now members.old }
@@ -44,7 +44,12 @@ fn arrange(columns: &Columns, names: &[u8], numbers: &[u32], out: &mut [u32])
     let groups = &mut groups[..modules];
     let mut places = [0usize; MODULE_LIMIT];
     let places = &mut places[..modules];
-    let keys = find_keys(columns, names, numbers, groups, places);
+    find_keys(columns, names, numbers, groups, places);
+    let keys = Keys {
+        groups,
+        places,
+        names,
+    };
     out.copy_from_slice(columns.member);
     sort_chunks(&keys, columns.member_chunk, out, columns.order.len());
 }

@@ -1,7 +1,7 @@
 // For crates above, on tested tables.
 ghost use Rattle.std.specs.Prelude.{◌≡◌, ◌<◌, length};
 ghost use Rattle.tables.specs.Readings.{modules};
-ghost use Rattle.expected_order.specs.OfProject.{expected_of};
+ghost use Rattle.expected_visit.specs.OfProject.{expected_of};
 ghost use Rattle.sensitivity.specs.Marks.{sensitive_marks};
 ghost use Rattle.wrap_rules.specs.Plan.{roots};
 ghost use Rattle.wrap_rules.specs.inner.Passes.{Marked};
@@ -22,8 +22,8 @@ fn mark_entry(rooted: &RootSets, plan: &[u32], asked: &mut [u32], root: u32)
     ensures { Joined (InSuffix (expected_of rooted.now root) (sensitive_marks rooted.now) plan.now) asked.old asked.new }
 {
     let mut order = [0u32; MODULE_LIMIT];
-    let order = find_expected(rooted.current, &mut order, root);
-    mark_suffix(order, rooted.sensitive, plan, asked);
+    let order = find_expected(rooted.sets.current, &mut order, root);
+    mark_suffix(order, rooted.sets.sensitive, plan, asked);
 }
 
 // The same for each root, all by the plan as it is.
@@ -44,7 +44,7 @@ pub fn add_suffixes(rooted: &RootSets, plan: &[u32], copy: &mut [u32]) -> bool
     ensures { SuffixesAdded rooted.now plan.now copy.new result }
 {
     let mut asked = [0u32; MODULE_LIMIT];
-    let asked = &mut asked[..rooted.current.modules()];
+    let asked = &mut asked[..rooted.sets.current.modules()];
     mark_entries(rooted, plan, asked);
-    add(asked, rooted.eligible, rooted.eligible, copy)
+    add(asked, rooted.sets.eligible, rooted.sets.eligible, copy)
 }

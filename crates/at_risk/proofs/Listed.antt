@@ -11,8 +11,8 @@ use Rattle.lists.proofs.Members.{get_d-mem}
 use Rattle.tables.specs.Project.{Project}
 use Rattle.tables.specs.Readings.{modules}
 use Rattle.tables.specs.Refusal.{module_limit}
-use Rattle.expected_order.specs.OfProject.{expected_of}
-use Rattle.expected_order.proofs.Laws.{expected-distinct, expected-length, expected-in}
+use Rattle.expected_visit.specs.OfProject.{expected_of}
+use Rattle.expected_visit.proofs.Laws.{expected-distinct, expected-length, expected-in}
 use Rattle.entry_run.specs.Actual.{actual_of}
 use Rattle.entry_run.specs.inner.Cores.{Written}
 use Rattle.entry_run.proofs.OfProject.{actual-distinct, actual-length, actual-member}

@@ -7,7 +7,7 @@ use Rattle.tables.specs.Readings.{modules, is_analysed, entry_chunk_of}
 use Rattle.tables.specs.Answers.{verdict, answer, after}
 use Rattle.tables.specs.declared.Refusal.{Refusal}
 use Rattle.table.specs.Table.{Lent}
-use Rattle.expected_order.specs.OfProject.{expected_of}
+use Rattle.expected_visit.specs.OfProject.{expected_of}
 use Rattle.entry_run.specs.Actual.{actual_of, hosts_of}
 use Rattle.chunk_cycles.specs.Cycles.{reaches_cycle_of}
 use Rattle.sensitivity.specs.Marks.{sensitive}

@@ -13,17 +13,18 @@ ghost use Rattle.risk_of_orders.specs.inner.Steps.{join};
 ghost use Rattle.at_risk.specs.Promise.{risk_of_entry};
 ghost use Rattle.at_risk.specs.inner.OverTable.{Placed};
 
-use crate::module_sets::ModuleSets;
 use analysed_entries::inner::AnalysedEntry;
 use chunk_cycles::inner::reaches_table;
 use current_columns::inner::Current;
 use entry_run::inner::list_actual;
 use expected_order::inner::find_expected;
+use module_sets::inner::ModuleSets;
 use risk_of_orders::inner::{RiskColumns, add_cycle_risk, add_order_risk};
 use table::MODULE_LIMIT;
 use visit_columns::inner::VisitColumns;
 
-// Adds the order risk of an entry whose expected order is given to a set. `columns` are those that the visits read.
+// Adds to `out` the order risk of an entry, its expected order given. What is written stands beside what is read, here and below; `sets` are
+// made once for all entries, so they aren't part of one. `columns` are those that the visits read.
 pub fn add_entry_order_risk(
     entry: &AnalysedEntry,
     columns: &VisitColumns,

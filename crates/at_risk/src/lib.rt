@@ -2,4 +2,3 @@
 #![tactic(auto)]
 
 pub mod inner;
-pub mod module_sets;

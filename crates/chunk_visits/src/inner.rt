@@ -1,25 +1,19 @@
-// For crates above, on tested tables. The columns of modules are those of `module_visits`; `member_starts` and `load_starts` say where the rows of each
-// chunk start, in the member column and among the chunks that are loaded.
+// For crates above, on tested tables. `columns` has what the visits read, and `member` is the table's own column, whose rows `member_starts` parts by chunks.
 ghost use Rattle.std.specs.Prelude.{◌≡◌, [], ◌∷◌, length};
 ghost use Rattle.walk.specs.Walk.{Visits, everywhere};
 ghost use Rattle.tables.specs.Accepted.{Below};
-ghost use Rattle.visit_steps.specs.inner.Steps.{leads};
 ghost use Rattle.module_visits.specs.inner.Visits.{executing};
-ghost use Rattle.chunk_visits.specs.inner.Visits.{ran_members, Visitable, Ran};
+ghost use Rattle.chunk_visits.specs.inner.Visits.{loads_of, ran_members, Visitable, Ran};
 
 use module_visits::inner::execute_members;
 use tables::ModuleIdx;
+use visit_columns::inner::VisitColumns;
 use visit_steps::inner::{ActualOrderTraversal, enter, part};
 
 // Visits a chunk: marks it, visits the chunks that it loads, and then executes its members with wrap 0. The counters go on into their executions.
-fn visit_actual_chunk<'a>(
-    ways: &'a [u32],
-    starts: &'a [u32],
-    triggers: &'a [u32],
-    member: &'a [u32],
-    member_starts: &'a [u32],
-    load_starts: &'a [u32],
-    loads: &'a [u32],
+fn visit_actual_chunk(
+    columns: &VisitColumns,
+    member: &[u32],
     chunk_marks: &mut [u32],
     marks: &mut [u32],
     order: &mut [u32],
@@ -27,10 +21,10 @@ fn visit_actual_chunk<'a>(
     c: u32,
     traversal: &mut ActualOrderTraversal,
 )
-    requires { Visitable ways.now starts.now triggers.now member.now member_starts.now load_starts.now loads.now chunk_marks.old marks.old order.old hosts.old c traversal.old }
-    ensures { Visits (leads load_starts.now loads.now) everywhere (ran_members ways.now starts.now triggers.now member.now member_starts.now) (record { marks = chunk_marks.old; made = executing marks.old order.old hosts.old traversal.old.placed }) (c ∷ []) (record { marks = chunk_marks.new; made = executing marks.new order.new hosts.new traversal.new.placed }) × (traversal.new.next ≡ traversal.new.placed) }
+    requires { Visitable columns.now member.now chunk_marks.old marks.old order.old hosts.old c traversal.old }
+    ensures { Visits (loads_of columns.now) everywhere (ran_members columns.now member.now) (record { marks = chunk_marks.old; made = executing marks.old order.old hosts.old traversal.old.placed }) (c ∷ []) (record { marks = chunk_marks.new; made = executing marks.new order.new hosts.new traversal.new.placed }) × (traversal.new.next ≡ traversal.new.placed) }
 {
-    let Some(rows) = enter(load_starts, loads, chunk_marks, c) else {
+    let Some(rows) = enter(columns.load_starts, columns.loads, chunk_marks, c) else {
         return;
     };
     for &load in rows {
@@ -38,13 +32,8 @@ fn visit_actual_chunk<'a>(
             continue;
         }
         visit_actual_chunk(
-            ways,
-            starts,
-            triggers,
+            columns,
             member,
-            member_starts,
-            load_starts,
-            loads,
             chunk_marks,
             marks,
             order,
@@ -53,22 +42,25 @@ fn visit_actual_chunk<'a>(
             traversal,
         );
     }
-    let own = part(member, member_starts, c);
+    let own = part(member, columns.member_starts, c);
     execute_members(
-        ways, starts, triggers, own, marks, order, hosts, 1, traversal,
+        columns.ways,
+        columns.starts,
+        columns.triggers,
+        own,
+        marks,
+        order,
+        hosts,
+        1,
+        traversal,
     );
 }
 
 // Visits a chunk, and last executes those of some modules whose wrap is not 0. The counters are lent to both, and handed back.
-pub fn visit_and_execute<'a>(
-    ways: &'a [u32],
-    starts: &'a [u32],
-    triggers: &'a [u32],
-    member: &'a [u32],
-    member_starts: &'a [u32],
-    load_starts: &'a [u32],
-    loads: &'a [u32],
-    last: &'a [u32],
+pub fn visit_and_execute(
+    columns: &VisitColumns,
+    member: &[u32],
+    last: &[u32],
     chunk_marks: &mut [u32],
     marks: &mut [u32],
     order: &mut [u32],
@@ -76,18 +68,13 @@ pub fn visit_and_execute<'a>(
     c: u32,
     before: ActualOrderTraversal,
 ) -> ActualOrderTraversal
-    requires { Visitable ways.now starts.now triggers.now member.now member_starts.now load_starts.now loads.now chunk_marks.old marks.old order.old hosts.old c before × Below (length marks.old) last.now }
-    ensures { Ran ways.now starts.now triggers.now member.now member_starts.now load_starts.now loads.now c last.now chunk_marks.old (executing marks.old order.old hosts.old before.placed) chunk_marks.new (executing marks.new order.new hosts.new result.placed) }
+    requires { Visitable columns.now member.now chunk_marks.old marks.old order.old hosts.old c before × Below (length marks.old) last.now }
+    ensures { Ran columns.now member.now c last.now chunk_marks.old (executing marks.old order.old hosts.old before.placed) chunk_marks.new (executing marks.new order.new hosts.new result.placed) }
 {
     let mut traversal = before;
     visit_actual_chunk(
-        ways,
-        starts,
-        triggers,
+        columns,
         member,
-        member_starts,
-        load_starts,
-        loads,
         chunk_marks,
         marks,
         order,
@@ -96,9 +83,9 @@ pub fn visit_and_execute<'a>(
         &mut traversal,
     );
     execute_members(
-        ways,
-        starts,
-        triggers,
+        columns.ways,
+        columns.starts,
+        columns.triggers,
         last,
         marks,
         order,

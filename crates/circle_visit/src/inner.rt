@@ -53,6 +53,7 @@ pub fn meet<'a>(
     ensures { Searches (led_by starts.now led.now) write (held states.old stack.old depth paths.old lengths.old found.count found.used) (m ∷ []) (held states.new stack.new depth paths.new lengths.new result.count result.used) }
 {
     let at = m as usize;
+    // a slice holds the states: 0 is not begun, 1 begun, and any other done
     let state = states[at];
     if state == 1 {
         return close_path(&stack[..depth], paths, lengths, m, found);

@@ -3,7 +3,7 @@ ghost use Rattle.std.specs.Prelude.{◌≡◌, ◌+◌, ◌≤◌, length, drop,
 ghost use Rattle.std.proofs.lemmas.List.Edits.{sets};
 ghost use Rattle.circle_search.specs.Circles.{from};
 
-// The place of the first m, or the end if there is none.
+// The place of the first m, or the end if there is none, so that the slice from there is empty then.
 pub fn place_of(begun: &[u32], m: u32) -> usize
     ensures { (result ≤ length begun.now) × (drop result begun.now ≡ from m begun.now) }
 {

@@ -125,7 +125,7 @@ fn label_rows(graph: &Digraph, back: &Digraph, labels: &mut [u32])
     }
 }
 
-// How many chunks have a label.
+// How many chunks have a label. `lists` counts marks so: one function of both would take the test as a closure, and be no shorter than two loops.
 pub fn count_labelled(labels: &[u32]) -> usize
     ensures { result ≡ length (keep labelled labels.now) }
 {

@@ -60,12 +60,12 @@ pub fn pass_members(labelled: &LabelSets, plan: &mut [u32]) -> bool
     requires { Marked labelled.now plan.old }
     ensures { ComponentPassed labelled.now plan.old plan.new result }
 {
-    let columns = labelled.current.columns();
+    let columns = labelled.sets.current.columns();
     close_cyclic_chunk_members(
         columns,
         labelled.labels,
-        labelled.sensitive,
-        labelled.eligible,
+        labelled.sets.sensitive,
+        labelled.sets.eligible,
         plan,
     )
 }

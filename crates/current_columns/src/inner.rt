@@ -32,7 +32,8 @@ impl ReadSpace {
     };
 }
 
-// The settings and columns of a table. Contracts see them as a project, and nothing is asked of it.
+// The settings and columns of a table. Contracts see them as a project, and nothing is asked of it: functions over the same columns ask for different
+// facts (`Fit`, `Modules`, `Kinds`, `Records`, ..), so these are clauses, and a type with one of them would ask more of the other functions.
 #[derive(Drop)]
 pub struct Columns<'a> {
     pub runtime: u32,
@@ -212,8 +213,7 @@ fn as_written<'t>(table: &Table<'t>) -> Columns<'t>
 // The table as it is read.
 #[tactic(auto, unfolding(table::specs::Table::read, table::specs::Table::current, crate::specs::AsProject::project))]
 pub fn read_table<'a, 't: 'a>(table: &Table<'t>, space: &'a mut ReadSpace) -> Current<'a>
-    requires written { Accepted (written table.now) }
-    requires read { Accepted (current (written table.now)) }
+    requires { Accepted (written table.now) }
     ensures { result ≡ current (written table.now) }
 {
     let written = as_written(table);

@@ -9,7 +9,7 @@ ghost use Rattle.at_risk.specs.inner.OverTable.{Marked};
 use analysed_entries::inner::AnalysedEntry;
 use at_risk::inner::add_entry_cycle_risk;
 use chunk_cycles::inner::label_table;
-use eligibility::of_table::mark_table_eligible;
+use eligibility::inner::mark_eligible;
 use expected_order::inner::find_expected;
 use lists::inner::{count_marked, fill};
 use table::{CHUNK_LIMIT, MODULE_LIMIT};
@@ -30,6 +30,7 @@ fn add_marked_cycle_risk(entry: &AnalysedEntry, eligibles: &[u32], out: &mut [u3
 }
 
 // The cycle risk of an entry, as marks. How many are marked.
+#[tactic(auto, using(eligibility::proofs::Fits::kinds_fit))]
 pub fn mark_cycle_risk(entry: &AnalysedEntry, out: &mut [u32]) -> usize
     requires places { length out.old ≡ modules entry.now.current.now }
     ensures { Marked (cycle_risk_of_entry entry.now.current.now entry.now.root) out.new result }
@@ -37,7 +38,7 @@ pub fn mark_cycle_risk(entry: &AnalysedEntry, out: &mut [u32]) -> usize
     let current = entry.current;
     let mut eligibles = [0u32; MODULE_LIMIT];
     let eligibles = &mut eligibles[..current.modules()];
-    mark_table_eligible(current, eligibles);
+    mark_eligible(current.columns(), eligibles);
     fill(out, 0);
     add_marked_cycle_risk(entry, eligibles, out);
     count_marked(out)

@@ -2,4 +2,3 @@
 #![tactic(auto, unfolding(current_columns::specs::AsProject::project, crate::specs::Eligible::eligible))]
 
 pub mod inner;
-pub mod of_table;

@@ -12,9 +12,9 @@ use Rattle.walk.proofs.Orders.{order-distinct, order-length}
 use Rattle.walk.proofs.Pruned.{order-pruned}
 use Rattle.tables.specs.Project.{Project}
 use Rattle.tables.specs.Readings.{modules, is_normal, flagged}
-use Rattle.expected_order.specs.Expected.{normal_imports_of, expected}
-use Rattle.expected_order.specs.OfProject.{expected_of}
-use Rattle.expected_order.proofs.Laws.{imports-in}
+use Rattle.expected_visit.specs.Expected.{normal_imports_of, expected}
+use Rattle.expected_visit.specs.OfProject.{expected_of}
+use Rattle.expected_visit.proofs.Laws.{imports-in}
 use Rattle.entries_order.specs.Entries.{is_walked, entries_order}
 use Rattle.entries_order.specs.OfEntries.{expected_of_entries}
 

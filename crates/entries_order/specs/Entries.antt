@@ -5,7 +5,7 @@ use mathlib.Core.List.{List}
 use Rattle.lists.specs.Words.{keep}
 use Rattle.walk.specs.Walk.{everywhere, post_order}
 use Rattle.tables.specs.Readings.{is_normal, flagged}
-use Rattle.expected_order.specs.Expected.{normal_imports_of}
+use Rattle.expected_visit.specs.Expected.{normal_imports_of}
 
 -- "Entries that aren't included are passed over", and so are external ones
 abbrev pub is_walked : List ℕ → List ℕ → ℕ → Bool

@@ -1,21 +1,22 @@
 // For crates above, on tested tables: the page of an entry, and one line of it. The sensitive and the planned modules are given, a
 // mark a module.
-ghost use Rattle.std.specs.Prelude.{◌≡◌, ◌*◌, ◌<◌, ◌≤◌, length};
+ghost use Rattle.std.specs.Prelude.{◌≡◌, ◌<◌, ◌≤◌, length};
 ghost use Rattle.lists.specs.Words.{keep, has};
 ghost use Rattle.tables.specs.Readings.{modules};
 ghost use Rattle.tables.specs.Refusal.{module_limit};
-ghost use Rattle.expected_order.specs.OfProject.{expected_of};
+ghost use Rattle.expected_visit.specs.OfProject.{expected_of};
 ghost use Rattle.entry_run.specs.Actual.{actual_of};
 ghost use Rattle.lines.specs.Lines.{PutAt};
 ghost use Rattle.risk_of_orders.specs.inner.Steps.{Order};
-ghost use Rattle.entry_pages.specs.Marked.{marked_page, marked_line};
+ghost use Rattle.page_text.specs.Page.{text_room};
+ghost use Rattle.entry_pages.specs.Marked.{marked_text};
 
 use analysed_entries::inner::AnalysedEntry;
 use current_columns::inner::Current;
 use entry_run::inner::prepare_and_list;
 use expected_order::inner::find_expected;
 use page_rows::inner::keep_marked;
-use page_text::inner::{put_numbered, put_page};
+use page_text::inner::put_text;
 use table::MODULE_LIMIT;
 
 // The marked modules of a root's expected order.
@@ -55,41 +56,21 @@ fn marked_actual<'a>(
     &kept[..count]
 }
 
-// Writes the page of an entry from place 0, and answers its length.
-#[tactic(auto, unfolding(crate::specs::Marked::marked_page))]
-pub fn put_entry_page(
+// Writes one line of an entry's page, by its number, or the page where no number is given, from place 0, and answers its length; past the last line 0.
+pub fn put_entry_text(
     entry: &AnalysedEntry,
     sensitives: &[u32],
     plan: &[u32],
     out: &mut [u8],
+    number: Option<usize>,
 ) -> usize
     requires marks { (length sensitives.now ≡ modules entry.now.current.now) × (length plan.now ≡ modules entry.now.current.now) }
-    requires room { 41 * length plan.now ≤ length out.old }
-    ensures { PutAt out.old 0 (marked_page entry.now.current.now sensitives.now plan.now entry.now.root) out.new result }
+    requires room { text_room (length plan.now) number ≤ length out.old }
+    ensures { PutAt out.old 0 (marked_text entry.now.current.now sensitives.now plan.now entry.now.root number) out.new result }
 {
     let mut expected = [0u32; MODULE_LIMIT];
     let expected = marked_expected(entry.current, sensitives, &mut expected, entry.root);
     let mut actual = [0u32; MODULE_LIMIT];
     let actual = marked_actual(entry, sensitives, &mut actual);
-    put_page(expected, actual, plan, out)
-}
-
-// Writes one line of an entry's page, by its number, from place 0, and answers its length; past the last, 0.
-#[tactic(auto, unfolding(crate::specs::Marked::marked_line))]
-pub fn put_entry_line(
-    entry: &AnalysedEntry,
-    sensitives: &[u32],
-    plan: &[u32],
-    out: &mut [u8],
-    number: usize,
-) -> usize
-    requires marks { (length sensitives.now ≡ modules entry.now.current.now) × (length plan.now ≡ modules entry.now.current.now) }
-    requires room { 41 ≤ length out.old }
-    ensures { PutAt out.old 0 (marked_line entry.now.current.now sensitives.now plan.now entry.now.root number) out.new result }
-{
-    let mut expected = [0u32; MODULE_LIMIT];
-    let expected = marked_expected(entry.current, sensitives, &mut expected, entry.root);
-    let mut actual = [0u32; MODULE_LIMIT];
-    let actual = marked_actual(entry, sensitives, &mut actual);
-    put_numbered(expected, actual, plan, out, number)
+    put_text(expected, actual, plan, out, number)
 }

@@ -20,9 +20,10 @@ use Rattle.tables.specs.Refusal.{chunk_limit}
 use Rattle.tables.proofs.Rows.{values-part}
 use Rattle.load_order.specs.inner.Rows.{Loads}
 use Rattle.triggers.specs.inner.Columns.{ways}
-use Rattle.visit_steps.specs.inner.Steps.{leads, part, Filling, filling, fills, in_way}
+use Rattle.visit_columns.specs.declared.inner.VisitColumns.{VisitColumns}
+use Rattle.visit_steps.specs.inner.Steps.{part, Filling, filling, fills, in_way}
 use Rattle.module_visits.specs.inner.Visits.{executing, hosted}
-use Rattle.chunk_visits.specs.inner.Visits.{ran_members, Ran}
+use Rattle.chunk_visits.specs.inner.Visits.{loads_of, triggers_of, ran_members, Ran}
 use Rattle.entry_run.specs.Actual.{executes, triggered, eager_members}
 use Rattle.entry_run.specs.inner.InTurn.{execute_all, chunk_order, hosts_in_turn}
 use Rattle.entry_run.specs.inner.Cores.{turns, Listed}
@@ -36,51 +37,53 @@ fold-flat f g s [] = refl
 fold-flat f g s (x ∷ xs) = fold-flat f g (foldl f s (g x)) xs ∙ sym (foldl-append f s (g x) (flat_map g xs))
 
 -- a chunk's visit and the root make what the hosts in turn make
-pub ran-turns : (ways starts triggers member member_starts load_starts loads : List ℕ) (chunks root chunk : ℕ) (s t : St Filling) (marks : List ℕ)
-    → Ran ways starts triggers member member_starts load_starts loads chunk (root ∷ []) (replicate chunks 0) s marks t
-    → foldl (hosted (leads starts triggers)) s (turns ways member member_starts load_starts loads chunks root chunk) ≡ t
+pub ran-turns : (columns : VisitColumns) (member : List ℕ) (chunks root chunk : ℕ) (s t : St Filling) (marks : List ℕ)
+    → Ran columns member chunk (root ∷ []) (replicate chunks 0) s marks t
+    → foldl (hosted (triggers_of columns)) s (turns columns member chunks root chunk) ≡ t
 unfolding ran_members turns
-ran-turns ways starts triggers member member_starts load_starts loads chunks root chunk s t marks r =
-    let run-host = hosted (leads starts triggers) in
-    let act = ran_members ways starts triggers member member_starts in
-    let own : ℕ → List ℕ = λ c. keep (in_way 1 ways) (part member_starts member c) in
-    let cs : List ℕ = post_order (leads load_starts loads) everywhere chunks (chunk ∷ []) in
+ran-turns columns member chunks root chunk s t marks r =
+    let run-host = hosted (triggers_of columns) in
+    let act = ran_members columns member in
+    let own : ℕ → List ℕ = λ c. keep (in_way 1 columns.ways.now) (part columns.member_starts.now member c) in
+    let cs : List ℕ = post_order (loads_of columns) everywhere chunks (chunk ∷ []) in
     let made : r.visited ≡ foldl run-host s (flat_map own cs) =
-    sym (ap (λ (u : St (St Filling)). u.made) (visited-walk (leads load_starts loads) everywhere act r.visits))
-    ∙ walk-made (leads load_starts loads) everywhere act s chunks (chunk ∷ [])
+    sym (ap (λ (u : St (St Filling)). u.made) (visited-walk (loads_of columns) everywhere act r.visits))
+    ∙ walk-made (loads_of columns) everywhere act s chunks (chunk ∷ [])
     ∙ fold-flat run-host own s cs in
-    foldl-append run-host s (flat_map own cs) (keep (in_way 2 ways) (root ∷ []))
-    ∙ ap (λ (u : St Filling). foldl run-host u (keep (in_way 2 ways) (root ∷ []))) (sym made)
+    foldl-append run-host s (flat_map own cs) (keep (in_way 2 columns.ways.now) (root ∷ []))
+    ∙ ap (λ (u : St Filling). foldl run-host u (keep (in_way 2 columns.ways.now) (root ∷ []))) (sym made)
     ∙ r.finally
 
 -- by the first rows of the chunks, the hosts in turn are those of the definition that execute
-module _ (normal included wrap member_chunk member import_chunk loads member_starts load_starts : List ℕ) (n chunks : ℕ) (size : length normal ≡ n) (few : chunks ≤ chunk_limit)
-    (lengths : length member ≡ length member_chunk) (loading : Loads import_chunk loads chunks)
-    (members : FirstRows member_chunk member_starts) (member-room : chunks < length member_starts) (rows : FirstRows import_chunk load_starts) (room : chunks < length load_starts) where
+module _ (normal included wrap member_chunk member import_chunk : List ℕ) (columns : VisitColumns) (n chunks : ℕ) (size : length normal ≡ n) (few : chunks ≤ chunk_limit)
+    (way : columns.ways.now ≡ ways normal included wrap n) (lengths : length member ≡ length member_chunk) (loading : Loads import_chunk columns.loads.now chunks)
+    (members : FirstRows member_chunk columns.member_starts.now) (member-room : chunks < length columns.member_starts.now)
+    (rows : FirstRows import_chunk columns.load_starts.now) (room : chunks < length columns.load_starts.now) where
   abbrev gate : ℕ → Bool
   gate = executes normal included
 
-  loaded : (c : ℕ) → c < chunks → leads load_starts loads c ≡ values_of import_chunk loads c
-  loaded c h = leads-named rows loads c (omega (arith, room)) ∙ named-values chunks import_chunk loads c (omega (arith, few)) loading.lengths loading.inside
+  loaded : (c : ℕ) → c < chunks → loads_of columns c ≡ values_of import_chunk columns.loads.now c
+  loaded c h = leads-named rows columns.loads.now c (omega (arith, room)) ∙ named-values chunks import_chunk columns.loads.now c (omega (arith, few)) loading.lengths loading.inside
 
-  own : (c : ℕ) → c < chunks → keep (in_way 1 (ways normal included wrap n)) (part member_starts member c) ≡ keep gate (eager_members wrap member_chunk member c)
+  own : (c : ℕ) → c < chunks → keep (in_way 1 columns.ways.now) (part columns.member_starts.now member c) ≡ keep gate (eager_members wrap member_chunk member c)
   unfolding eager_members
   own c h =
-      ap (keep (in_way 1 (ways normal included wrap n))) (values-part member_chunk c _ _ (members.firsts c (omega (arith, member-room))) (members.firsts (c + 1) (omega (arith, member-room))) member lengths)
+      ap (λ (w : List ℕ). keep (in_way 1 w) (part columns.member_starts.now member c)) way
+      ∙ ap (keep (in_way 1 (ways normal included wrap n))) (values-part member_chunk c _ _ (members.firsts c (omega (arith, member-room))) (members.firsts (c + 1) (omega (arith, member-room))) member lengths)
       ∙ keep_one normal included wrap n size (members_of member_chunk member c)
 
-  pub turns-kept : (root chunk : ℕ) → turns (ways normal included wrap n) member member_starts load_starts loads chunks root chunk ≡ keep gate (hosts_in_turn wrap member_chunk member (values_of import_chunk loads) chunks root chunk)
+  pub turns-kept : (root chunk : ℕ) → turns columns member chunks root chunk ≡ keep gate (hosts_in_turn wrap member_chunk member (values_of import_chunk columns.loads.now) chunks root chunk)
   unfolding turns hosts_in_turn chunk_order
   turns-kept root chunk =
-      let cs : List ℕ = post_order (leads load_starts loads) everywhere chunks (chunk ∷ []) in
+      let cs : List ℕ = post_order (loads_of columns) everywhere chunks (chunk ∷ []) in
       let eager : ℕ → List ℕ = eager_members wrap member_chunk member in
       let last : List ℕ = keep (wrapped wrap) (root ∷ []) in
-      ap (λ (l : List ℕ). l ++ keep (in_way 2 (ways normal included wrap n)) (root ∷ []))
-      (flat-cong (λ (c : ℕ). keep (in_way 1 (ways normal included wrap n)) (part member_starts member c)) (λ (c : ℕ). keep gate (eager c)) cs (λ c h. own c (order-met (leads load_starts loads) everywhere chunks (chunk ∷ []) c h).0)
+      ap (λ (l : List ℕ). l ++ keep (in_way 2 columns.ways.now) (root ∷ []))
+      (flat-cong (λ (c : ℕ). keep (in_way 1 columns.ways.now) (part columns.member_starts.now member c)) (λ (c : ℕ). keep gate (eager c)) cs (λ c h. own c (order-met (loads_of columns) everywhere chunks (chunk ∷ []) c h).0)
       ∙ sym (keep-flat gate eager cs))
-      ∙ ap (λ (l : List ℕ). keep gate (flat_map eager cs) ++ l) (keep_two normal included wrap n size (root ∷ []))
+      ∙ ap (λ (l : List ℕ). keep gate (flat_map eager cs) ++ l) (ap (λ (w : List ℕ). keep (in_way 2 w) (root ∷ [])) way ∙ keep_two normal included wrap n size (root ∷ []))
       ∙ sym (keep_append gate (flat_map eager cs) last)
-      ∙ ap (λ (l : List ℕ). keep gate (flat_map eager l ++ last)) (order_same (values_of import_chunk loads) (leads load_starts loads) chunks loaded (chunk ∷ []))
+      ∙ ap (λ (l : List ℕ). keep gate (flat_map eager l ++ last)) (order_same (values_of import_chunk columns.loads.now) (loads_of columns) chunks loaded (chunk ∷ []))
 
 -- hosts that execute run in turn as the definition runs them, by successors that are those which execute
 module _ (normal included wrap record_module record_kind record_target : List ℕ) (n : ℕ) (size : length normal ≡ n) (succ' : ℕ → List ℕ)

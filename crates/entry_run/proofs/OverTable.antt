@@ -14,8 +14,9 @@ use Rattle.load_order.specs.LoadOrder.{load_order}
 use Rattle.triggers.specs.inner.Columns.{way_of, row_trigger}
 use Rattle.visit_columns.specs.declared.inner.VisitColumns.{VisitColumns}
 use Rattle.visit_columns.specs.inner.OverTable.{PreparedAs}
-use Rattle.visit_steps.specs.inner.Steps.{Spans, leads, Filling, filling}
+use Rattle.visit_steps.specs.inner.Steps.{Spans, Filling, filling}
 use Rattle.module_visits.specs.inner.Visits.{executing, hosted}
+use Rattle.chunk_visits.specs.inner.Visits.{triggers_of}
 use Rattle.analysed_entries.specs.inner.Entries.{Entry}
 use Rattle.entry_run.specs.Actual.{Executed, executes, triggered, run_of}
 use Rattle.entry_run.specs.inner.InTurn.{hosts_in_turn}
@@ -43,7 +44,7 @@ module _ (p : Project) (ok : Accepted p) (wraps : List ℕ) (columns : VisitColu
   triggers-in = subst (BelowOrMissing n) (sym k.trigger) (triggers-inside p.normal p.included wraps n refl p.record_module p.record_kind p.record_target)
 
   -- what the rows of a module name
-  triggers-are : (m : ℕ) → m < n → leads columns.starts.now columns.triggers.now m ≡ keep (executes p.normal p.included) (triggered p.normal wraps p.record_module p.record_kind p.record_target m)
+  triggers-are : (m : ℕ) → m < n → triggers_of columns m ≡ keep (executes p.normal p.included) (triggered p.normal wraps p.record_module p.record_kind p.record_target m)
   triggers-are m h =
       leads-named k.starts columns.triggers.now m (omega (arith, k.start_places))
       ∙ ap (λ (t : List ℕ). named_by p.record_module t m) k.trigger
@@ -53,17 +54,15 @@ module _ (p : Project) (ok : Accepted p) (wraps : List ℕ) (columns : VisitColu
   load = load_order p.order p.import_chunk p.imports
 
   -- the hosts in turn
-  turns-are : turns columns.ways.now p.member columns.member_starts.now columns.load_starts.now columns.loads.now (chunks p) root chunk
-      ≡ keep (executes p.normal p.included) (hosts_in_turn wraps p.member_chunk p.member load (chunks p) root (entry_chunk_of p root))
+  turns-are : turns columns p.member (chunks p) root chunk ≡ keep (executes p.normal p.included) (hosts_in_turn wraps p.member_chunk p.member load (chunks p) root (entry_chunk_of p root))
   turns-are =
-      ap (λ (w : List ℕ). turns w p.member columns.member_starts.now columns.load_starts.now columns.loads.now (chunks p) root chunk) k.way
-      ∙ turns-kept p.normal p.included wraps p.member_chunk p.member p.import_chunk columns.loads.now columns.member_starts.now columns.load_starts.now n (chunks p) refl ok.sizes.order
-      ok.sizes.member k.loading k.member_starts (omega (arith, k.member_places)) k.load_starts (omega (arith, k.load_places)) root chunk
+      turns-kept p.normal p.included wraps p.member_chunk p.member p.import_chunk columns n (chunks p) refl ok.sizes.order k.way ok.sizes.member k.loading k.member_starts
+      (omega (arith, k.member_places)) k.load_starts (omega (arith, k.load_places)) root chunk
       ∙ ap (λ (f : ℕ → List ℕ). keep (executes p.normal p.included) (hosts_in_turn wraps p.member_chunk p.member f (chunks p) root chunk)) k.same
       ∙ ap (λ (c : ℕ). keep (executes p.normal p.included) (hosts_in_turn wraps p.member_chunk p.member load (chunks p) root c)) e.from
 
   -- the visits may begin
-  pub runnable : Runnable columns.ways.now columns.starts.now columns.triggers.now p.member columns.member_starts.now columns.load_starts.now columns.loads.now order hosts (chunks p) root chunk
+  pub runnable : Runnable columns p.member order hosts (chunks p) root chunk
   runnable = record {
     each = ways-length ∙ sym l.size;
     spans = subst (Spans columns.starts.now (length columns.triggers.now)) (sym l.size) (spans k.starts n (length columns.triggers.now) (omega (arith, k.start_places)) triggers-length);
@@ -81,12 +80,12 @@ module _ (p : Project) (ok : Accepted p) (wraps : List ℕ) (columns : VisitColu
 
   -- and what they make is the run
   pub made-listed : (order' hosts' : List ℕ) (r : ℕ)
-      → (foldl (hosted (leads columns.starts.now columns.triggers.now)) (executing (replicate (length hosts) 0) order (replicate (length hosts) missing) 0)
-      (turns columns.ways.now p.member columns.member_starts.now columns.load_starts.now columns.loads.now (chunks p) root chunk)).made ≡ filling order' hosts' r
+      → (foldl (hosted (triggers_of columns)) (executing (replicate (length hosts) 0) order (replicate (length hosts) missing) 0)
+      (turns columns p.member (chunks p) root chunk)).made ≡ filling order' hosts' r
       → Listed (run_of p wraps root) order order' hosts' r
   made-listed order' hosts' r made =
-      let run : ℕ → List ℕ → Filling = λ i hosts-in-turn. (foldl (hosted (leads columns.starts.now columns.triggers.now)) (executing (replicate i 0) order (replicate i missing) 0) hosts-in-turn).made in
+      let run : ℕ → List ℕ → Filling = λ i hosts-in-turn. (foldl (hosted (triggers_of columns)) (executing (replicate i 0) order (replicate i missing) 0) hosts-in-turn).made in
       let in-turn : List ℕ = hosts_in_turn wraps p.member_chunk p.member load (chunks p) root (entry_chunk_of p root) in
       subst (λ (x : Executed). Listed x order order' hosts' r) (sym (run-in-turn p wraps root))
-      (turns-written p.normal p.included wraps p.record_module p.record_kind p.record_target n refl (leads columns.starts.now columns.triggers.now) triggers-are in-turn order order' hosts' r l.room
-      (sym (ap (λ (i : ℕ). run i (turns columns.ways.now p.member columns.member_starts.now columns.load_starts.now columns.loads.now (chunks p) root chunk)) l.size ∙ ap (run n) turns-are) ∙ made))
+      (turns-written p.normal p.included wraps p.record_module p.record_kind p.record_target n refl (triggers_of columns) triggers-are in-turn order order' hosts' r l.room
+      (sym (ap (λ (i : ℕ). run i (turns columns p.member (chunks p) root chunk)) l.size ∙ ap (run n) turns-are) ∙ made))

@@ -4,8 +4,9 @@ ghost use mathlib.Core.List.{foldl};
 ghost use Rattle.tables.specs.Project.{missing};
 ghost use Rattle.tables.specs.Readings.{modules};
 ghost use Rattle.visit_columns.specs.inner.OverTable.{Prepared};
-ghost use Rattle.visit_steps.specs.inner.Steps.{leads, filling};
+ghost use Rattle.visit_steps.specs.inner.Steps.{filling};
 ghost use Rattle.module_visits.specs.inner.Visits.{executing, hosted};
+ghost use Rattle.chunk_visits.specs.inner.Visits.{triggers_of};
 ghost use Rattle.entry_run.specs.Actual.{run_of};
 ghost use Rattle.entry_run.specs.inner.Cores.{turns, Runnable, Listed};
 ghost use Rattle.entry_run.specs.inner.OverTable.{Listing, PreparedSome, ListedAs};
@@ -19,23 +20,18 @@ use visit_columns::inner::{VisitColumns, VisitSpace, prepare_table};
 use visit_steps::inner::ActualOrderTraversal;
 
 // The visits of a root whose entry chunk is given, by the columns that they read. No module is met before, and no host noted. How many are listed.
-// The columns stay plain slices from here on: a rule of the project asks for plain slices beside the counters that the visits lend on.
-fn actual_order_for_root<'a>(
-    ways: &'a [u32],
-    starts: &'a [u32],
-    triggers: &'a [u32],
-    member: &'a [u32],
-    member_starts: &'a [u32],
-    load_starts: &'a [u32],
-    loads: &'a [u32],
+// Marks, order and hosts are plain slices from here on: a rule of the project asks for that beside the counters that the visits lend on.
+fn actual_order_for_root(
+    columns: &VisitColumns,
+    member: &[u32],
     order: &mut [u32],
     hosts: &mut [u32],
     chunks: usize,
     root: u32,
     chunk: u32,
 ) -> usize
-    requires { Runnable ways.now starts.now triggers.now member.now member_starts.now load_starts.now loads.now order.old hosts.old chunks root chunk }
-    ensures { (foldl (hosted (leads starts.now triggers.now)) (executing (replicate (length hosts.old) 0) order.old (replicate (length hosts.old) missing) 0) (turns ways.now member.now member_starts.now load_starts.now loads.now chunks root chunk)).made ≡ filling order.new hosts.new result }
+    requires { Runnable columns.now member.now order.old hosts.old chunks root chunk }
+    ensures { (foldl (hosted (triggers_of columns.now)) (executing (replicate (length hosts.old) 0) order.old (replicate (length hosts.old) missing) 0) (turns columns.now member.now chunks root chunk)).made ≡ filling order.new hosts.new result }
 {
     let mut marks = [0u32; MODULE_LIMIT];
     let marks = &mut marks[..hosts.len()];
@@ -45,13 +41,8 @@ fn actual_order_for_root<'a>(
     let none = ActualOrderTraversal { placed: 0, next: 0 };
     let last = [root; 1];
     let all = visit_and_execute(
-        ways,
-        starts,
-        triggers,
+        columns,
         member,
-        member_starts,
-        load_starts,
-        loads,
         &last,
         chunk_marks,
         marks,
@@ -64,7 +55,8 @@ fn actual_order_for_root<'a>(
 }
 
 // The run of an entry of a table with the wraps that `columns` were made with: its list written to `order` from place 0, and
-// its hosts, a place a module. How many are listed.
+// its hosts, a place a module. How many are listed. `order` and `hosts` are the caller's, here and below; a
+// value of the two would be taken apart by the one visit that writes them.
 #[tactic(auto, unfolding(current_columns::specs::AsProject::project))]
 pub fn list_prepared(
     entry: &AnalysedEntry,
@@ -80,13 +72,8 @@ pub fn list_prepared(
     let read = current.columns();
     let chunks = read.order.len();
     actual_order_for_root(
-        columns.ways,
-        columns.starts,
-        columns.triggers,
+        columns,
         read.member,
-        columns.member_starts,
-        columns.load_starts,
-        columns.loads,
         order,
         hosts,
         chunks,

@@ -13,8 +13,8 @@ use Rattle.walk.proofs.Placing.{placed-order}
 use Rattle.tables.specs.Project.{Project}
 use Rattle.tables.specs.Readings.{modules, flagged}
 use Rattle.expected_visit.specs.Visit.{normal_imports, held}
-use Rattle.expected_order.specs.Expected.{walked_from, expected}
-use Rattle.expected_order.specs.OfProject.{expected_of}
+use Rattle.expected_visit.specs.Expected.{walked_from, expected}
+use Rattle.expected_visit.specs.OfProject.{expected_of}
 use Rattle.expected_order.specs.Visit.{Listed}
 
 -- a slice with a place a module has room for what was not met, where nothing was

@@ -5,7 +5,7 @@ use Rattle.tables.specs.Readings.{modules}
 use Rattle.tables.specs.Answers.{verdict, answer, after}
 use Rattle.tables.specs.declared.Refusal.{Refusal}
 use Rattle.table.specs.Table.{Lent}
-use Rattle.expected_order.specs.OfProject.{expected_of}
+use Rattle.expected_visit.specs.OfProject.{expected_of}
 
 -- what refuses a call: 5 "for a root that has no row", 6 for a short output
 abbrev pub expected_verdict : Lent → ℕ → ℕ → Option Refusal

@@ -4,7 +4,7 @@ ghost use Rattle.tables.specs.Readings.{modules};
 ghost use Rattle.tables.specs.Refusal.{module_limit};
 ghost use Rattle.tables.specs.Accepted.{Below};
 ghost use Rattle.expected_visit.specs.Visit.{Fit};
-ghost use Rattle.expected_order.specs.OfProject.{expected_of};
+ghost use Rattle.expected_visit.specs.OfProject.{expected_of};
 ghost use Rattle.expected_order.specs.Visit.{Listed, Rooted};
 
 use current_columns::inner::{Columns, Current};

@@ -17,7 +17,7 @@ use Rattle.tables.specs.Refusal.{module_limit}
 use Rattle.strong_connection.specs.inner.Graph.{EdgeColumns}
 use Rattle.import_edges.specs.inner.Spread.{Along, Under, Spreads, Spreadable, EdgesBelow, Edges, import_targets}
 use Rattle.marks.specs.Steps.{Row}
-use Rattle.wrap_rules.proofs.Rows.{any-resolved}
+use Rattle.tables.proofs.Targets.{any-resolved}
 
 -- the target of a row, by what it resolves to
 module _ (normal target : List ℕ) (row : ℕ) where

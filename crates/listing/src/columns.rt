@@ -1,5 +1,5 @@
 // From values row by row to columns.
-ghost use Rattle.std.specs.Prelude.{◌≡◌, ℕ, ◌+◌, ◌*◌, ◌<◌, ◌≤◌, [], ◌∷◌, length, drop, slice_index};
+ghost use Rattle.std.specs.Prelude.{◌≡◌, ℕ, ◌+◌, ◌*◌, ◌<◌, ◌≤◌, [], ◌∷◌, drop, slice_index};
 ghost use mathlib.Core.List.{flatten};
 ghost use Rattle.std.proofs.lemmas.List.Edits.{sets};
 ghost use Rattle.lists.specs.Words.{up_to};
@@ -7,11 +7,11 @@ ghost use Rattle.text_rows.specs.inner.Cells.{widths};
 ghost use Rattle.listing.specs.inner.Columns.{stripe, stripes, cut, Climbs};
 ghost use Rattle.listing.specs.Reading.{tails};
 
+use table::COLUMNS;
 use text_rows::inner::width;
 
 // Copies the settings, the first row.
-pub fn settle(rows: &[u32; 32768], settings: &mut [u32])
-    requires { length settings.old ≡ 2 }
+pub fn settle(rows: &[u32; 32768], settings: &mut [u32; 2])
     ensures { settings.new ≡ sets settings.old 0 (slice_index rows.now 0 ∷ slice_index rows.now 1 ∷ []) }
 {
     settings[0] = rows[0];
@@ -24,10 +24,10 @@ fn copy_column(
     first: usize,
     w: usize,
     n: usize,
-    columns: &mut [u32],
+    columns: &mut [u32; 32768],
     to: usize,
 )
-    requires { ((r : ℕ) → r < n → first + r * w < 32768) × (w < 9) × (to + n ≤ 32768) × (length columns.old ≡ 32768) }
+    requires { ((r : ℕ) → r < n → first + r * w < 32768) × (w < 9) × (to + n ≤ 32768) }
     ensures { columns.new ≡ sets columns.old to (stripe w first n rows.now) }
 {
     // columns lie apart in rows: the place is computed
@@ -40,15 +40,15 @@ fn copy_column(
 // ends. The answer is where the last ends.
 fn spread_list(
     rows: &[u32; 32768],
-    bounds: &mut [u32],
-    columns: &mut [u32],
+    bounds: &mut [u32; COLUMNS + 1],
+    columns: &mut [u32; 32768],
     first: usize,
     w: usize,
     n: usize,
     to: usize,
     j: usize,
 ) -> usize
-    requires { (first + n * w ≤ 32768) × (to + n * w ≤ 32768) × (w < 9) × (j + w < 35) × (length columns.old ≡ 32768) × (length bounds.old ≡ 35) }
+    requires { (first + n * w ≤ 32768) × (to + n * w ≤ 32768) × (w < 9) × (j + w < 35) }
     ensures value { result ≡ to + n * w }
     ensures columns_after { columns.new ≡ sets columns.old to (flatten (stripes w first n rows.now (up_to w))) }
     ensures bounds_after { bounds.new ≡ sets bounds.old (j + 1) (tails to (stripes w first n rows.now (up_to w))) }
@@ -64,8 +64,13 @@ fn spread_list(
 }
 
 // Copies the columns of every list but the settings, which end in rows where ends says, to columns from place 0.
-pub fn spread(rows: &[u32; 32768], ends: &[usize; 15], bounds: &mut [u32], columns: &mut [u32])
-    requires { Climbs 2 (drop 1 ends.now) 32768 × (length ends.now ≡ 15) × (length columns.old ≡ 32768) × (length bounds.old ≡ 35) }
+pub fn spread(
+    rows: &[u32; 32768],
+    ends: &[usize; 15],
+    bounds: &mut [u32; COLUMNS + 1],
+    columns: &mut [u32; 32768],
+)
+    requires { Climbs 2 (drop 1 ends.now) 32768 }
     ensures columns_after { columns.new ≡ sets columns.old 0 (flatten (cut (drop 1 widths) (drop 1 ends.now) 2 rows.now)) }
     ensures bounds_after { bounds.new ≡ sets bounds.old 0 (0 ∷ tails 0 (cut (drop 1 widths) (drop 1 ends.now) 2 rows.now)) }
 {

@@ -13,6 +13,7 @@ use tables::Refusal;
 use text_rows::inner::read_lists;
 
 // What was read of a text: how many values the columns have, and where the names begin and end in the text.
+// Numbers and no slices, since `read`'s promise is of them; `read_text` gives the slices as a `Table`.
 #[derive(Clone, Copy)]
 pub struct Reading {
     pub values: usize,

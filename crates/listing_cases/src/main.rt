@@ -9,17 +9,12 @@
 
 use lines::{put_line, rising};
 use listing::{Reading, read};
-use parts::{first_of, part_of};
+use parts::{first_of, part_of, split_number};
 use refusal::test;
 use std::io;
 use streams::read_full;
 use table::{COLUMNS, Table};
 use tables::Refusal;
-
-// The number with a digit more; 4294967295 where it is too large.
-fn with_digit(value: u32, digit: u8) -> u32 {
-    (value as u64 * 10 + digit as u64).min(4294967295) as u32
-}
 
 // What is left of the list.
 #[derive(Clone, Copy)]
@@ -45,17 +40,14 @@ impl<'a> List<'a> {
 
     // The number whose digits stand next, and passes the byte that ends it.
     fn number(&mut self) -> u32 {
-        let digits = self.left.iter().take_while(|b| b'0' <= **b).count();
-        let mut value = 0;
-        for b in self.take(digits) {
-            value = with_digit(value, b.saturating_sub(b'0'));
-        }
+        let (value, rest) = split_number(self.left);
+        self.left = rest;
         self.take(1);
         value
     }
 }
 
-// A text that is put together. What it has no room for is left out.
+// A text that is put together. What it has no room for is left out. Bytes and size, as there is no heap for a String.
 #[derive(Drop)]
 struct Text<'a> {
     bytes: &'a mut [u8],
@@ -102,21 +94,11 @@ impl<'a> Text<'a> {
     }
 }
 
-// Writes the first n bytes.
-fn write_first(rt: &impl Print, out: &[u8], n: usize) -> io::Result<()> {
-    if n <= out.len() {
-        rt.write_all(&out[0..n])?;
-    }
-    Ok(())
-}
-
+// Prints a line, in this program's room; `planner` has more, and a library's function would need a promise of what is printed.
 fn print(rt: &impl Print, word: &[u8], entry: &[u32], numbers: &[u32]) -> io::Result<()> {
     let mut out = [0u8; 256];
-    let answer = put_line(&mut out, word, entry, numbers);
-    let Ok(n) = answer else {
-        return Ok(());
-    };
-    write_first(rt, &out, n)
+    let count = put_line(&mut out, word, entry, numbers).unwrap_or(0);
+    rt.write_all(first_of(&out, count))
 }
 
 // The number of the project test, 0 where it is passed.
@@ -207,7 +189,7 @@ fn run_case(rt: &impl Print, list: &mut List) -> io::Result<()> {
     let pieces = list.number();
     text.put_pieces(list, pieces);
     let size = text.size;
-    answer(rt, case, changed, bytes.get(..size).unwrap_or(&bytes))
+    answer(rt, case, changed, first_of(&bytes, size))
 }
 
 // Runs all texts of the list.

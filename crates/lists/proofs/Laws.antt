@@ -319,6 +319,11 @@ get_d-map-up_to f n k d l = get_d-map-from f 0 n k d l ∙ ap f (zero-add k)
 pub length-map-up_to : (f : ℕ → ℕ) (n : ℕ) → length (map f (up_to n)) ≡ n
 length-map-up_to f n = length-map (up_to n) f ∙ length-count_from 0 n
 
+-- a list with a function's value at each of its places
+pub map_up_to_written : (f : ℕ → ℕ) (now : List ℕ) (n : ℕ) → length now ≡ n → ((k : ℕ) → k < n → get_or now k 0 ≡ f k) → now ≡ map f (up_to n)
+map_up_to_written f now n len at =
+    ext_get_or 0 now (map f (up_to n)) (len ∙ sym (length-map-up_to f n)) (λ k h. at k (omega arith) ∙ sym (get_d-map-up_to f n k 0 (omega arith)))
+
 -- within a list the value that stands past its end does not matter
 pub get_d-in : (xs : List ℕ) (i d e : ℕ) → i < length xs → get_or xs i d ≡ get_or xs i e
 get_d-in [] i d e l = absurd (omega arith)

@@ -23,9 +23,9 @@ use Rattle.tables.specs.Readings.{modules, chunks, is_normal, flagged, wrapped, 
 use Rattle.tables.specs.Refusal.{refusal}
 use Rattle.tables.proofs.Accepted.{accepted}
 use Rattle.tables.proofs.OwnerRows.{mem-rows}
-use Rattle.expected_order.specs.Expected.{expected}
-use Rattle.expected_order.specs.OfProject.{expected_of}
-use Rattle.expected_order.proofs.Laws.{reached-path}
+use Rattle.expected_visit.specs.Expected.{expected}
+use Rattle.expected_visit.specs.OfProject.{expected_of}
+use Rattle.expected_visit.proofs.Laws.{reached-path}
 use Rattle.load_order.specs.LoadOrder.{load_order}
 use Rattle.entry_run.specs.Actual.{Executed, executes, triggered, unwrapped, eager_members, run_of, actual_of}
 use Rattle.entry_run.specs.inner.InTurn.{chunk_order, hosts_in_turn}

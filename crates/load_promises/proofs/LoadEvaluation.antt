@@ -9,8 +9,8 @@ use Rattle.walk.specs.Walk.{everywhere, post_order}
 use Rattle.walk.specs.Reach.{here}
 use Rattle.tables.specs.Project.{Project}
 use Rattle.tables.specs.Readings.{modules, is_normal, flagged, rows_of}
-use Rattle.expected_order.specs.Expected.{expected}
-use Rattle.expected_order.specs.OfProject.{expected_of}
+use Rattle.expected_visit.specs.Expected.{expected}
+use Rattle.expected_visit.specs.OfProject.{expected_of}
 use Rattle.evaluation.specs.Premises.{requested_of}
 use Rattle.evaluation.proofs.Witness.{meets-premises}
 use Rattle.evaluation.proofs.Expected.{evaluation-gives-the-expected-order}

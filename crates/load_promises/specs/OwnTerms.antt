@@ -6,7 +6,7 @@ use Rattle.walk.specs.Walk.{everywhere}
 use Rattle.tables.specs.Project.{Project, missing}
 use Rattle.tables.specs.Readings.{modules, chunks, is_normal, is_analysed}
 use Rattle.tables.specs.Refusal.{refusal}
-use Rattle.expected_order.specs.OfProject.{expected_of}
+use Rattle.expected_visit.specs.OfProject.{expected_of}
 use Rattle.evaluation.specs.Premises.{evaluate_from, Premises}
 use Rattle.chunk_cycles.specs.Cycles.{label_at, reaches_cycle_of}
 use Rattle.chunk_cycles.specs.Paths.{Path*, Path⁺, Lowest}

@@ -9,8 +9,8 @@ use Rattle.replacement.specs.Replacement.{through, latest}
 use Rattle.table.specs.Table.{read, current}
 use Rattle.sort_modules.specs.Sort.{visited, numbers, sorted}
 use Rattle.sort_modules.specs.OfProject.{numbers_of, sorted_of}
-use Rattle.expected_order.specs.Expected.{expected}
-use Rattle.expected_order.specs.OfProject.{expected_of}
+use Rattle.expected_visit.specs.Expected.{expected}
+use Rattle.expected_visit.specs.OfProject.{expected_of}
 use Rattle.circle_search.specs.Circles.{meet, circles}
 use Rattle.import_circles.specs.OfProject.{walked, roots_of, circles_of}
 use Rattle.entries_order.specs.Entries.{entries_order}

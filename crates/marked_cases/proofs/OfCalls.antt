@@ -13,7 +13,7 @@ use Rattle.sort_modules.specs.Promise.{sort_verdict}
 use Rattle.circle_gathering.specs.Gathering.{joined, lengths_of}
 use Rattle.import_circles.specs.OfProject.{circles_of}
 use Rattle.import_circles.specs.Promise.{circles_verdict}
-use Rattle.expected_order.specs.OfProject.{expected_of}
+use Rattle.expected_visit.specs.OfProject.{expected_of}
 use Rattle.expected_order.specs.Promise.{expected_verdict}
 use Rattle.entries_order.specs.OfEntries.{expected_of_entries}
 use Rattle.entries_order.specs.Promise.{entries_verdict}

@@ -4,12 +4,11 @@ ghost use Rattle.tables.specs.Lookups.{Rising};
 ghost use Rattle.tables.specs.Readings.{modules};
 ghost use Rattle.names.specs.Names.{names_fit, turned};
 ghost use Rattle.name_order.specs.inner.Lines.{line_at};
-ghost use Rattle.merge_sort.specs.inner.Held.{key_at};
+ghost use Rattle.merge_sort.specs.inner.Held.{held_key};
 ghost use Rattle.module_keys.specs.Keys.{recordless, group_by, key_of};
 ghost use Rattle.module_keys.specs.inner.Filling.{Filled, Modules, place_by};
 
 use current_columns::inner::Columns;
-use merge_sort::inner::Keys;
 use name_order::inner::{find_starts, is_runtime};
 use tables::inner::first_row;
 
@@ -71,26 +70,21 @@ fn put_numbers(groups: &[u32], numbers: &[u32], places: &mut [usize])
     }
 }
 
-// Finds the key of each module, in two slices.
+// Finds the key of each module: its group, and its place behind it.
 #[tactic(auto, using(crate::proofs::Keys::keys_held))]
-pub fn find_keys<'a>(
+pub fn find_keys(
     columns: &Columns,
-    names: &'a [u8],
+    names: &[u8],
     numbers: &[u32],
-    groups: &'a mut [u32],
-    places: &'a mut [usize],
-) -> Keys<'a>
+    groups: &mut [u32],
+    places: &mut [usize],
+)
     requires columns { Modules columns.now (modules columns.now) }
     requires named { names_fit (modules columns.now) names.now ≡ true }
     requires room { (length groups.old ≡ modules columns.now) × (length places.old ≡ modules columns.now) × (length numbers.now ≡ modules columns.now) }
-    ensures { (m : ℕ) → m < modules columns.now → key_at result m ≡ key_of names.now columns.now.normal columns.now.record_module columns.now.sensitive numbers.now m }
+    ensures { (m : ℕ) → m < modules columns.now → held_key groups.new places.new names.now m ≡ key_of names.now columns.now.normal columns.now.record_module columns.now.sensitive numbers.now m }
 {
     find_starts(names, places);
     fill_groups(columns, names, places, groups);
     put_numbers(groups, numbers, places);
-    Keys {
-        groups,
-        places,
-        names,
-    }
 }

@@ -10,7 +10,8 @@ fn is_printable(b: u8) -> bool
     (33..=126).contains(&b)
 }
 
-// The length of the line at hand after a byte, from that before it; 65 once something is wrong.
+// The length of the line at hand after a byte, from that before it; 65 once something is wrong, one more than a
+// name may have: a fold carries one number, and one test is for both.
 fn width_after(width: usize, b: u8) -> usize
     ensures { result ≡ width_after width b }
 {
@@ -30,7 +31,7 @@ pub fn last_width(names: &[u8]) -> usize
     names.iter().fold(0, |width, b| width_after(width, *b))
 }
 
-// How many lines end.
+// How many lines end: a count of bytes, where `lists` counts marks and `component_labels` labels, each by its own test.
 #[tactic(auto, using(crate::proofs::Lines::ends_counted))]
 pub fn count_lines(names: &[u8]) -> usize
     ensures { result ≡ line_ends names.now }

@@ -11,7 +11,7 @@ use Rattle.walk.specs.Close.{close, Within, Bits}
 use Rattle.walk.proofs.Closes.{marks_of-bits}
 use Rattle.tables.specs.Project.{Project}
 use Rattle.tables.specs.Readings.{modules, entry_chunk_of}
-use Rattle.expected_order.specs.OfProject.{expected_of}
+use Rattle.expected_visit.specs.OfProject.{expected_of}
 use Rattle.entry_run.specs.Actual.{actual_of, hosts_of}
 use Rattle.chunk_cycles.specs.Cycles.{labels_of, reaches_cycle_of}
 use Rattle.sensitivity.specs.Marks.{sensitive}

@@ -11,10 +11,10 @@ ghost use Rattle.order_analysis.specs.inner.Analysis.{risks_of};
 
 use analysed_entries::inner::find_entry;
 use at_risk::inner::add_entry_risk;
-use at_risk::module_sets::{ModuleSets, SetSpace, read_module_sets};
 use chunk_cycles::inner::label_table;
 use current_columns::inner::Current;
 use lists::inner::{count_marked, fill};
+use module_sets::inner::{ModuleSets, SetSpace, read_module_sets};
 use plan_rounds::inner::build_order_wrap_plan;
 use reached_modules::inner::list_roots;
 use rule_sets::inner::{LabelSpace, read_labels};
@@ -72,7 +72,7 @@ fn plan_risks(current: &Current, plan: &mut [u32])
 {
     let mut space = LabelSpace::EMPTY;
     let labelled = read_labels(current, &mut space);
-    mark_table_seeds(current, labelled.eligible, plan);
+    mark_table_seeds(current, labelled.sets.eligible, plan);
     build_order_wrap_plan(&labelled, plan);
 }
 

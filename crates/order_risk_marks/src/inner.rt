@@ -7,9 +7,9 @@ ghost use Rattle.at_risk.specs.inner.OverTable.{Marked};
 
 use analysed_entries::inner::AnalysedEntry;
 use at_risk::inner::add_entry_order_risk;
-use at_risk::module_sets::{ModuleSets, SetSpace, read_module_sets};
 use expected_order::inner::find_expected;
 use lists::inner::{count_marked, fill};
+use module_sets::inner::{ModuleSets, SetSpace, read_module_sets};
 use table::MODULE_LIMIT;
 use visit_columns::inner::{VisitSpace, prepare_table};
 

@@ -4,10 +4,11 @@
 
 use grounds::grounds;
 use lines::put_line;
-use listing::{TextSpace, read_text};
+use listing::TextSpace;
 use order_analysis::analyze_execution_order;
+use parts::first_of;
 use std::io;
-use streams::read_full;
+use streams::{TEXT_BYTES, read_table};
 use table::{ENTRY, MODULE_LIMIT, Table};
 use tables::Refusal;
 use wall_page::entry_page;
@@ -15,22 +16,11 @@ use wall_page::entry_page;
 // Room for a line of 41 bytes for each module.
 const PAGE_BYTES: usize = 167936;
 
-// Writes as many bytes as were counted.
-fn write_counted(rt: &impl Print, out: &[u8], answer: Result<usize, Refusal>) -> io::Result<()> {
-    let Ok(n) = answer else {
-        return Ok(());
-    };
-    if n <= out.len() {
-        rt.write_all(&out[0..n])?;
-    }
-    Ok(())
-}
-
-// Prints a refusal.
+// Prints a refusal, as the other programs do, each by its own line: of what is printed there is no contract, and a library's function needs one.
 fn refused(rt: &impl Print, refusal: Refusal) -> io::Result<()> {
     let mut out = [0u8; 64];
-    let answer = put_line(&mut out, b"refused", &[], &[refusal.number()]);
-    write_counted(rt, &out, answer)
+    let count = put_line(&mut out, b"refused", &[], &[refusal.number()]).unwrap_or(0);
+    rt.write_all(first_of(&out, count))
 }
 
 // Prints the page of an entry. One that isn't analysed has none.
@@ -42,8 +32,8 @@ fn print_page<'a>(
     root: u32,
 ) -> io::Result<()> {
     let mut page = [0u8; PAGE_BYTES];
-    let answer = entry_page(table, sensitives, plan, root, &mut page);
-    write_counted(rt, &page, answer)
+    let count = entry_page(table, sensitives, plan, root, &mut page).unwrap_or(0);
+    rt.write_all(first_of(&page, count))
 }
 
 // Prints the page of each analysed entry, in row order.
@@ -80,17 +70,11 @@ fn pages(rt: &impl Print, table: &Table) -> io::Result<()> {
     }
 }
 
-// Prints the pages of a text.
-fn pages_of_text(rt: &impl Print, text: &[u8]) -> io::Result<()> {
-    let mut space = TextSpace::EMPTY;
-    match read_text(text, &mut space) {
-        Err(refusal) => refused(rt, refusal),
-        Ok(table) => pages(rt, &table),
-    }
-}
-
 fn main(rt: HostRuntime) -> io::Result<()> {
-    let mut text = [0u8; 65537];
-    let n = read_full(&mut rt.reader(), &mut text)?;
-    pages_of_text(&rt, &text[..n])
+    let mut text = [0u8; TEXT_BYTES];
+    let mut space = TextSpace::EMPTY;
+    match read_table(&mut rt.reader(), &mut text, &mut space)? {
+        Err(refusal) => refused(&rt, refusal),
+        Ok(table) => pages(&rt, &table),
+    }
 }

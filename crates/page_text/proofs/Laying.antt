@@ -24,8 +24,8 @@ use Rattle.page_lines.specs.Line.{line_by}
 use Rattle.page_rows.specs.Rows.{others_of, modules_of}
 use Rattle.page_rows.specs.inner.Steps.{Laid}
 use Rattle.page_rows.proofs.Once.{each-once}
-use Rattle.page_text.specs.Page.{place_in, line_of, line_at, page_by}
-use Rattle.page_text.specs.inner.Sheets.{SheetRows, line_with, page_with, numbered_with, text_with, text_by, text_room, Sheet, Orders}
+use Rattle.page_text.specs.Page.{place_in, line_of, line_at, page_by, text_by, text_room}
+use Rattle.page_text.specs.inner.Sheets.{SheetRows, line_with, page_with, numbered_with, text_with, Sheet, Orders}
 use Rattle.page_text.proofs.Lines.{lines-append}
 
 -- a place, from 1, is at most the length

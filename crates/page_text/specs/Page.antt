@@ -1,6 +1,6 @@
 -- "A page for the workshop wall": the lines of an entry, over its two sensitive orders and the planned modules.
 -- Assumes nothing.
-use Rattle.std.specs.Prelude.{ℕ, zero, suc, Bool, cond, List, [], map, slice_index_or}
+use Rattle.std.specs.Prelude.{ℕ, zero, suc, ◌*◌, Bool, cond, Option, Some, None, List, [], map, slice_index_or}
 use mathlib.Core.List.{flat_map}
 use Rattle.lists.specs.Words.{elem}
 use Rattle.risk_of_orders.specs.Risk.{place}
@@ -23,3 +23,13 @@ module _ (expected actual : List ℕ) (planned : ℕ → Bool) where
   -- the page: its lines in turn
   unfoldable pub page_by : List ℕ
   page_by = flat_map line_of (modules_of expected actual)
+
+  -- one line by its number, or the page where no number is given
+  abbrev pub text_by : Option ℕ → List ℕ
+  text_by None = page_by
+  text_by (Some number) = line_at number
+
+-- how many bytes a page of so many modules has room for, or a line
+abbrev pub text_room : ℕ → Option ℕ → ℕ
+text_room modules None = 41 * modules
+text_room modules (Some number) = 41

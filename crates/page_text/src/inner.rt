@@ -5,8 +5,8 @@ ghost use Rattle.lists.specs.Words.{has};
 ghost use Rattle.lines.specs.Lines.{PutAt};
 ghost use Rattle.lines.specs.Writing.{Room, Put};
 ghost use Rattle.tables.specs.Accepted.{Below};
-ghost use Rattle.page_text.specs.Page.{line_at, page_by};
-ghost use Rattle.page_text.specs.inner.Sheets.{line_with, page_with, numbered_with, text_with, text_by, text_room, Orders};
+ghost use Rattle.page_text.specs.Page.{text_by, text_room};
+ghost use Rattle.page_text.specs.inner.Sheets.{line_with, page_with, numbered_with, text_with, Orders};
 
 use lines::lines::Writer;
 use page_lines::inner::put_page_line;
@@ -99,9 +99,8 @@ impl<'a> Sheet<'a> {
     }
 }
 
-// Writes one line of an entry's page, or the page where no number is given, from place 0, and answers its length. The places are made here for both, so that the
-// arrays take stack only while this runs.
-fn put_text(
+// Writes one line of an entry's page, by its number, or the page where no number is given, from place 0, and answers its length; past the last line 0.
+pub fn put_text(
     expected: &[u32],
     actual: &[u32],
     plan: &[u32],
@@ -135,28 +134,4 @@ fn put_text(
     let mut page = Writer::new(out);
     sheet.put(&mut page, number);
     page.len()
-}
-
-// Writes the page of an entry from place 0, and answers its length.
-pub fn put_page(expected: &[u32], actual: &[u32], plan: &[u32], out: &mut [u8]) -> usize
-    requires orders { Orders expected.now actual.now (length plan.now) }
-    requires room { 41 * length plan.now ≤ length out.old }
-    ensures { PutAt out.old 0 (page_by expected.now actual.now (has plan.now)) out.new result }
-{
-    put_text(expected, actual, plan, out, None)
-}
-
-// Writes one line of an entry's page, by its number, from place 0, and answers its length; past the last, 0.
-pub fn put_numbered(
-    expected: &[u32],
-    actual: &[u32],
-    plan: &[u32],
-    out: &mut [u8],
-    number: usize,
-) -> usize
-    requires orders { Orders expected.now actual.now (length plan.now) }
-    requires room { 41 ≤ length out.old }
-    ensures { PutAt out.old 0 (line_at expected.now actual.now (has plan.now) number) out.new result }
-{
-    put_text(expected, actual, plan, out, Some(number))
 }

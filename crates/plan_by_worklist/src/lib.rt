@@ -11,7 +11,8 @@ use table::Table;
 use tables::Refusal;
 use worklist_plan::inner::plan_by_takings;
 
-// The plan from seeds by a worklist: 0 or 1 for each module, written to `marks` from place 0. The count is that of the ones.
+// The plan from seeds by a worklist: 0 or 1 for each module, written to `marks` from place 0. The count is that of the ones. It promises
+// what `plan_from_seeds` does, and gets there in another way: that is what it is for.
 pub fn plan_by_worklist(table: &Table, seeds: &[u32], marks: &mut [u32]) -> Result<usize, Refusal>
     ensures { PlanFromSeeds (as_lent table.now) seeds.now marks.old result marks.new }
 {

@@ -1,6 +1,6 @@
 -- "only eligible modules, holds the eligible seeds and is closed under the four rules": the six conditions of a plan, and what is said of one.
 -- Assumes nothing.
-use Rattle.std.specs.Prelude.{ℕ, suc, Bool, not, ◌&&◌, List, [], ◌∷◌, map, Option, None, Some}
+use Rattle.std.specs.Prelude.{ℕ, zero, suc, ◌+◌, ◌*◌, ◌^◌, Bool, not, ◌&&◌, List, [], ◌∷◌, map, Option, None, Some}
 use Rattle.lists.specs.Words.{up_to, keep, elem, has}
 use Rattle.tables.specs.Project.{Project}
 use Rattle.tables.specs.Readings.{modules}
@@ -43,3 +43,8 @@ first_broken i (Some m ∷ ms) = Broken i m
 -- what is said of a plan: accepted, or the number of the first broken condition, from 1 on, and the lowest module that breaks it
 unfoldable pub judged : Project → List ℕ → List ℕ → Judgement
 judged p seeds plan = first_broken 1 (map (λ (condition : Condition). lowest (broken p seeds plan condition) (modules p)) conditions)
+
+-- what is said of a plan as one number: 0 where it is accepted, the number of the broken condition times 2 ^ 16 plus the module
+abbrev pub judgement_number : Judgement → ℕ
+judgement_number Accepted = zero
+judgement_number (Broken condition m) = condition * 2 ^ 16 + m

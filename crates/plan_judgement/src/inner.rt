@@ -39,8 +39,8 @@ pub fn judge_plan(current: &Current, seeds: &[u32], plan: &[u32]) -> Judgement
     let sets = read_sets(&labelled, &mut rule_space);
     let mut copy = [0u32; MODULE_LIMIT];
     let copy = &mut copy[..current.modules()];
-    let wrong = lowest_lacking(plan, labelled.eligible);
-    let seed = lacking_seed(seeds, labelled.eligible, plan, copy);
+    let wrong = lowest_lacking(plan, labelled.sets.eligible);
+    let seed = lacking_seed(seeds, labelled.sets.eligible, plan, copy);
     let suffix = lacking_suffix(&sets.rooted, plan, copy);
     let member = lacking_member(&labelled, plan, copy);
     let importer = lacking_importer(&sets.reached, &sets.imports, plan, copy);

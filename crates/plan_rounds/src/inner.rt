@@ -44,7 +44,7 @@ pub fn build_order_wrap_plan(labelled: &LabelSets, plan: &mut [u32])
     // the same sets, lent for as long as the space is
     let labelled = LabelSets { ..*labelled };
     let sets = read_sets(&labelled, &mut space);
-    let n = labelled.current.modules();
+    let n = labelled.sets.current.modules();
     let rooted = &sets.rooted;
     let rows = rooted.roots.len();
     let mut settled = [0u32; ROW_LIMIT];

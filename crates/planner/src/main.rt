@@ -8,67 +8,53 @@ use expected_order::expected_order;
 use grounds::grounds;
 use import_circles::import_circles;
 use lines::{put_line, rising};
-use listing::{TextSpace, read_text};
+use listing::TextSpace;
 use order_analysis::analyze_execution_order;
 use order_risk::order_risk;
 use parts::first_of;
 use sort_modules::sort_modules;
 use std::io;
-use streams::read_full;
+use streams::{TEXT_BYTES, read_table};
 use table::{ENTRY, MODULE_LIMIT, ROW_LIMIT, Table};
 use tables::Refusal;
 
-// Writes as many bytes as were counted.
-fn write_counted(rt: &impl Print, out: &[u8], answer: Result<usize, Refusal>) -> io::Result<()> {
-    let Ok(n) = answer else {
-        return Ok(());
-    };
-    if n <= out.len() {
-        rt.write_all(&out[0..n])?;
-    }
-    Ok(())
-}
-
-// Prints a result line.
+// Prints a result line, as long as this program's lines get. No library has it, for a library's function needs a promise, and of what is printed there is none.
 fn print(rt: &impl Print, word: &[u8], entry: &[u32], numbers: &[u32]) -> io::Result<()> {
     let mut out = [0u8; 32768];
-    let answer = put_line(&mut out, word, entry, numbers);
-    write_counted(rt, &out, answer)
+    let count = put_line(&mut out, word, entry, numbers).unwrap_or(0);
+    rt.write_all(first_of(&out, count))
 }
 
-// Prints a line of as many values as were counted.
-fn print_counted(
+// Prints a line of the values that an operation writes, if it does.
+fn print_list<F: FnOnce(&mut [u32]) -> Result<usize, Refusal>>(
     rt: &impl Print,
     word: &[u8],
     entry: &[u32],
-    values: &[u32],
-    answer: Result<usize, Refusal>,
-) -> io::Result<()> {
-    let Ok(n) = answer else {
+    operation: F,
+) -> io::Result<()>
+    requires { F.IsAlwaysCallable operation }
+{
+    let mut values = [0u32; MODULE_LIMIT];
+    let Ok(n) = operation(&mut values) else {
         return Ok(());
     };
-    print(rt, word, entry, first_of(values, n))
+    print(rt, word, entry, first_of(&values, n))
 }
 
-// Prints a line of the members of a set, rising.
-fn print_members(rt: &impl Print, word: &[u8], entry: &[u32], marks: &[u32]) -> io::Result<()> {
-    let mut members = [0u32; MODULE_LIMIT];
-    let answer = rising(marks, &mut members);
-    print_counted(rt, word, entry, &members, answer)
-}
-
-// The same of a set that was written, if it was.
-fn print_written(
+// Prints a line of the members, rising, of the set that an operation writes, if it does.
+fn print_set<F: FnOnce(&mut [u32]) -> Result<usize, Refusal>>(
     rt: &impl Print,
     word: &[u8],
     entry: &[u32],
-    marks: &[u32],
-    answer: Result<usize, Refusal>,
-) -> io::Result<()> {
-    let Ok(_) = answer else {
+    operation: F,
+) -> io::Result<()>
+    requires { F.IsAlwaysCallable operation }
+{
+    let mut marks = [0u32; MODULE_LIMIT];
+    let Ok(_) = operation(&mut marks) else {
         return Ok(());
     };
-    print_members(rt, word, entry, marks)
+    print_list(rt, word, entry, |members| rising(&marks, members))
 }
 
 // Prints each path as a line: they stand one after the other, with these lengths.
@@ -105,27 +91,6 @@ fn circle_lines(rt: &impl Print, table: &Table) -> io::Result<()> {
     counted_circles(rt, &paths, &lengths, answer)
 }
 
-// Prints the expected order of a root.
-fn expected_line(rt: &impl Print, table: &Table, root: u32) -> io::Result<()> {
-    let mut expected = [0u32; MODULE_LIMIT];
-    let answer = expected_order(table, root, &mut expected);
-    print_counted(rt, b"expected", &[root], &expected, answer)
-}
-
-// Prints the order risk of an analysed entry.
-fn early_line(rt: &impl Print, table: &Table, root: u32) -> io::Result<()> {
-    let mut marks = [0u32; MODULE_LIMIT];
-    let answer = order_risk(table, root, &mut marks);
-    print_written(rt, b"early", &[root], &marks, answer)
-}
-
-// Prints the cycle risk of an analysed entry.
-fn cycle_line(rt: &impl Print, table: &Table, root: u32) -> io::Result<()> {
-    let mut marks = [0u32; MODULE_LIMIT];
-    let answer = cycle_risk(table, root, &mut marks);
-    print_written(rt, b"cycle", &[root], &marks, answer)
-}
-
 // Prints the lines of an entry whose actual order was written.
 fn analysed_lines(
     rt: &impl Print,
@@ -137,10 +102,16 @@ fn analysed_lines(
     let Ok(n) = answer else {
         return Ok(());
     };
-    expected_line(rt, table, root)?;
-    print(rt, b"actual", &[root], first_of(actual, n))?;
-    early_line(rt, table, root)?;
-    cycle_line(rt, table, root)
+    let entry = [root];
+    print_list(
+        rt,
+        b"expected",
+        &entry,
+        |order| expected_order(table, root, order),
+    )?;
+    print(rt, b"actual", &entry, first_of(actual, n))?;
+    print_set(rt, b"early", &entry, |marks| order_risk(table, root, marks))?;
+    print_set(rt, b"cycle", &entry, |marks| cycle_risk(table, root, marks))
 }
 
 // Prints the lines of an entry. Actual order refuses an entry that isn't analysed.
@@ -186,13 +157,6 @@ fn ground_lines(rt: &impl Print, table: &Table) -> io::Result<()> {
     lines_of_grounds(rt, &marks)
 }
 
-// Prints the line of the plan.
-fn plan_line(rt: &impl Print, table: &Table) -> io::Result<()> {
-    let mut marks = [0u32; MODULE_LIMIT];
-    let answer = analyze_execution_order(table, &mut marks);
-    print_written(rt, b"plan", &[], &marks, answer)
-}
-
 // Prints the lines of a project whose module order was written, or its refusal.
 fn sorted_lines(
     rt: &impl Print,
@@ -207,7 +171,12 @@ fn sorted_lines(
             circle_lines(rt, table)?;
             entries(rt, table)?;
             ground_lines(rt, table)?;
-            plan_line(rt, table)
+            print_set(
+                rt,
+                b"plan",
+                &[],
+                |marks| analyze_execution_order(table, marks),
+            )
         }
     }
 }
@@ -220,17 +189,11 @@ fn lines(rt: &impl Print, table: &Table) -> io::Result<()> {
     sorted_lines(rt, table, &sorted, answer)
 }
 
-// Prints the lines of a text.
-fn lines_of_text(rt: &impl Print, text: &[u8]) -> io::Result<()> {
-    let mut space = TextSpace::EMPTY;
-    match read_text(text, &mut space) {
-        Err(refusal) => print(rt, b"refused", &[], &[refusal.number()]),
-        Ok(table) => lines(rt, &table),
-    }
-}
-
 fn main(rt: HostRuntime) -> io::Result<()> {
-    let mut text = [0u8; 65537];
-    let n = read_full(&mut rt.reader(), &mut text)?;
-    lines_of_text(&rt, &text[..n])
+    let mut text = [0u8; TEXT_BYTES];
+    let mut space = TextSpace::EMPTY;
+    match read_table(&mut rt.reader(), &mut text, &mut space)? {
+        Err(refusal) => print(&rt, b"refused", &[], &[refusal.number()]),
+        Ok(table) => lines(&rt, &table),
+    }
 }

@@ -12,7 +12,7 @@ use Rattle.table.specs.Table.{read}
 use Rattle.load_order.proofs.LoadOrders.{Pairs}
 use Rattle.merge_sort.specs.Sort.{ahead}
 use Rattle.sort_modules.specs.OfProject.{numbers_of, sorted_of}
-use Rattle.expected_order.specs.OfProject.{expected_of}
+use Rattle.expected_visit.specs.OfProject.{expected_of}
 use Rattle.chunk_cycles.specs.Cycles.{labels_of, reaches_cycle_of}
 use Rattle.eligibility.specs.Eligible.{eligible}
 use Rattle.at_risk.specs.Promise.{cycle_risk_of_entry}

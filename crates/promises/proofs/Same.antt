@@ -6,7 +6,7 @@ use Prim.Native.Nat.{ℕ}
 use Rattle.tables.specs.Project.{Project}
 use Rattle.tables.specs.Readings.{analysed, entry_chunk_of}
 use Rattle.chunk_cycles.specs.Cycles.{labels_of, reaches_cycle_of}
-use Rattle.expected_order.specs.OfProject.{expected_of}
+use Rattle.expected_visit.specs.OfProject.{expected_of}
 use Rattle.entry_run.specs.Actual.{run_of, actual_of, hosts_of}
 use Rattle.sensitivity.specs.Marks.{uses_wrapped, ground_of, sensitive}
 use Rattle.eligibility.specs.Eligible.{eligible}

@@ -23,8 +23,8 @@ use Rattle.chunk_cycles.specs.Cycles.{labels_of, reaches_cycle_of}
 use Rattle.chunk_cycles.specs.Paths.{MoreImports}
 use Rattle.chunk_cycles.proofs.OverTable.{accepted-fit}
 use Rattle.chunk_cycles.proofs.Paths.{component-grows}
-use Rattle.expected_order.specs.OfProject.{expected_of}
-use Rattle.expected_order.proofs.Laws.{expected-distinct}
+use Rattle.expected_visit.specs.OfProject.{expected_of}
+use Rattle.expected_visit.proofs.Laws.{expected-distinct}
 use Rattle.entry_run.specs.Actual.{actual_of, hosts_of}
 use Rattle.entry_run.proofs.OfProject.{actual-distinct}
 use Rattle.sensitivity.specs.Marks.{sensitive}

@@ -9,7 +9,7 @@ use Rattle.tables.specs.Refusal.{refusal}
 use Rattle.merge_sort.specs.Sort.{ahead}
 use Rattle.arrangement.specs.OfProject.{key_in, arranged_of, named}
 use Rattle.sort_modules.specs.OfProject.{numbers_of, sorted_of}
-use Rattle.expected_order.specs.OfProject.{expected_of}
+use Rattle.expected_visit.specs.OfProject.{expected_of}
 use Rattle.chunk_cycles.specs.Cycles.{labels_of}
 use Rattle.at_risk.specs.Promise.{cycle_risk_of_entry}
 

@@ -4,7 +4,7 @@ use Rattle.std.specs.Prelude.{◌≡◌, true, false, not, ◌&&◌, List, [], �
 use Rattle.lists.specs.Words.{keep, elem, Distinct}
 use Rattle.tables.specs.Project.{Project}
 use Rattle.tables.specs.Readings.{is_normal, flagged}
-use Rattle.expected_order.specs.OfProject.{expected_of}
+use Rattle.expected_visit.specs.OfProject.{expected_of}
 use Rattle.entries_order.specs.OfEntries.{expected_of_entries}
 
 pub record EntriesStandInParts : Type 0 where

@@ -5,7 +5,8 @@ ghost use Rattle.record_columns.specs.Rows.{copied, columns_of};
 use crate::{Record, count, importer_at, kind_at, target_at};
 use table::ROW_LIMIT;
 
-// The columns of a list of records, from place 0, and how many rows the list has.
+// The columns of a list of records, from place 0, and how many rows the list has: more than the arrays hold where it is over the limit.
+// Arrays of one size, as there is no heap.
 #[derive(Clone, Copy)]
 pub struct Columns {
     pub rows: usize,

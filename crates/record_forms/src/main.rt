@@ -13,7 +13,6 @@ use order_analysis::analyze_execution_order;
 use order_risk::order_risk;
 use plan_by_worklist::plan_by_worklist;
 use plan_check::check_plan;
-use plan_conditions::Judgement;
 use planned_load::LoadStep;
 use record_columns::inner::columns_of;
 use record_columns::{Record, with_records};
@@ -68,14 +67,6 @@ fn records(first: (u32, u32), second: (u32, u32)) -> [Record; 2] {
         kind: 0,
         target,
     })
-}
-
-// What is said of a plan as one number: 0 where it is accepted, else the condition times 2^16 plus the module.
-fn judgement_number(judgement: Judgement) -> usize {
-    match judgement {
-        Judgement::Accepted => 0,
-        Judgement::Broken(condition, module) => condition as usize * 65536 + module as usize,
-    }
 }
 
 // Prints a word, an answer and what a slice holds, a line.
@@ -175,7 +166,7 @@ fn show_plans(rt: &impl Print, table: &Table) -> io::Result<()> {
     })?;
     // accepted, and what rule (i) asks for lacks
     for plan in [[0, 1, 1, 1], [0, 0, 1, 0]] {
-        let said = check_plan(table, &seeds, &plan).map(judgement_number);
+        let said = check_plan(table, &seeds, &plan).map(|judgement| judgement.number() as usize);
         show(rt, "check", said, &[])?;
     }
     show_one(

@@ -1,6 +1,6 @@
 -- What reading a lent table gives.
 -- Assumes nothing.
-use Rattle.std.specs.Prelude.{◌≡◌, Option, None, Some, Result, Ok, Err}
+use Rattle.std.specs.Prelude.{◌≡◌, None, Some, Result, Ok, Err}
 use Rattle.tables.specs.Project.{Project}
 use Rattle.tables.specs.declared.Refusal.{Refusal}
 use Rattle.table.specs.Table.{Lent}

@@ -27,23 +27,31 @@ struct Call {
     // None where no operation has its number.
     operation: Option<Operation>,
     argument: u32,
-    // 0 where the answer is a count, 1 where it is a refusal.
-    refused: u32,
-    // The count, or the refusal's number.
-    number: u32,
+    // The answer, of a refusal its number; None where the list says neither.
+    said: Option<Result<usize, u32>>,
     // How many places the two outputs have.
     first: usize,
     second: usize,
+}
+
+// The answer that a list says next: 0 and the count, or 1 and the refusal's number.
+fn read_answer(scanner: &mut Scanner) -> Option<Result<usize, u32>> {
+    let kind = scanner.number();
+    let number = scanner.number();
+    match kind {
+        0 => Some(Ok(number as usize)),
+        1 => Some(Err(number)),
+        _ => None,
+    }
 }
 
 impl Call {
     // The call that a list has next.
     fn read(scanner: &mut Scanner) -> Self {
         Call {
-            operation: Operation::numbered(scanner.number()),
+            operation: Operation::try_from(scanner.number()).ok(),
             argument: scanner.number(),
-            refused: scanner.number(),
-            number: scanner.number(),
+            said: read_answer(scanner),
             first: scanner.number() as usize,
             second: scanner.number() as usize,
         }
@@ -65,10 +73,10 @@ impl Call {
 
     // Whether an answer is the one that the list says.
     fn agrees(&self, answer: Option<Result<usize, Refusal>>) -> bool {
-        match answer {
-            Some(Ok(count)) => self.refused == 0 && count == self.number as usize,
-            Some(Err(refusal)) => self.refused == 1 && refusal.number() == self.number,
-            None => false,
+        match (answer, self.said) {
+            (Some(Ok(count)), Some(Ok(said))) => count == said,
+            (Some(Err(refusal)), Some(Err(said))) => refusal.number() == said,
+            _ => false,
         }
     }
 }

@@ -12,7 +12,6 @@ use order_analysis::analyze_execution_order;
 use order_risk::order_risk;
 use plan_by_worklist::plan_by_worklist;
 use plan_check::check_plan;
-use plan_conditions::Judgement;
 use refusal::test;
 use sort_chunk_modules::sort_chunk_modules;
 use sort_modules::sort_modules;
@@ -49,33 +48,40 @@ pub enum Operation {
     PageLine,
 }
 
-impl Operation {
-    // The operation of this number in the list.
-    pub(crate) fn numbered(number: u32) -> Option<Self> {
+// A number that no operation has.
+#[derive(Clone, Copy)]
+pub struct UnknownOperation(pub u32);
+
+impl TryFrom<u32> for Operation {
+    type Error = UnknownOperation;
+
+    fn try_from(number: u32) -> Result<Self, UnknownOperation> {
         match number {
-            0 => Some(Operation::SortModules),
-            1 => Some(Operation::ExpectedOrder),
-            2 => Some(Operation::ActualOrder),
-            3 => Some(Operation::Labels),
-            4 => Some(Operation::ChunkReach),
-            5 => Some(Operation::BothRisks),
-            6 => Some(Operation::PlanFromSeeds),
-            7 => Some(Operation::WholeAnalysis),
-            8 => Some(Operation::TableTest),
-            9 => Some(Operation::OrderRisk),
-            10 => Some(Operation::CycleRisk),
-            11 => Some(Operation::EntriesOrder),
-            12 => Some(Operation::Grounds),
-            13 => Some(Operation::ImportCircles),
-            14 => Some(Operation::PlanCheck),
-            15 => Some(Operation::ChunkModules),
-            16 => Some(Operation::PlanByWorklist),
-            17 => Some(Operation::LoadRun),
-            18 => Some(Operation::PageLine),
-            _ => None,
+            0 => Ok(Operation::SortModules),
+            1 => Ok(Operation::ExpectedOrder),
+            2 => Ok(Operation::ActualOrder),
+            3 => Ok(Operation::Labels),
+            4 => Ok(Operation::ChunkReach),
+            5 => Ok(Operation::BothRisks),
+            6 => Ok(Operation::PlanFromSeeds),
+            7 => Ok(Operation::WholeAnalysis),
+            8 => Ok(Operation::TableTest),
+            9 => Ok(Operation::OrderRisk),
+            10 => Ok(Operation::CycleRisk),
+            11 => Ok(Operation::EntriesOrder),
+            12 => Ok(Operation::Grounds),
+            13 => Ok(Operation::ImportCircles),
+            14 => Ok(Operation::PlanCheck),
+            15 => Ok(Operation::ChunkModules),
+            16 => Ok(Operation::PlanByWorklist),
+            17 => Ok(Operation::LoadRun),
+            18 => Ok(Operation::PageLine),
+            _ => Err(UnknownOperation(number)),
         }
     }
+}
 
+impl Operation {
     // What it gives, none where such a call can't be made.
     pub(crate) fn answer(
         self,
@@ -102,7 +108,7 @@ impl Operation {
             Operation::ImportCircles => import_circles(table, first, second),
             Operation::PlanCheck => {
                 let (seeds, plan) = list.split_at_checked(argument as usize)?;
-                check_plan(table, seeds, plan).map(judgement_number)
+                check_plan(table, seeds, plan).map(|judgement| judgement.number() as usize)
             }
             Operation::ChunkModules => sort_chunk_modules(table, first),
             Operation::PlanByWorklist => plan_by_worklist(table, list, first),
@@ -122,14 +128,6 @@ fn both_risks(table: &Table, root: u32, marks: &mut [u32]) -> Result<usize, Refu
         *mark = (*mark).max(*more);
     }
     Ok(marks.iter().filter(|mark| **mark == 1).count())
-}
-
-// What is said of a plan as one number: 0 where it is accepted, else the number of the broken condition times 2^16 plus the module.
-fn judgement_number(judgement: Judgement) -> usize {
-    match judgement {
-        Judgement::Accepted => 0,
-        Judgement::Broken(condition, module) => condition as usize * 65536 + module as usize,
-    }
 }
 
 // A byte that no line of a page has.

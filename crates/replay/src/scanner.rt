@@ -1,4 +1,5 @@
 // Reads a replay list, whose form stands at the head of the program.
+use parts::split_number;
 use tables::ModuleIdx;
 
 // The text that is still to be read.
@@ -71,26 +72,15 @@ impl<'a> Scanner<'a> {
         }
     }
 
-    // The number whose digits come next; 4294967295 where it is too large.
-    fn digits(&mut self) -> u32 {
-        let mut value: u32 = 0;
-        // digits, as long as there are
-        while let Some((digit @ b'0'..=b'9', rest)) = self.text.split_first() {
-            value = value
-                .saturating_mul(10)
-                .saturating_add(u32::from(*digit - b'0'));
-            self.text = rest;
-        }
-        value
-    }
-
     // The next number; `-` is the missing mark, as a column holds it.
     pub(crate) fn number(&mut self) -> u32 {
         self.text = self.text.trim_ascii_start();
         if self.passes(b'-') {
             return ModuleIdx::MISSING;
         }
-        self.digits()
+        let (value, rest) = split_number(self.text);
+        self.text = rest;
+        value
     }
 
     // The number behind this byte where it comes next, else another.

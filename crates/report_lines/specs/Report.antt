@@ -8,8 +8,7 @@ use Rattle.form.specs.Form.{bytes, line}
 use Rattle.lines.specs.Lines.{line_refusal}
 use Rattle.file_names.specs.Asked as F
 use Rattle.share_totals.specs.declared.Share.{Share}
-use Rattle.share_totals.specs.declared.Totals.{Totals}
-use Rattle.share_totals.specs.Sums.{totals_of, total_numbers}
+use Rattle.share_totals.specs.Sums.{Totals, totals_of, total_numbers}
 
 -- "each prints `share` and these four numbers"; "a refused project prints `refused` and its number"
 abbrev pub outcome_line : Result Share Refusal → List ℕ

@@ -1,5 +1,4 @@
 // For crates above.
-ghost use Rattle.std.specs.Prelude.{◌≤◌};
 ghost use Rattle.report_lines.specs.Report.{total_line, Put};
 
 use lines::put_line;
@@ -9,7 +8,6 @@ use tables::Refusal;
 
 // Writes the closing line from place 0.
 pub fn put_totals(out: &mut [u8], totals: Totals) -> Result<usize, Refusal>
-    requires { totals.planned ≤ totals.eligible }
     ensures { Put (total_line totals) out.old result out.new }
 {
     let numbers = total_numbers(totals);

@@ -38,7 +38,7 @@ fn add_component_edges(labelled: &LabelSets, numbers: &[u32], asked: &[u32], edg
     requires room { Room 20480 edges.old }
     ensures { Adds (ComponentEdge labelled.now (labels_of labelled.now) numbers.now asked.now) 20480 edges.old edges.new }
 {
-    let columns = labelled.current.columns();
+    let columns = labelled.sets.current.columns();
     let labels = labelled.labels;
     let chunks = columns.member_chunk;
     edges.add_to_looked(numbers, columns.chunk, labels, 0, LABEL);
@@ -153,14 +153,14 @@ pub fn request_edges(
     requires room { Room 155648 edges.old }
     ensures { Requests labelled.now edges.old edges.new }
 {
-    let current = labelled.current;
+    let current = labelled.sets.current;
     let n = current.modules();
     let mut numbers = [0u32; MODULE_LIMIT];
     let mut asked = [0u32; MODULE_LIMIT];
     let numbers = &mut numbers[..n];
     let asked = &mut asked[..n];
     number(numbers);
-    number_chosen(labelled.sensitive, labelled.eligible, asked);
+    number_chosen(labelled.sets.sensitive, labelled.sets.eligible, asked);
     add_component_edges(labelled, numbers, asked, edges);
     add_import_edges(current, from, to, numbers, edges);
     add_symbol_edges(reached, edges);

@@ -41,14 +41,6 @@ impl<'a> Queue<'a> {
         }
     }
 
-    // Empties it.
-    pub fn clear(&mut self)
-        ensures { self.new ≡ record { marks = replicate (length self.old.marks) 0; list = [] } }
-    {
-        self.marks.fill(0);
-        self.count = 0;
-    }
-
     // How many are listed.
     pub fn len(&self) -> usize
         ensures count { result ≡ length self.now.list }

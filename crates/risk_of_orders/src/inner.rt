@@ -134,7 +134,7 @@ fn flag_overtaken(expected: &[u32], places: &[u32], columns: &RiskColumns, out: 
     }
 }
 
-// Adds an entry's order risk to a set.
+// Adds an entry's order risk to a set. The set is what is written, so it stands beside what is read.
 pub fn add_order_risk(expected: &[u32], actual: &[u32], columns: &RiskColumns, out: &mut [u32])
     requires orders { Order expected.now (length out.old) × Order actual.now (length out.old) }
     requires rows { length columns.now.hosts ≡ length out.old }

@@ -1,5 +1,5 @@
 // For crates above, on tested tables: the lowest module that each rule asks for and a plan lacks, if there is one. `copy` is working space.
-// Plan and copy stay slices beside the sets: a value of the three has a model and an invariant, and saves two clauses.
+// Plan and copy stay slices beside the sets: a value of the three would have a model and an invariant, and save two clauses.
 ghost use Rattle.std.specs.Prelude.{◌≡◌, ℕ, Bool, true, [], length};
 ghost use Rattle.tables.specs.Readings.{modules};
 ghost use Rattle.chunk_cycles.specs.Cycles.{labels_of};
@@ -37,7 +37,7 @@ pub fn lacking_suffix(rooted: &RootSets, plan: &[u32], copy: &mut [u32]) -> Opti
 {
     copy.copy_from_slice(plan);
     add_suffixes(rooted, plan, copy);
-    lowest_added(rooted.current, plan, copy)
+    lowest_added(rooted.sets.current, plan, copy)
 }
 
 // Rule (ii).
@@ -48,7 +48,7 @@ pub fn lacking_member(labelled: &LabelSets, plan: &[u32], copy: &mut [u32]) -> O
 {
     copy.copy_from_slice(plan);
     pass_members(labelled, copy);
-    lowest_added(labelled.current, plan, copy)
+    lowest_added(labelled.sets.current, plan, copy)
 }
 
 // Rule (iii), by the edges of the import records.

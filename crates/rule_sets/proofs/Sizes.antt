@@ -16,10 +16,10 @@ use Rattle.wrap_rules.proofs.Sets.{length-candidates}
 use Rattle.rule_sets.specs.inner.Sets.{Labelled, Rooted, Reached}
 
 module _ (p : Project) where
-  pub label-size : {labels sensitives eligibles : List ℕ} → Labelled p labels sensitives eligibles → length labels ≡ chunks p
+  pub label-size : {labels : List ℕ} → Labelled p labels → length labels ≡ chunks p
   label-size s = ap length s.label ∙ length-labels p
 
-  pub label-few : {labels sensitives eligibles : List ℕ} → Labelled p labels sensitives eligibles → length labels ≤ 1024
+  pub label-few : {labels : List ℕ} → Labelled p labels → length labels ≤ 1024
   label-few s = omega (arith, label-size s, s.accepted.sizes.order)
 
   pub sensitive-size : {sensitives : List ℕ} → sensitives ≡ sensitive_marks p → length sensitives ≡ modules p
@@ -31,5 +31,5 @@ module _ (p : Project) where
   pub candidate-size : {candidates : List ℕ} → Reached p candidates → length candidates ≡ modules p
   candidate-size s = ap length s.candidate_set ∙ length-candidates p
 
-  pub roots-in : {root_list sensitives eligibles : List ℕ} → Rooted p root_list sensitives eligibles → Below (modules p) root_list
+  pub roots-in : {root_list : List ℕ} → Rooted p root_list → Below (modules p) root_list
   roots-in s = rw s.root (roots-below p s.accepted)

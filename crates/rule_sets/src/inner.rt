@@ -3,11 +3,10 @@ ghost use Rattle.std.specs.Prelude.{◌≡◌};
 
 use chunk_cycles::inner::label_table;
 use current_columns::inner::Current;
-use eligibility::of_table::mark_table_eligible;
 use import_edges::inner::list_edges;
 use lists::inner::fill;
+use module_sets::inner::{ModuleSets, SetSpace, read_module_sets};
 use reached_modules::inner::{choose_candidates, list_roots};
-use sensitivity::inner::mark_table_sensitive;
 use std::marker::Model;
 use strong_connection::inner::Digraph;
 use table::{CHUNK_LIMIT, MODULE_LIMIT, ROW_LIMIT};
@@ -16,15 +15,13 @@ use table::{CHUNK_LIMIT, MODULE_LIMIT, ROW_LIMIT};
 #[derive(Drop)]
 pub struct LabelSpace {
     labels: [u32; CHUNK_LIMIT],
-    sensitive: [u32; MODULE_LIMIT],
-    eligible: [u32; MODULE_LIMIT],
+    sets: SetSpace,
 }
 
 impl LabelSpace {
     pub const EMPTY: LabelSpace = LabelSpace {
         labels: [0; CHUNK_LIMIT],
-        sensitive: [0; MODULE_LIMIT],
-        eligible: [0; MODULE_LIMIT],
+        sets: SetSpace::EMPTY,
     };
 }
 
@@ -53,10 +50,8 @@ impl RuleSpace {
 // The chunks' labels of a table, and the marks of its sensitive and of its eligible modules: what rule (ii) reads. Contracts see the project that they are of, here and below.
 #[derive(Drop)]
 pub struct LabelSets<'a, 'c> {
-    pub current: &'a Current<'c>,
+    pub sets: ModuleSets<'a, 'c>,
     pub labels: &'a [u32],
-    pub sensitive: &'a [u32],
-    pub eligible: &'a [u32],
 }
 
 impl<'a, 'c> Model for LabelSets<'a, 'c> {
@@ -74,10 +69,8 @@ impl<'a, 'c> Model for LabelSets<'a, 'c> {
 // The roots of a table's analysed entries, with the same marks: what rule (i) asks by.
 #[derive(Drop)]
 pub struct RootSets<'a, 'c> {
-    pub current: &'a Current<'c>,
+    pub sets: ModuleSets<'a, 'c>,
     pub roots: &'a [u32],
-    pub sensitive: &'a [u32],
-    pub eligible: &'a [u32],
 }
 
 impl<'a, 'c> Model for RootSets<'a, 'c> {
@@ -136,34 +129,19 @@ impl<'a, 'c> Model for RuleSets<'a, 'c> {
 pub fn read_labels<'a, 'c>(current: &'a Current<'c>, space: &'a mut LabelSpace) -> LabelSets<'a, 'c>
     ensures { result ≡ current.now }
 {
-    let n = current.modules();
     let labels = &mut space.labels;
     let labels = &mut labels[..current.chunks()];
     label_table(current, labels);
-    let sensitive = &mut space.sensitive;
-    let sensitive = &mut sensitive[..n];
-    mark_table_sensitive(current, sensitive);
-    let eligible = &mut space.eligible;
-    let eligible = &mut eligible[..n];
-    mark_table_eligible(current, eligible);
-    LabelSets {
-        current,
-        labels,
-        sensitive,
-        eligible,
-    }
+    let sets = read_module_sets(current, &mut space.sets);
+    LabelSets { sets, labels }
 }
 
 // Makes all that the rules read.
 pub fn read_sets<'a, 'c>(labelled: &LabelSets<'a, 'c>, space: &'a mut RuleSpace) -> RuleSets<'a, 'c>
     ensures { result ≡ labelled.now }
 {
-    let LabelSets {
-        current,
-        sensitive,
-        eligible,
-        ..
-    } = *labelled;
+    let sets = labelled.sets;
+    let current = sets.current;
     let n = current.modules();
     let roots = &mut space.roots;
     let columns = current.columns();
@@ -177,19 +155,14 @@ pub fn read_sets<'a, 'c>(labelled: &LabelSets<'a, 'c>, space: &'a mut RuleSpace)
     let candidates = &mut space.candidates;
     let candidates = &mut candidates[..n];
     fill(candidates, 0);
-    choose_candidates(current, from, to, roots, eligible, candidates);
+    choose_candidates(current, from, to, roots, sets.eligible, candidates);
     let heads = &mut space.heads;
     let heads = &mut heads[..n];
     let nexts = &mut space.nexts;
     let imports = Digraph::new(to, from, heads, nexts);
     RuleSets {
         labelled: LabelSets { ..*labelled },
-        rooted: RootSets {
-            current,
-            roots,
-            sensitive,
-            eligible,
-        },
+        rooted: RootSets { sets, roots },
         reached: ReachedSet {
             current,
             candidates,

@@ -1,7 +1,7 @@
 -- A byte of the input keeps the totals sound, and so does its end.
 -- Assumes nothing.
 use Rattle.tables.specs.declared.Refusal.TheVariants.{PastSeason}
-use Rattle.std.specs.Prelude.{◌≡◌, ℕ, suc, ◌+◌, ◌-◌, ◌≤◌, Bool, true, false, cond, ◌||◌, eqb, ltb, Option, None, Some, Result, Err}
+use Rattle.std.specs.Prelude.{◌≡◌, ℕ, suc, ◌+◌, ◌-◌, Bool, true, false, cond, ◌||◌, eqb, ltb, Option, None, Some, Result, Err}
 use mathlib.Core.Path.{refl, sym, subst}
 use mathlib.Core.Logic.{⊎_elim}
 use native.Mathlib.Omega.{arith}
@@ -11,8 +11,7 @@ use Rattle.file_names.specs.declared.Names.{Names}
 use Rattle.file_names.specs.Steps.{begun, turn_of_line, turn_at, names_after, finished}
 use Rattle.tables.specs.declared.Refusal.{Refusal}
 use Rattle.share_totals.specs.declared.Share.{Share}
-use Rattle.share_totals.specs.declared.Totals.{Totals}
-use Rattle.share_totals.specs.Sums.{none, added}
+use Rattle.share_totals.specs.Sums.{Totals, none, added}
 use Rattle.share_totals.specs.Within.{Fits, Within}
 use Rattle.share_totals.proofs.Sums.{within_more, within_none, within-as}
 use Rattle.season.specs.Sound.{Sound, Room, Acted}
@@ -57,11 +56,3 @@ module _ (n : Names) (t : Totals) (s : Sound n t) where
 
   pub end-room : n.over ≡ false → Room (finished n) t
   end-room e = room-any (finished n) t (open-room e)
-
-  pub end-planned : n.over ≡ false → (r : Totals) → Acted (finished n) t r → r.planned ≤ r.eligible
-  unfolding finished
-  end-planned e r a = by (eqb n.length 0) a
-    where
-      by : (z : Bool) → Acted (cond z None (Some (turn_of_line n))) t r → r.planned ≤ r.eligible
-      by true h = subst (λ (u : Totals). u.planned ≤ u.eligible) (sym h) s.totals.planned
-      by false h = (open_more e r h).planned

@@ -4,8 +4,7 @@ use Rattle.std.specs.Prelude.{◌≡◌, ℕ, ◌-◌, ◌≤◌, cond, Option, 
 use Rattle.file_names.specs.declared.Names.{Names}
 use Rattle.tables.specs.declared.Refusal.{Refusal}
 use Rattle.share_totals.specs.declared.Share.{Share}
-use Rattle.share_totals.specs.declared.Totals.{Totals}
-use Rattle.share_totals.specs.Sums.{added}
+use Rattle.share_totals.specs.Sums.{Totals, added}
 use Rattle.share_totals.specs.Within.{Fits, Within}
 
 -- how many projects were met

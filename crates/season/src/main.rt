@@ -7,6 +7,7 @@ ghost use Rattle.share_totals.specs.Within.{Fits, Within};
 ghost use Rattle.season.specs.Sound.{Sound, Room, Acted};
 
 use file_names::{NAME_BYTES, Names, begin, finish, take_byte};
+use parts::first_of;
 use report_lines::inner::put_totals;
 use report_lines::put_outcome;
 use share_text::share_of_text;
@@ -16,11 +17,8 @@ use std::fs::File;
 use std::io::Read;
 use std::rt::Files;
 use std::{io, str};
-use streams::read_full;
+use streams::{TEXT_BYTES, read_full};
 use tables::Refusal;
-
-// How many bytes of a file are read: one more than a text may have.
-const TEXT_BYTES: usize = 65537;
 
 // What is known of the names, and the totals so far.
 #[derive(Clone, Copy)]
@@ -37,42 +35,18 @@ pub struct Taken {
     pub more: bool,
 }
 
-// Writes the first n bytes.
-fn write_first(rt: &impl Print, out: &[u8], n: usize) -> io::Result<()> {
-    if n <= out.len() {
-        rt.write_all(&out[0..n])?;
-    }
-    Ok(())
-}
-
-// The first n bytes.
-fn first_of(bytes: &[u8], n: usize) -> &[u8] {
-    if bytes.len() < n {
-        return bytes;
-    }
-    &bytes[0..n]
-}
-
 // Prints the line of an outcome.
 fn print_outcome(rt: &impl Print, outcome: Result<Share, Refusal>) -> io::Result<()> {
     let mut out = [0u8; 64];
-    let answer = put_outcome(&mut out, outcome);
-    let Ok(n) = answer else {
-        return Ok(());
-    };
-    write_first(rt, &out, n)
+    let count = put_outcome(&mut out, outcome).unwrap_or(0);
+    rt.write_all(first_of(&out, count))
 }
 
 // Prints the closing line.
-fn print_totals(rt: &impl Print, totals: Totals) -> io::Result<()>
-    requires { totals.planned ≤ totals.eligible }
-{
+fn print_totals(rt: &impl Print, totals: Totals) -> io::Result<()> {
     let mut out = [0u8; 64];
-    let answer = put_totals(&mut out, totals);
-    let Ok(n) = answer else {
-        return Ok(());
-    };
-    write_first(rt, &out, n)
+    let count = put_totals(&mut out, totals).unwrap_or(0);
+    rt.write_all(first_of(&out, count))
 }
 
 // Reads once: how many bytes, or none where the read failed.
@@ -208,9 +182,7 @@ fn take_all(
 }
 
 // Does what is due at the end of the input.
-fn end(rt: &(impl Files + Print), season: Season, name: &[u8; NAME_BYTES]) -> io::Result<Totals>
-    ensures { IfOk result (λ t. t.planned ≤ t.eligible) }
-{
+fn end(rt: &(impl Files + Print), season: Season, name: &[u8; NAME_BYTES]) -> io::Result<Totals> {
     let names = season.names;
     let totals = season.totals;
     if names.over {

@@ -5,7 +5,7 @@ ghost use Rattle.tables.specs.Refusal.{module_limit};
 ghost use Rattle.sensitivity.specs.Marks.{wakes, uses_wrapped, ground_by, ground_of, sensitive_marks};
 ghost use Rattle.sensitivity.specs.Ready.{Flags, Records, UseRows, Statements};
 
-use current_columns::inner::{Columns, Current};
+use current_columns::inner::Columns;
 use std::marker::Model;
 use table::{MODULE_LIMIT, ROW_LIMIT};
 use tables::Target;
@@ -30,7 +30,7 @@ fn row_wakes(columns: &Columns, row: usize) -> bool
     columns.wrap[at] != 0
 }
 
-// 1 for a module's own flag, 2 for a use that wakes another module, 3 for both.
+// 1 for a module's own flag, 2 for a use that wakes another module, 3 for both: the scope's numbers, which a slice holds.
 fn ground_by(acts: bool, wakes: bool) -> u32
     ensures { result ≡ ground_by acts wakes }
 {
@@ -134,7 +134,7 @@ impl<'a, 'c> StatementRows<'a, 'c> {
 }
 
 // Marks the sensitive modules by their grounds.
-#[tactic(auto, using(triggers::proofs::Columns::map_up_to_written))]
+#[tactic(auto, using(lists::proofs::Laws::map_up_to_written))]
 pub fn mark_sensitive(columns: &Columns, marks: &mut [u32])
     requires flags { Flags columns.now }
     requires records { Records columns.now }
@@ -150,13 +150,4 @@ pub fn mark_sensitive(columns: &Columns, marks: &mut [u32])
     for (m, mark) in marks.iter_mut().enumerate() {
         *mark = statements.is_order_sensitive(m);
     }
-}
-
-// Marks the sensitive modules of a table by their grounds.
-#[tactic(auto, using(crate::proofs::Fits::fits))]
-pub fn mark_table_sensitive(current: &Current, marks: &mut [u32])
-    requires places { length marks.old ≡ modules current.now }
-    ensures { marks.new ≡ sensitive_marks current.now }
-{
-    mark_sensitive(current.columns(), marks);
 }

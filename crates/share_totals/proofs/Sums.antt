@@ -6,8 +6,7 @@ use mathlib.Core.List.{foldl, Memᴰ}
 use native.Mathlib.Omega.{arith}
 use Rattle.tables.specs.declared.Refusal.{Refusal}
 use Rattle.share_totals.specs.declared.Share.{Share}
-use Rattle.share_totals.specs.declared.Totals.{Totals}
-use Rattle.share_totals.specs.Sums.{eligible_in, planned_in, refused_in, sum, none, added, totals_of}
+use Rattle.share_totals.specs.Sums.{Totals, eligible_in, planned_in, refused_in, sum, none, added, totals_of}
 use Rattle.share_totals.specs.Within.{Fits, Within, StepsGiveTheSums, SumsFit}
 
 -- a project more

@@ -3,8 +3,13 @@
 use Rattle.std.specs.Prelude.{ℕ, zero, ◌+◌, List, [], ◌∷◌, Result, Ok, Err}
 use Rattle.tables.specs.declared.Refusal.{Refusal}
 use Rattle.share_totals.specs.declared.Share.{Share}
-use Rattle.share_totals.specs.declared.Totals.{Totals}
 use Rattle.share_totals.specs.Shares.{quotient_of, remainder_of}
+
+-- eligible modules, planned modules, refused projects
+pub record Totals : Type 0 where
+  pub eligible : ℕ
+  pub planned : ℕ
+  pub refused : ℕ
 
 -- what a project adds to each sum; "a refused project adds to no sum"
 abbrev pub eligible_in : Result Share Refusal → ℕ

@@ -4,8 +4,7 @@ use Rattle.std.specs.Prelude.{◌≡◌, ℕ, ◌*◌, ◌^◌, ◌<◌, ◌≤�
 use mathlib.Core.List.{foldl, Memᴰ}
 use Rattle.tables.specs.declared.Refusal.{Refusal}
 use Rattle.share_totals.specs.declared.Share.{Share}
-use Rattle.share_totals.specs.declared.Totals.{Totals}
-use Rattle.share_totals.specs.Sums.{none, added, totals_of}
+use Rattle.share_totals.specs.Sums.{Totals, none, added, totals_of}
 
 -- an outcome as a project can have it: at most 4,096 modules, and none planned that isn't eligible
 abbrev pub Fits : Result Share Refusal → Type 0

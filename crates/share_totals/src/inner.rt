@@ -77,7 +77,6 @@ pub fn add(totals: Totals, outcome: Result<Share, Refusal>) -> Totals
 
 // The numbers of the closing line.
 pub fn total_numbers(totals: Totals) -> [u32; 5]
-    requires { totals.planned ≤ totals.eligible }
     ensures { result ≡ total_numbers totals }
 {
     let eligible = totals.eligible;

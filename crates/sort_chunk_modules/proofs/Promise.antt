@@ -15,7 +15,7 @@ use Rattle.table.specs.declared.Table.{Table}
 use Rattle.table.specs.Table.{current}
 use Rattle.table.specs.Lending.{as_lent, written}
 use Rattle.table.proofs.Laws.{none-tested}
-use Rattle.table.proofs.Lending.{names-fit, written-accepted, current-accepted}
+use Rattle.table.proofs.Lending.{names-fit, written-accepted}
 use Rattle.arrangement.proofs.OfProject.{in-fit}
 use Rattle.sort_chunk_modules.specs.Promise.{named_refusal}
 
@@ -44,11 +44,8 @@ module _ (t : Table) (accepts : named_refusal (as_lent t) t.names.now ≡ None) 
   pub as_written : Accepted (written t)
   as_written = written-accepted t passed
 
-  pub as_current : Accepted q
-  as_current = current-accepted t passed
-
   pub named-fit : names_fit (modules q) names ≡ true
   named-fit = in-fit (modules q) names (names-fit t passed) some
 
 -- of a table that passes
-pub ruleset passing = (err-tested, as_written, as_current, named-fit)
+pub ruleset passing = (err-tested, as_written, named-fit)

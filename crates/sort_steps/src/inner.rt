@@ -9,7 +9,8 @@ use current_columns::inner::Columns;
 use tables::Target;
 use tables::inner::{is_static, resolve};
 
-// How many modules are listed, and the next number, which counts externals too.
+// How many modules are listed, and the next number, which counts externals too. The visits of the actual order have counters of
+// their own, by the Rust's name: there the two are equal, and the contracts say so.
 #[derive(Clone, Copy)]
 pub struct Counters {
     pub placed: usize,

@@ -2,42 +2,30 @@
 // analysis' plan, a line each: place, module, host.
 #![tactic(auto)]
 
-use listing::{TextSpace, read_text};
+use listing::TextSpace;
 use load_trial::load_run;
 use order_analysis::analyze_execution_order;
-use parts::first_of;
+use parts::{first_of, split_number};
 use std::io;
 use std::rt::Env;
-use streams::read_full;
+use streams::{TEXT_BYTES, read_table};
 use table::{MODULE_LIMIT, NORMAL, Table};
 use tables::{ModuleIdx, Refusal};
 
+// Prints a refusal: one line in each program, since no contract says what is printed, and a function of a library needs one.
 fn refused(rt: &impl Print, refusal: Refusal) -> io::Result<()> {
     println!(rt; "refused {}", refusal.number())
 }
 
-// The number that a text is, if it is one of 32 bits.
-fn number_of(text: &[u8]) -> Option<u32> {
-    if text.is_empty() {
-        return None;
-    }
-    let mut value: u32 = 0;
-    for &b in text {
-        match b {
-            b'0'..=b'9' => {
-                value = value.checked_mul(10)?.checked_add(u32::from(b - b'0'))?;
-            }
-            _ => return None,
-        }
-    }
-    Some(value)
-}
-
-// The entry that the argument names. No module row is the mark, so a text that is no number names none.
-fn read_entry(rt: &impl Env) -> u32 {
+// The number that the argument is, if it is one.
+fn read_entry(rt: &impl Env) -> Option<u32> {
     let mut text = [0u8; 64];
     let n = rt.arg(1, &mut text).unwrap_or(0);
-    number_of(&text[..n]).unwrap_or(ModuleIdx::MISSING)
+    let (entry, rest) = split_number(&text[..n]);
+    if n == 0 || !rest.is_empty() {
+        return None;
+    }
+    Some(entry)
 }
 
 // A step's line.
@@ -57,7 +45,9 @@ fn print_steps(rt: &impl Print, modules: &[u32], hosts: &[u32]) -> io::Result<()
 fn try_plan<'a>(rt: &(impl Env + Print), table: &Table, plan: &'a [u32]) -> io::Result<()> {
     let mut steps = [0u32; MODULE_LIMIT];
     let mut hosts = [0u32; MODULE_LIMIT];
-    let answer = load_run(table, read_entry(rt), plan, &mut steps, &mut hosts);
+    // the mark is no module row, so a text that is no number names no entry
+    let entry = read_entry(rt).unwrap_or(ModuleIdx::MISSING);
+    let answer = load_run(table, entry, plan, &mut steps, &mut hosts);
     match answer {
         Err(refusal) => refused(rt, refusal),
         Ok(count) => print_steps(rt, first_of(&steps, count), &hosts),
@@ -76,10 +66,9 @@ fn try_load(rt: &(impl Env + Print), table: &Table) -> io::Result<()> {
 }
 
 fn main(rt: HostRuntime) -> io::Result<()> {
-    let mut text = [0u8; 65537];
+    let mut text = [0u8; TEXT_BYTES];
     let mut space = TextSpace::EMPTY;
-    let n = read_full(&mut rt.reader(), &mut text)?;
-    match read_text(&text[..n], &mut space) {
+    match read_table(&mut rt.reader(), &mut text, &mut space)? {
         Err(refusal) => refused(&rt, refusal),
         Ok(table) => try_load(&rt, &table),
     }

@@ -13,7 +13,7 @@ use Rattle.lists.specs.Words.{has}
 use Rattle.lists.proofs.Laws.{mark-in}
 use Rattle.lists.proofs.Members.{mem-at, get_d-mem}
 use Rattle.tables.specs.Project.{Project}
-use Rattle.expected_order.specs.OfProject.{expected_of}
+use Rattle.expected_visit.specs.OfProject.{expected_of}
 use Rattle.suffix_rule.specs.inner.Suffix.{AllPlanned, Settled}
 use Rattle.suffix_places.specs.inner.Places.{never, Earlier, Small, StandsBelow, Stands, Lowered, LowestBelow}
 

@@ -1,7 +1,7 @@
 // For crates above, on tested tables.
 ghost use Rattle.std.specs.Prelude.{◌≡◌, ◌<◌, true, length};
 ghost use Rattle.tables.specs.Accepted.{Below};
-ghost use Rattle.expected_order.specs.OfProject.{expected_of};
+ghost use Rattle.expected_visit.specs.OfProject.{expected_of};
 ghost use Rattle.suffix_rule.specs.inner.Suffix.{AllPlanned, Settled};
 ghost use Rattle.suffix_places.specs.inner.Places.{Markings, Earlier, Small, Lowered, LoweredEntry, Lowest};
 

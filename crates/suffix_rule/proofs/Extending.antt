@@ -17,7 +17,7 @@ use Rattle.walk.specs.Close.{Within, Closed, Monotone, Bits}
 use Rattle.walk.proofs.Visits.{none-fresh}
 use Rattle.tables.specs.Accepted.{Below}
 use Rattle.tables.specs.Project.{Project}
-use Rattle.expected_order.specs.OfProject.{expected_of}
+use Rattle.expected_visit.specs.OfProject.{expected_of}
 use Rattle.wrap_rules.specs.Rules.{from_first, suffix_asks}
 use Rattle.wrap_rules.specs.inner.Passes.{Passed}
 use Rattle.marks.specs.Steps.{looked, Owners, Added}

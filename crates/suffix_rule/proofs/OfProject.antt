@@ -7,7 +7,7 @@ use Rattle.lists.specs.Words.{keep, has}
 use Rattle.lists.proofs.Laws.{and-join}
 use Rattle.tables.specs.Project.{Project}
 use Rattle.tables.specs.Accepted.{Accepted}
-use Rattle.expected_order.specs.OfProject.{expected_of}
+use Rattle.expected_visit.specs.OfProject.{expected_of}
 use Rattle.sensitivity.specs.Marks.{sensitive_marks}
 use Rattle.eligibility.specs.Eligible.{eligible, eligible_marks}
 use Rattle.sensitivity.proofs.Marks.{sensitive-marks}

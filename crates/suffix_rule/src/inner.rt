@@ -4,7 +4,7 @@ ghost use Rattle.lists.specs.Words.{has};
 ghost use Rattle.tables.specs.Readings.{modules};
 ghost use Rattle.tables.specs.Refusal.{module_limit};
 ghost use Rattle.tables.specs.Accepted.{Below};
-ghost use Rattle.expected_order.specs.OfProject.{expected_of};
+ghost use Rattle.expected_visit.specs.OfProject.{expected_of};
 ghost use Rattle.sensitivity.specs.Marks.{sensitive_marks};
 ghost use Rattle.eligibility.specs.Eligible.{eligible_marks};
 ghost use Rattle.wrap_rules.specs.inner.Passes.{Marked};
@@ -17,7 +17,8 @@ use marks::inner::{add, any_open, mark_owners};
 use rule_sets::inner::{ReachedSet, RootSets};
 use table::MODULE_LIMIT;
 
-// The place of the first member of an order that is in two sets, or the order's length. Orders and sets are slices here and below: this is of any order and any sets.
+// The place of the first member of an order that is in two sets, or the order's length, so that nothing is behind it.
+// Orders and sets are slices here and below: this is of any order and any sets.
 fn first_in(order: &[u32], first: &[u32], second: &[u32]) -> usize
     requires members { Below (length first.now) order.now }
     requires rows { length second.now ≡ length first.now }
@@ -94,7 +95,7 @@ fn extend_order(
     changed
 }
 
-// The same for the expected order of a module row of a table.
+// The same for the expected order of a module row of a table. Each rule's pass writes another slice beside the plan, here what is settled.
 fn extend_entry(
     rooted: &RootSets,
     settled: &mut [u32],
@@ -107,9 +108,10 @@ fn extend_entry(
     requires entry { k < length settled.old }
     ensures { Extended (expected_of rooted.now root) (sensitive_marks rooted.now) (eligible_marks rooted.now) k settled.old settled.new plan.old plan.new result }
 {
+    let sets = rooted.sets;
     let mut order = [0u32; MODULE_LIMIT];
-    let order = find_expected(rooted.current, &mut order, root);
-    extend_order(order, rooted.sensitive, rooted.eligible, settled, plan, k)
+    let order = find_expected(sets.current, &mut order, root);
+    extend_order(order, sets.sensitive, sets.eligible, settled, plan, k)
 }
 
 // The same for each root; a settled one isn't walked again.
@@ -147,7 +149,7 @@ pub fn pass_suffixes(
     if count_marked(settled) == settled.len() {
         return false;
     }
-    if !any_open(rooted.sensitive, reached.candidates, plan) {
+    if !any_open(rooted.sets.sensitive, reached.candidates, plan) {
         return false;
     }
     extend_entries(rooted, settled, plan)

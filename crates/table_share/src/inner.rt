@@ -5,7 +5,7 @@ ghost use Rattle.share_totals.specs.Shares.{share_of};
 ghost use Rattle.table_share.specs.Counts.{eligible_count, planned_count};
 
 use current_columns::inner::Current;
-use eligibility::of_table::mark_table_eligible;
+use eligibility::inner::mark_eligible;
 use lists::inner::count_marked;
 use order_analysis::inner::analyze;
 use share_totals::Share;
@@ -13,12 +13,12 @@ use share_totals::inner::share_of;
 use table::MODULE_LIMIT;
 
 // How many modules are eligible. `marks` is working memory.
-#[tactic(auto, unfolding(crate::specs::Counts::eligible_count))]
+#[tactic(auto, using(eligibility::proofs::Fits::kinds_fit), unfolding(crate::specs::Counts::eligible_count))]
 fn count_eligible(current: &Current, marks: &mut [u32]) -> usize
     requires places { length marks.old ≡ modules current.now }
     ensures { result ≡ eligible_count current.now }
 {
-    mark_table_eligible(current, marks);
+    mark_eligible(current.columns(), marks);
     count_marked(marks)
 }
 

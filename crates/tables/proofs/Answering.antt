@@ -1,11 +1,11 @@
 -- What refuses a call in each of its cases, and what such a call answers and leaves.
 -- Assumes nothing.
-use Rattle.std.specs.Prelude.{◌≡◌, ℕ, zero, suc, Bool, true, false, List, ◌++◌, length, drop, Option, None, Some, Result, Ok, Err}
-use mathlib.Core.Path.{refl, ap}
+use Rattle.std.specs.Prelude.{◌≡◌, ℕ, zero, suc, Bool, true, false, List, ◌++◌, length, drop, Option, None, Some, Ok, Err}
+use mathlib.Core.Path.{refl}
 use Rattle.lists.specs.Words.{is_zero}
 use Rattle.tables.specs.declared.Refusal.{Refusal}
 use Rattle.tables.specs.declared.Refusal.TheVariants.{Argument, ShortSlice}
-use Rattle.tables.specs.Answers.{verdict, answer, counted, after, number_of, refused_of, tested}
+use Rattle.tables.specs.Answers.{verdict, answer, after, tested}
 
 module _ {r : Option Refusal} (fits room : Bool) where
   -- the project is refused

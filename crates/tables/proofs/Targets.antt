@@ -1,6 +1,6 @@
 -- What a record row leads to by imports to normal modules.
 -- Assumes nothing.
-use Rattle.std.specs.Prelude.{◌≡◌, ℕ, ◌<◌, true, false, eqb, ◌⊎◌, List, [], length, get_or}
+use Rattle.std.specs.Prelude.{◌≡◌, ℕ, ◌<◌, true, false, cond, eqb, ◌⊎◌, List, [], ◌∷◌, length, get_or}
 use mathlib.Core.Path.{refl}
 use mathlib.Core.Logic.{⊎_elim}
 use native.Mathlib.Omega.{arith}
@@ -9,7 +9,7 @@ use lib.ListN.{get_or-eq_default}
 use borrow.Author.Tests.{eqb-true}
 use Rattle.lists.proofs.Laws.{both}
 use Rattle.tables.specs.Project.{missing}
-use Rattle.tables.specs.Readings.{is_normal, is_import, resolved, normal_target, row_targets}
+use Rattle.tables.specs.Readings.{is_normal, is_import, resolved, any_target, normal_target, row_targets}
 use denote.Enum.Declared.{tag_of}
 use Rattle.tables.specs.contracts.Target.{the_type}
 use Rattle.tables.specs.declared.Target.{Target}
@@ -61,3 +61,9 @@ pub led-nowhere : (t : Target) → (tag_of the_type t ≡ 0) ⊎ (tag_of the_typ
 led-nowhere Missing h = refl
 led-nowhere (External m) h = refl
 led-nowhere (Normal m) h = ⊎_elim (λ e. absurd (omega arith)) (λ e. absurd (omega arith)) h
+
+-- the module of a target is there unless it is missing
+pub any-resolved : (normal target : List ℕ) (row : ℕ) → any_target (resolved normal target row) ≡ cond (eqb (get_or target row 0) missing) [] (get_or target row 0 ∷ [])
+unfolding resolved
+any-resolved normal target row =
+    ⊎_elim (λ e. rw e) (λ e. rw e (⊎_elim (λ q. rw q) (λ q. rw q) (both (is_normal normal (get_or target row 0))))) (both (eqb (get_or target row 0) missing))

@@ -11,13 +11,12 @@ use std::fs::File;
 use std::io::Read;
 use std::rt::{Env, Files};
 use std::{io, str};
+use streams::TEXT_BYTES;
 use table::{MODULE_LIMIT, SEED, Table};
 use tables::Refusal;
 use takings_from_seeds::takings_from_seeds;
 
-// How many bytes of a file are read: one more than a text may have.
-const TEXT_BYTES: usize = 65537;
-
+// Prints a refusal: one line in each program, since no contract says what is printed, and a function of a library needs one.
 fn refused(rt: &impl Print, refusal: Refusal) -> io::Result<()> {
     println!(rt; "refused {}", refusal.number())
 }

@@ -28,8 +28,3 @@ module _ (normal included wrap kind target : List ℕ) (row : ℕ) where
   -- kind 0 or 1 triggers a normal target that executes where it is triggered
   pub trigger-one : (t : ℕ) → get_or kind row 0 ≤ 1 → resolved normal target row ≡ Normal t → 2 ≤ way_of normal included wrap t → t ≡ row_trigger normal included wrap kind target row
   trigger-one t l e w = rw (lt-ltb (get_or kind row 0) 2 (omega arith), e, eq-eqb (way_of normal included wrap t) 2 (omega (arith, way-most normal included wrap t)))
-
--- a list with a function's value at each of its places
-pub map_up_to_written : (f : ℕ → ℕ) (now : List ℕ) (n : ℕ) → length now ≡ n → ((k : ℕ) → k < n → get_or now k 0 ≡ f k) → now ≡ map f (up_to n)
-map_up_to_written f now n len at =
-    ext_get_or 0 now (map f (up_to n)) (len ∙ sym (length-map-up_to f n)) (λ k h. at k (omega arith) ∙ sym (get_d-map-up_to f n k 0 (omega arith)))

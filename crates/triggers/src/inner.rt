@@ -7,7 +7,7 @@ use current_columns::inner::Columns;
 use tables::inner::resolve;
 use tables::{ModuleIdx, Target};
 
-// In which way a module executes with these wraps: 0 if it isn't normal and included; else 1 if its wrap is 0, and 2 if it isn't.
+// In which way a module executes with these wraps: 0 if it isn't normal and included; else 1 if its wrap is 0, and 2 if it isn't. A number, since a column holds it.
 #[tactic(auto, unfolding(current_columns::specs::AsProject::project))]
 fn way_of(columns: &Columns, wraps: &[u32], m: usize) -> u32
     requires { (m < length columns.now.normal) × (m < length columns.now.included) × (m < length wraps.now) }
@@ -26,7 +26,7 @@ fn way_of(columns: &Columns, wraps: &[u32], m: usize) -> u32
 }
 
 // In which way each module executes with these wraps, a place a module.
-#[tactic(auto, using(crate::proofs::Columns::map_up_to_written))]
+#[tactic(auto, using(lists::proofs::Laws::map_up_to_written))]
 pub fn write_ways(columns: &Columns, wraps: &[u32], ways: &mut [u32])
     requires { (length columns.now.normal ≡ length ways.old) × (length columns.now.included ≡ length ways.old) × (length wraps.now ≡ length ways.old) }
     ensures { ways.new ≡ map (way_of columns.now.normal columns.now.included wraps.now) (up_to (length ways.old)) }
@@ -60,7 +60,7 @@ fn trigger_of(columns: &Columns, wraps: &[u32], row: usize) -> u32
 }
 
 // Which module each record row triggers with these wraps, or the mark, a place a row.
-#[tactic(auto, using(crate::proofs::Columns::map_up_to_written))]
+#[tactic(auto, using(lists::proofs::Laws::map_up_to_written))]
 pub fn write_triggers(columns: &Columns, wraps: &[u32], triggers: &mut [u32])
     requires kinds { length columns.now.record_kind ≡ length triggers.old }
     requires targets { length columns.now.record_target ≡ length triggers.old }

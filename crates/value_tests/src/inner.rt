@@ -41,7 +41,8 @@ fn modules_in<'a>(
         & all_below_or_missing(chunk, chunks)
 }
 
-// A list of three columns, the last with the missing mark.
+// A list of three columns, the last with the missing mark. This and the next ones are test 2 of lists of two columns or three, with the mark or without:
+// one function of all would take a bound and a flag for each column.
 fn three_in<'a>(
     first: &'a [u32],
     second: &'a [u32],

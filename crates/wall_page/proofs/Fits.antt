@@ -10,7 +10,7 @@ use Rattle.tables.specs.Project.{Project}
 use Rattle.tables.specs.Readings.{modules}
 use Rattle.tables.specs.Accepted.{Accepted}
 use Rattle.tables.proofs.Accepted.{below-mem}
-use Rattle.expected_order.specs.OfProject.{expected_of}
+use Rattle.expected_visit.specs.OfProject.{expected_of}
 use Rattle.entry_run.specs.Actual.{actual_of}
 use Rattle.at_risk.proofs.Listed.{expected-order, actual-order}
 use Rattle.page_rows.specs.Rows.{modules_of}

@@ -12,7 +12,7 @@ use Rattle.tables.specs.Project.{Project}
 use Rattle.tables.specs.Readings.{modules}
 use Rattle.tables.specs.Accepted.{Accepted}
 use Rattle.tables.proofs.Accepted.{below-mem}
-use Rattle.expected_order.specs.OfProject.{expected_of}
+use Rattle.expected_visit.specs.OfProject.{expected_of}
 use Rattle.entry_run.specs.Actual.{actual_of}
 use Rattle.sensitivity.specs.Marks.{ground_of, sensitive}
 use Rattle.wrap_rules.specs.Plan.{expected_sensitive_of}

@@ -7,7 +7,7 @@ ghost use Rattle.wall_page.specs.Promise.{EntryPage};
 use analysed_entries::inner::find_entry;
 use arrangement::inner::read_named;
 use current_columns::inner::ReadSpace;
-use entry_pages::inner::put_entry_page;
+use entry_pages::inner::put_entry_text;
 use table::{ROW_LIMIT, Table};
 use tables::Refusal;
 
@@ -35,6 +35,6 @@ pub fn entry_page(
     if page.len() < 41 * modules {
         return Err(Refusal::ShortSlice);
     }
-    let count = put_entry_page(&entry, &grounds[..modules], &plan[..modules], page);
+    let count = put_entry_text(&entry, &grounds[..modules], &plan[..modules], page, None);
     Ok(count)
 }

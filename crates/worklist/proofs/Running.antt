@@ -176,7 +176,6 @@ module _ (p : Project) (ok : Accepted p) (seeds : List ℕ) (g : EdgeColumns) (g
       askeds = a.batch.len ∙ sym r.state.size;
       room = omega (arith, ahead, listed_few r.state, few);
       ahead = ahead;
-      early = omega (arith, ahead, listed_few r.state, few);
     }
 
     -- one taking more

@@ -13,7 +13,7 @@ use worklist_ends::inner::list_seeds;
 use worklist_step::inner::step;
 
 // Lists the eligible seeds, then takes the modules of the list in turn until all are taken. `lengths` gets the length of the list after each number of takings
-// but the last, from none on. How many there are. Seeds, list and lengths are the caller's, and each is asked for something else, so a value of them only moves the clauses.
+// but the last, from none on. How many there are. Seeds, list and lengths are the caller's, and each is asked for something else, so a value of them would only move the clauses.
 pub fn take_all(
     rooted: &RootSets,
     reached: &ReachedSet,
@@ -31,7 +31,7 @@ pub fn take_all(
     requires room { modules rooted.now ≤ length lengths.old }
     ensures { TakenAll rooted.now seeds.now list.new.marks list.new.list lengths.old lengths.new result }
 {
-    list_seeds(seeds, rooted.eligible, list);
+    list_seeds(seeds, rooted.sets.eligible, list);
     let mut end = 0;
     let mut k = 0;
     // the list grows while it is read
@@ -42,7 +42,7 @@ pub fn take_all(
         step(
             graph,
             reached.candidates,
-            rooted.eligible,
+            rooted.sets.eligible,
             &notes.threads(),
             met,
             list,

@@ -16,7 +16,7 @@ use Rattle.tables.specs.Readings.{modules}
 use Rattle.tables.specs.Accepted.{Accepted}
 use Rattle.sensitivity.specs.Marks.{sensitive_marks}
 use Rattle.eligibility.specs.Eligible.{eligible_marks}
-use Rattle.expected_order.specs.OfProject.{expected_of}
+use Rattle.expected_visit.specs.OfProject.{expected_of}
 use Rattle.wrap_rules.specs.Plan.{roots}
 use Rattle.wrap_rules.specs.inner.Passes.{candidate_marks}
 use Rattle.wrap_rules.proofs.Sets.{eligible-has, parts-candidate}

@@ -92,13 +92,16 @@ impl<'a> Notes<'a> {
         let heads = &mut *self.heads;
         let nexts = &mut *self.nexts;
         fill(after, NEVER);
-        let RootSets {
-            current,
+        let RootSets { sets, roots } = *rooted;
+        lower_entries(
+            sets.current,
             roots,
-            sensitive,
-            eligible,
-        } = *rooted;
-        lower_entries(current, roots, sensitive, eligible, placed, settled, after);
+            sets.sensitive,
+            sets.eligible,
+            placed,
+            settled,
+            after,
+        );
         thread(after, heads, nexts);
     }
 }
@@ -121,10 +124,10 @@ pub fn advance(
         return end;
     }
     let count = list.len();
-    if !any_sensitive(list.since(end), rooted.sensitive) {
+    if !any_sensitive(list.since(end), rooted.sets.sensitive) {
         return count;
     }
-    if !any_open(rooted.sensitive, reached.candidates, list.marks()) {
+    if !any_open(rooted.sets.sensitive, reached.candidates, list.marks()) {
         return count;
     }
     notes.note(rooted, list.marks());

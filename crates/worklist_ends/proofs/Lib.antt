@@ -1,2 +1,2 @@
--- `Ends`: listing the seeds, row by row.
+-- `Ends`: listing the seeds, row by row, and marks and a list made of places.
 pub mod Ends

@@ -1,8 +1,10 @@
 // For crates above, on tested tables.
-ghost use Rattle.std.specs.Prelude.{◌≡◌, ◌≤◌, ◌++◌, length, drop};
+ghost use Rattle.std.specs.Prelude.{◌≡◌, ℕ, ◌≤◌, length, slice_index};
 ghost use Rattle.lists.specs.Words.{has, marks_of};
 ghost use Rattle.tables.specs.Accepted.{Below};
+ghost use Rattle.tables.specs.Refusal.{module_limit};
 ghost use Rattle.request_queue.specs.inner.Growing.{Grown, given, chosen};
+ghost use Rattle.worklist_ends.specs.inner.Ends.{ListWritten};
 
 use request_queue::inner::Queue;
 
@@ -20,20 +22,25 @@ pub fn list_seeds(seeds: &[u32], eligible: &[u32], list: &mut Queue)
     }
 }
 
-// Marks the listed ones.
-pub fn mark_members(list: &Queue, marks: &mut [u32])
-    requires { length marks.old ≡ length list.now.marks }
-    ensures { marks.new ≡ marks_of (has list.now.marks) (length marks.old) }
+// Makes the places of a list marks.
+pub fn mark_listed(placed: &mut [u32])
+    ensures { placed.new ≡ marks_of (has placed.old) (length placed.old) }
 {
-    for (m, &place) in list.marks().iter().enumerate() {
-        marks[m] = u32::from(place != 0);
+    for place in placed.iter_mut() {
+        *place = u32::from(*place != 0);
     }
 }
 
-// Writes the list from place 0.
-pub fn write_listed(list: &Queue, out: &mut [u32])
-    requires { length list.now.list ≤ length out.old }
-    ensures { out.new ≡ list.now.list ++ drop (length list.now.list) out.old }
+// Writes the list that has these places.
+pub fn write_listed(placed: &[u32], list: &mut [u32])
+    requires few { length placed.now ≤ module_limit }
+    requires room { (m : ℕ) → slice_index placed.now m ≤ length list.old }
+    ensures { ListWritten placed.now list.old list.new }
 {
-    out[..list.len()].copy_from_slice(list.since(0));
+    for (m, &end) in placed.iter().enumerate() {
+        if end == 0 {
+            continue;
+        }
+        list[end as usize - 1] = m as u32;
+    }
 }

@@ -1,31 +1,36 @@
 -- A run as it is written to two slices.
 -- Assumes nothing.
-use Rattle.std.specs.Prelude.{◌≡◌, ℕ, ◌+◌, ◌-◌, ◌<◌, ◌≤◌, List, ◌++◌, length, get_or, take, drop}
-use mathlib.Core.Path.{sym, ap, ◌∙◌}
+use Rattle.std.specs.Prelude.{◌≡◌, ℕ, ◌<◌, ◌≤◌, List, length, get_or, take}
+use mathlib.Core.Path.{sym, ap}
 use native.Mathlib.Omega.{arith}
-use lib.ListN.{length-drop, take-append-drop}
-use lib.Seq.{get_or-take, get_or-drop, length-take-le, ext_get_or}
+use native.Mathlib.Decide.{ℕ_discrete}
+use lib.Seq.{get_or-take, length-take-le}
+use Rattle.lists.proofs.Laws.{mark-in}
 use Rattle.tables.specs.Project.{Project}
 use Rattle.tables.specs.Readings.{modules}
 use Rattle.request_queue.specs.inner.Growing.{Listed}
 use Rattle.request_queue.proofs.Growing.{listed-fits}
-use Rattle.worklist_taking.proofs.Places.{place, at_place}
+use Rattle.worklist_ends.specs.inner.Ends.{ListWritten}
+use Rattle.worklist_ends.proofs.Ends.{front_rest, list_written}
 use Rattle.worklist.specs.inner.Taking.{Noted}
 use Rattle.worklist_run.specs.inner.Run.{Ran}
 use Rattle.worklist_plan.specs.inner.Written.{RunWritten}
 
--- marks have one list
-listed-same : {marks xs ys : List ℕ} → Listed marks xs → Listed marks ys → xs ≡ ys
-listed-same {marks} {xs} {ys} h k =
-    ext_get_or 0 xs ys (sym h.all ∙ k.all)
-    (λ i l.
-    let r = place k (get_or xs i 0) (at_place h i l) in
-    let e : r.0 ≡ i = omega (arith, (h.placed i l).1, r.3) in
-    sym r.2 ∙ ap (λ (j : ℕ). get_or ys j 0) e)
+-- no place is past the end of its list
+pub place-fits : {placed list : List ℕ} → Listed placed list → (m : ℕ) → get_or placed m 0 ≤ length list
+place-fits {placed} {list} h m = go (ℕ_discrete (get_or placed m 0) 0)
+  where
+    go : Dec (get_or placed m 0 ≡ 0) → get_or placed m 0 ≤ length list
+    go (yes z) = omega arith
+    go (no n) = let r = h.listed m (mark-in (get_or placed m 0) n) in omega (arith, r.1, (h.placed r.0 r.1).1, ap (λ (x : ℕ). get_or placed x 0) r.2)
 
-pub run-written : {p : Project} {seeds marks list lengths lengths' : List ℕ} {count : ℕ} (out : List ℕ) → Listed marks list → Ran p seeds marks lengths lengths' count → modules p ≤ length lengths
-    → RunWritten p seeds out lengths (list ++ drop (length list) out) lengths' (length list)
-run-written {p} {seeds} {marks} {list} {lengths} {lengths'} {count} out h r room = record {
+-- no more are listed than there are modules
+pub run_fits : {p : Project} {seeds placed lengths lengths' : List ℕ} {count : ℕ} → Ran p seeds placed lengths lengths' count → count ≤ modules p
+run_fits r = omega (arith, listed-fits r.taken.listed, r.taken.count, r.taken.size)
+
+pub run-written : {p : Project} {seeds placed lengths lengths' out out' : List ℕ} {count : ℕ} → Ran p seeds placed lengths lengths' count → modules p ≤ length out → modules p ≤ length lengths → ListWritten placed out out'
+    → RunWritten p seeds out lengths out' lengths' count
+run-written {p} {seeds} {placed} {lengths} {lengths'} {out} {out'} {count} r room room' w = record {
   members = r.list;
   sizes = sizes;
   run = record {
@@ -34,30 +39,27 @@ run-written {p} {seeds} {marks} {list} {lengths} {lengths'} {count} out h r room
     each = λ k l. rw (size-at k l) (noted.takes k l);
     all = rw r.taken.count at r.taken.takes;
   };
-  count = ap length same;
-  listed = ap (λ (xs : List ℕ). xs ++ drop (length xs) out) same;
-  measured = sym (take-append-drop n lengths') ∙ ap (λ (xs : List ℕ). sizes ++ xs) rest ∙ ap (λ (j : ℕ). sizes ++ drop j lengths) (sym sizes-length);
+  count = r.taken.count;
+  listed = list_written w r.taken.listed (omega (arith, fits, room));
+  measured =
+      front_rest sizes lengths lengths' (omega (arith, sizes-length, fits, room')) noted.room
+      (λ i l. sym (size-at i (omega (arith, l, sizes-length)))) (λ i l. noted.rest i (omega (arith, l, sizes-length)));
 }
   where
-    same : list ≡ r.list
-    same = listed-same h r.taken.listed
-
     n : ℕ
     n = length r.list
 
     noted : Noted p seeds r.list lengths lengths' n
     noted = rw r.taken.count at r.taken.noted
 
+    fits : n ≤ modules p
+    fits = omega (arith, run_fits r, r.taken.count)
+
     sizes : List ℕ
     sizes = take n lengths'
 
     sizes-length : length sizes ≡ n
-    sizes-length = length-take-le n lengths' (omega (arith, listed-fits r.taken.listed, r.taken.size, room, noted.room))
+    sizes-length = length-take-le n lengths' (omega (arith, fits, room', noted.room))
 
     size-at : (k : ℕ) → k < n → get_or sizes k 0 ≡ get_or lengths' k 0
     size-at k l = get_or-take n lengths' k 0 l
-
-    rest : drop n lengths' ≡ drop n lengths
-    rest =
-        ext_get_or 0 (drop n lengths') (drop n lengths) (length-drop n lengths' ∙ ap (λ (k : ℕ). k - n) noted.room ∙ sym (length-drop n lengths))
-        (λ i l. get_or-drop n lengths' i 0 ∙ noted.rest (n + i) (omega arith) ∙ sym (get_or-drop n lengths i 0))

@@ -12,19 +12,18 @@ use current_columns::inner::Current;
 use lists::inner::count_marked;
 use request_edges::inner::EdgeList;
 use request_graph::inner::{EDGES, NODES, request_edges};
-use request_queue::inner::Queue;
 use rule_sets::inner::{LabelSpace, RuleSets, RuleSpace, read_labels, read_sets};
 use strong_connection::inner::Digraph;
 use table::MODULE_LIMIT;
-use worklist_ends::inner::{mark_members, write_listed};
+use worklist_ends::inner::{mark_listed, write_listed};
 use worklist_run::inner::run_linked;
 
 // Makes the request graph, and takes the modules of a worklist over it.
-fn run_sets(sets: &RuleSets, seeds: &[u32], list: &mut Queue, lengths: &mut [u32]) -> usize
+fn run_sets(sets: &RuleSets, seeds: &[u32], placed: &mut [u32], lengths: &mut [u32]) -> usize
     requires seeds { Below (modules sets.now) seeds.now }
-    requires size { length list.old.marks ≡ modules sets.now }
+    requires size { length placed.old ≡ modules sets.now }
     requires room { modules sets.now ≤ length lengths.old }
-    ensures { Ran sets.now seeds.now list.new.marks lengths.old lengths.new result }
+    ensures { Ran sets.now seeds.now placed.new lengths.old lengths.new result }
 {
     let mut from = [0u32; EDGES];
     let mut to = [0u32; EDGES];
@@ -40,21 +39,21 @@ fn run_sets(sets: &RuleSets, seeds: &[u32], list: &mut Queue, lengths: &mut [u32
     let mut heads = [0u32; NODES];
     let mut nexts = [0u32; EDGES];
     let graph = Digraph::new(edges.sources(), edges.targets(), &mut heads, &mut nexts);
-    run_linked(&sets.rooted, &sets.reached, &graph, seeds, list, lengths)
+    run_linked(&sets.rooted, &sets.reached, &graph, seeds, placed, lengths)
 }
 
 // Takes the modules of a worklist, of a table.
-fn run_table(current: &Current, seeds: &[u32], list: &mut Queue, lengths: &mut [u32]) -> usize
+fn run_table(current: &Current, seeds: &[u32], placed: &mut [u32], lengths: &mut [u32]) -> usize
     requires seeds { Below (modules current.now) seeds.now }
-    requires size { length list.old.marks ≡ modules current.now }
+    requires size { length placed.old ≡ modules current.now }
     requires room { modules current.now ≤ length lengths.old }
-    ensures { Ran current.now seeds.now list.new.marks lengths.old lengths.new result }
+    ensures { Ran current.now seeds.now placed.new lengths.old lengths.new result }
 {
     let mut label_space = LabelSpace::EMPTY;
     let labelled = read_labels(current, &mut label_space);
     let mut space = RuleSpace::EMPTY;
     let sets = read_sets(&labelled, &mut space);
-    run_sets(&sets, seeds, list, lengths)
+    run_sets(&sets, seeds, placed, lengths)
 }
 
 // The plan from seeds by a worklist, as marks. How many are marked.
@@ -64,12 +63,9 @@ pub fn plan_by_takings(current: &Current, seeds: &[u32], plan: &mut [u32]) -> us
     ensures count { result ≡ ones (plan_of current.now seeds.now) }
 {
     let n = current.modules();
-    let mut placed = [0u32; MODULE_LIMIT];
-    let mut queue = [0u32; MODULE_LIMIT];
-    let mut taken = Queue::new(&mut placed[..n], &mut queue[..n]);
     let mut lengths = [0u32; MODULE_LIMIT];
-    run_table(current, seeds, &mut taken, &mut lengths);
-    mark_members(&taken, plan);
+    run_table(current, seeds, plan, &mut lengths[..n]);
+    mark_listed(plan);
     count_marked(plan)
 }
 
@@ -87,10 +83,8 @@ pub fn list_takings(
 {
     let n = current.modules();
     let mut placed = [0u32; MODULE_LIMIT];
-    let mut queue = [0u32; MODULE_LIMIT];
-    let mut taken = Queue::new(&mut placed[..n], &mut queue[..n]);
-    run_table(current, seeds, &mut taken, lengths);
-    let count = taken.len();
-    write_listed(&taken, list);
+    let placed = &mut placed[..n];
+    let count = run_table(current, seeds, placed, lengths);
+    write_listed(placed, list);
     count
 }

@@ -25,9 +25,10 @@ takings-plan p seeds list t =
     ∙ taken-closes (rule_of p) (asked-monotone (orders_of p) (labels_of p) p) (start_of p seeds) (start-bits (orders_of p) (labels_of p) p seeds) t
 
 -- so the listed modules are
-pub taken-plan : (p : Project) (seeds placed lengths lengths' : List ℕ) (count : ℕ) → Ran p seeds placed lengths lengths' count → marks_of (has placed) (modules p) ≡ plan_of p seeds
+pub taken-plan : (p : Project) (seeds placed lengths lengths' : List ℕ) (count : ℕ) → Ran p seeds placed lengths lengths' count → marks_of (has placed) (length placed) ≡ plan_of p seeds
 taken-plan p seeds placed lengths lengths' count r =
     let t = r.taken in
-    marks_of-cong (has placed) (λ (m : ℕ). elem m r.list) (modules p)
+    ap (marks_of (has placed)) t.size
+    ∙ marks_of-cong (has placed) (λ (m : ℕ). elem m r.list) (modules p)
     (λ m l. iff-eq (has placed m) (elem m r.list) (listed-elem t.listed m) (elem-listed t.listed m))
     ∙ takings-plan p seeds r.list (rw t.count at t.takes)

@@ -19,7 +19,7 @@ take-zeros zero K l = refl
 take-zeros (suc n) zero l = absurd (omega arith)
 take-zeros (suc n) (suc K) l = ap (λ (xs : List ℕ). 0 ∷ xs) (take-zeros n K (omega arith))
 
-module _ {p : Project} {root_list sensitives eligibles : List ℕ} (s : Rooted p root_list sensitives eligibles) where
+module _ {p : Project} {root_list : List ℕ} (s : Rooted p root_list) where
   pub roots_fit : length root_list ≤ 16384
   roots_fit = omega (arith, ap length s.root, few-roots p s.accepted)
 

@@ -16,25 +16,24 @@ use worklist_batch::inner::Notes;
 // The numbers of takings, with `NEVER`.
 const TAKINGS: usize = 4098;
 
-// Takes the modules of a worklist over a request graph; `list` is emptied first. `lengths` gets the length of the list after each number of takings but the last,
-// from none on. How many there are.
+// Takes the modules of a worklist over a request graph: `placed` gets each one's place in the list, counted from 1, and `lengths` the length of the list after
+// each number of takings but the last, from none on. How many there are.
 pub fn run_linked(
     rooted: &RootSets,
     reached: &ReachedSet,
     graph: &Digraph,
     seeds: &[u32],
-    list: &mut Queue,
+    placed: &mut [u32],
     lengths: &mut [u32],
 ) -> usize
     requires same { reached.now ≡ rooted.now }
     requires graph { GraphOf rooted.now graph.now }
     requires seeds { Below (modules rooted.now) seeds.now }
-    requires size { length list.old.marks ≡ modules rooted.now }
+    requires size { length placed.old ≡ modules rooted.now }
     requires room { modules rooted.now ≤ length lengths.old }
-    ensures { Ran rooted.now seeds.now list.new.marks lengths.old lengths.new result }
+    ensures { Ran rooted.now seeds.now placed.new lengths.old lengths.new result }
 {
-    list.clear();
-    let n = rooted.current.modules();
+    let n = placed.len();
     let mut settled = [0u32; ROW_LIMIT];
     let settled = &mut settled[..rooted.roots.len()];
     let mut asked = [0u32; MODULE_LIMIT];
@@ -44,7 +43,13 @@ pub fn run_linked(
     let mut marks = [0u32; NODES];
     let mut queue = [0u32; NODES];
     let mut met = Queue::new(&mut marks, &mut queue);
-    take_all(
-        rooted, reached, graph, seeds, &mut met, list, &mut notes, lengths,
-    )
+    let mut places = [0u32; MODULE_LIMIT];
+    let mut listed = [0u32; MODULE_LIMIT];
+    let mut list = Queue::new(&mut places[..n], &mut listed[..n]);
+    let count = take_all(
+        rooted, reached, graph, seeds, &mut met, &mut list, &mut notes, lengths,
+    );
+    // copied, since what a slice holds isn't known once a Queue has had it
+    placed.copy_from_slice(list.marks());
+    count
 }

@@ -102,6 +102,8 @@ pub fn step(
     requires { Steppable graph.now candidates.now eligible.now asked.now met.old list.old k }
     ensures { Stepped graph.now candidates.now eligible.now asked.now.values met.old list.old k met.new list.new }
 {
+    // so k + 1 is small: no more are listed than there are modules
+    prove!(k < list.len());
     let x = list.at(k);
     let before = met.len();
     met.reach(graph, x);

@@ -9,7 +9,7 @@ use lib.ListN.{get_or}
 use Rattle.lists.specs.Words.{keep, elem, has}
 use Rattle.lists.proofs.Laws.{and_parts, and-join, any-mem, mem-any}
 use Rattle.tables.specs.Project.{Project}
-use Rattle.expected_order.specs.OfProject.{expected_of}
+use Rattle.expected_visit.specs.OfProject.{expected_of}
 use Rattle.sensitivity.specs.Marks.{sensitive_marks}
 use Rattle.eligibility.specs.Eligible.{eligible, eligible_marks}
 use Rattle.sensitivity.proofs.Marks.{sensitive-marks}

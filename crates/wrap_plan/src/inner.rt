@@ -19,7 +19,7 @@ pub fn plan_seeds(current: &Current, seeds: &[u32], plan: &mut [u32]) -> usize
     let mut space = LabelSpace::EMPTY;
     let labelled = read_labels(current, &mut space);
     fill(plan, 0);
-    mark_seeds(seeds, labelled.eligible, plan);
+    mark_seeds(seeds, labelled.sets.eligible, plan);
     build_order_wrap_plan(&labelled, plan);
     count_marked(plan)
 }

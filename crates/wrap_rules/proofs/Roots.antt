@@ -15,8 +15,8 @@ use Rattle.walk.proofs.Orders.{reach-all}
 use Rattle.tables.specs.Project.{Project}
 use Rattle.tables.specs.Readings.{modules, flagged, is_import, normal_target, targets_of, analysed, analysed_row}
 use Rattle.tables.specs.Accepted.{Below, Accepted}
-use Rattle.expected_order.specs.OfProject.{expected_of}
-use Rattle.expected_order.proofs.Laws.{imports-in, expected-member}
+use Rattle.expected_visit.specs.OfProject.{expected_of}
+use Rattle.expected_visit.proofs.Laws.{imports-in, expected-member}
 use Rattle.wrap_rules.specs.Plan.{roots, reached}
 
 module _ (p : Project) (ok : Accepted p) where

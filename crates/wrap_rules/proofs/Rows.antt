@@ -17,6 +17,7 @@ use Rattle.lists.proofs.Members.{get_d-mem, mem-at, mem-flat, flat-mem}
 use Rattle.tables.specs.Project.{Project, missing}
 use Rattle.tables.specs.Readings.{modules, is_normal, flagged, is_import, resolved, any_target, row_targets, targets_of, rows_of, values_of}
 use Rattle.tables.proofs.OwnerRows.{values-row, row-values, mem-rows, rows-mem}
+use Rattle.tables.proofs.Targets.{any-resolved}
 use Rattle.wrap_rules.specs.Rules.{from_first, same_component, component_asks, imports_of, leads, import_asks, reference_touches, read_asks}
 
 -- (i) by two places of an order, the first one's module planned
@@ -66,12 +67,6 @@ module _ (sensitive eligible : ℕ → Bool) (labels : List ℕ) (p : Project) (
       (a.0, b.0, (r.0, q.0, mem-up_to r.1, eqb-true (get_or p.member r.0 0) m c.0, mem-up_to q.1, d.0, d.1))
 
 -- (iii) by a dependency row with a planned dependency, and a kind 0 record whose target is planned or leads to a planned module
-
--- the module of a target is there unless it is missing
-pub any-resolved : (normal target : List ℕ) (row : ℕ) → any_target (resolved normal target row) ≡ cond (eqb (get_or target row 0) missing) [] (get_or target row 0 ∷ [])
-unfolding resolved
-any-resolved normal target row =
-    ⊎_elim (λ e. rw e) (λ e. rw e (⊎_elim (λ q. rw q) (λ q. rw q) (both (is_normal normal (get_or target row 0))))) (both (eqb (get_or target row 0) missing))
 
 module _ (p : Project) where
   pub import-row : {y : ℕ} (m : ℕ) → Memᴰ y (imports_of p m)

@@ -6,7 +6,7 @@ use Rattle.walk.specs.Walk.{everywhere, post_order}
 use Rattle.walk.specs.Close.{close}
 use Rattle.tables.specs.Project.{Project}
 use Rattle.tables.specs.Readings.{modules, is_import, normal_target, targets_of, analysed}
-use Rattle.expected_order.specs.OfProject.{expected_of}
+use Rattle.expected_visit.specs.OfProject.{expected_of}
 use Rattle.sensitivity.specs.Marks.{sensitive}
 use Rattle.eligibility.specs.Eligible.{eligible}
 use Rattle.wrap_rules.specs.Rules.{suffix_asks, component_asks, import_asks, read_asks}

@@ -4,14 +4,7 @@ use Rattle.std.specs.Prelude.{◌≡◌, ℕ, List}
 use Rattle.lists.specs.Words.{ones}
 use Rattle.tables.specs.Project.{Project}
 use Rattle.tables.specs.Readings.{modules}
-use Rattle.sensitivity.specs.Marks.{sensitive_marks}
-use Rattle.eligibility.specs.Eligible.{eligible_marks}
 use Rattle.risk_of_orders.specs.inner.Steps.{Order}
-
--- the marks of a project's sensitive and of its eligible modules
-pub record Sets (p : Project) (sensitives eligibles : List ℕ) : Type 0 where
-  pub sensitive_set : sensitives ≡ sensitive_marks p
-  pub eligible_set : eligibles ≡ eligible_marks p
 
 -- an order of a project's modules, and a place a module
 pub record Placed (p : Project) (expecteds : List ℕ) (places : ℕ) : Type 0 where

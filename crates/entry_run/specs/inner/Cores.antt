@@ -6,23 +6,25 @@ use Rattle.lists.specs.Words.{keep}
 use Rattle.walk.specs.Walk.{everywhere, post_order}
 use Rattle.tables.specs.Accepted.{Below, BelowOrMissing}
 use Rattle.tables.specs.Refusal.{module_limit, chunk_limit}
-use Rattle.visit_steps.specs.inner.Steps.{Spans, leads, part, in_way}
+use Rattle.visit_columns.specs.declared.inner.VisitColumns.{VisitColumns}
+use Rattle.visit_steps.specs.inner.Steps.{Spans, part, in_way}
+use Rattle.chunk_visits.specs.inner.Visits.{loads_of}
 use Rattle.entry_run.specs.Actual.{Executed}
 
 -- the hosts in turn, by the columns that the visits read: the members of each visited chunk, and last the root
-unfoldable pub turns : List ℕ → List ℕ → List ℕ → List ℕ → List ℕ → ℕ → ℕ → ℕ → List ℕ
-turns ways member member_starts load_starts loads n root chunk =
-    flat_map (λ (c : ℕ). keep (in_way 1 ways) (part member_starts member c)) (post_order (leads load_starts loads) everywhere n (chunk ∷ [])) ++ keep (in_way 2 ways) (root ∷ [])
+unfoldable pub turns : VisitColumns → List ℕ → ℕ → ℕ → ℕ → List ℕ
+turns columns member n root chunk =
+    flat_map (λ (c : ℕ). keep (in_way 1 columns.ways.now) (part columns.member_starts.now member c)) (post_order (loads_of columns) everywhere n (chunk ∷ [])) ++ keep (in_way 2 columns.ways.now) (root ∷ [])
 
 -- what the visits of a root ask of the columns that they read
-pub record Runnable (ways starts triggers member member_starts load_starts loads order hosts : List ℕ) (chunks root chunk : ℕ) : Type 0 where
-  pub each : length ways ≡ length hosts
-  pub spans : Spans starts (length triggers) (length hosts)
-  pub triggered : BelowOrMissing (length hosts) triggers
+pub record Runnable (columns : VisitColumns) (member order hosts : List ℕ) (chunks root chunk : ℕ) : Type 0 where
+  pub each : length columns.ways.now ≡ length hosts
+  pub spans : Spans columns.starts.now (length columns.triggers.now) (length hosts)
+  pub triggered : BelowOrMissing (length hosts) columns.triggers.now
   pub members : Below (length hosts) member
-  pub parts : Spans member_starts (length member) chunks
-  pub loading : Spans load_starts (length loads) chunks
-  pub loaded : BelowOrMissing chunks loads
+  pub parts : Spans columns.member_starts.now (length member) chunks
+  pub loading : Spans columns.load_starts.now (length columns.loads.now) chunks
+  pub loaded : BelowOrMissing chunks columns.loads.now
   pub modules : length hosts ≤ module_limit
   pub places : chunks ≤ chunk_limit
   pub root_in : root < length hosts

@@ -18,8 +18,7 @@ returns-in_default-find_names c =
 
 pub spread-requires : goal.spread-requires
 spread-requires c =
-    let t = accept-climbs c.read_lists.ensures c.in-Some.end c.in-Some.is refl c.if-ends-ne2.false (length-replicate {A = ℕ} 32768 0) (omega arith) in
-    (t.0, t.1, c.told-columns, c.told-bounds)
+    (accept-climbs c.read_lists.ensures c.in-Some.end c.in-Some.is refl c.if-ends-ne2.false (length-replicate {A = ℕ} 32768 0) (omega arith)).0
 
 pub overflow_sub-result : goal.overflow_sub-result
 overflow_sub-result c = accept-count c.read_lists.ensures c.in-Some.end c.in-Some.is refl c.if-ends-ne2.false (length-replicate {A = ℕ} 32768 0) (omega arith)

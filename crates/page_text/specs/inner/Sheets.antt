@@ -1,12 +1,11 @@
 -- What a page is written from, what is written, and what the functions ask.
 -- Assumes nothing.
-use Rattle.std.specs.Prelude.{◌≡◌, ℕ, ◌*◌, ◌≤◌, Bool, Option, Some, None, List, [], ◌++◌, map, length, slice_index, slice_index_or}
+use Rattle.std.specs.Prelude.{◌≡◌, ℕ, ◌≤◌, Option, Some, None, List, [], ◌++◌, map, length, slice_index, slice_index_or}
 use mathlib.Core.List.{flat_map}
 use Rattle.lists.specs.Words.{has}
 use Rattle.tables.specs.Refusal.{module_limit}
 use Rattle.risk_of_orders.specs.inner.Steps.{Order}
 use Rattle.page_lines.specs.Line.{line_by}
-use Rattle.page_text.specs.Page.{line_at, page_by}
 
 -- what a page is written from: the modules of the expected order and the others, and for each module of the table a place in both orders and a mark
 pub record SheetRows : Type 0 where
@@ -32,16 +31,6 @@ numbered_with s number = slice_index_or (map (line_with s) (s.expected ++ s.othe
 abbrev pub text_with : SheetRows → Option ℕ → List ℕ
 text_with s None = page_with s
 text_with s (Some number) = numbered_with s number
-
--- the same by the orders themselves
-abbrev pub text_by : List ℕ → List ℕ → (ℕ → Bool) → Option ℕ → List ℕ
-text_by expected actual planned None = page_by expected actual planned
-text_by expected actual planned (Some number) = line_at expected actual planned number
-
--- how many bytes a page of so many modules has, or a line
-abbrev pub text_room : ℕ → Option ℕ → ℕ
-text_room modules None = 41 * modules
-text_room modules (Some number) = 41
 
 -- a place a module in both orders, and a mark
 pub record Sheet (expected_places actual_places plan : List ℕ) : Type 0 where

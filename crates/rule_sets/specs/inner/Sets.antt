@@ -5,26 +5,20 @@ use Rattle.tables.specs.Project.{Project}
 use Rattle.tables.specs.Readings.{modules}
 use Rattle.tables.specs.Accepted.{Accepted}
 use Rattle.chunk_cycles.specs.Cycles.{labels_of}
-use Rattle.sensitivity.specs.Marks.{sensitive_marks}
-use Rattle.eligibility.specs.Eligible.{eligible_marks}
 use Rattle.wrap_rules.specs.Plan.{roots}
 use Rattle.wrap_rules.specs.inner.Passes.{candidate_marks}
 use Rattle.strong_connection.specs.inner.Graph.{EdgeColumns, Graph}
 use Rattle.import_edges.specs.inner.Spread.{EdgesOf}
 
--- labels, and the sensitive and the eligible modules
-pub record Labelled (p : Project) (labels sensitives eligibles : List ℕ) : Type 0 where
+-- the chunks' labels
+pub record Labelled (p : Project) (labels : List ℕ) : Type 0 where
   pub accepted : Accepted p
   pub label : labels ≡ labels_of p
-  pub sensitive_set : sensitives ≡ sensitive_marks p
-  pub eligible_set : eligibles ≡ eligible_marks p
 
--- the roots with them
-pub record Rooted (p : Project) (root_list sensitives eligibles : List ℕ) : Type 0 where
+-- the roots
+pub record Rooted (p : Project) (root_list : List ℕ) : Type 0 where
   pub accepted : Accepted p
   pub root : root_list ≡ roots p
-  pub sensitive_set : sensitives ≡ sensitive_marks p
-  pub eligible_set : eligibles ≡ eligible_marks p
 
 -- the reached eligible modules
 pub record Reached (p : Project) (candidates : List ℕ) : Type 0 where

@@ -1,4 +1,4 @@
--- The project whose sets these are, and that they are its sets.
+-- The project whose sets these are, and that they are its sets. What `ModuleSets` are, their own type says.
 -- Assumes nothing.
 use Rattle.tables.specs.Project.{Project}
 use Rattle.rule_sets.specs.inner.Sets.{Labelled, Rooted, Reached, Joined}
@@ -8,16 +8,16 @@ use Rattle.rule_sets.specs.declared.inner.ReachedSet.TheInside as ReachedSet
 use Rattle.rule_sets.specs.declared.inner.RuleSets.TheInside as RuleSets
 
 abbrev pub labelled_of : LabelSets.Inside → Project
-labelled_of s = s.current.now
+labelled_of s = s.sets.current.now
 
 abbrev pub AreLabelled : LabelSets.Inside → Type 0
-AreLabelled s = Labelled s.current.now s.labels.now s.sensitive.now s.eligible.now
+AreLabelled s = Labelled s.sets.current.now s.labels.now
 
 abbrev pub rooted_of : RootSets.Inside → Project
-rooted_of s = s.current.now
+rooted_of s = s.sets.current.now
 
 abbrev pub AreRooted : RootSets.Inside → Type 0
-AreRooted s = Rooted s.current.now s.roots.now s.sensitive.now s.eligible.now
+AreRooted s = Rooted s.sets.current.now s.roots.now
 
 abbrev pub reached_of : ReachedSet.Inside → Project
 reached_of s = s.current.now

@@ -5,7 +5,7 @@ use Rattle.std.specs.Prelude.{◌≡◌, ℕ, ◌<◌, ◌≤◌, Bool, true, �
 use Rattle.lists.specs.Words.{has}
 use Rattle.tables.specs.Project.{Project}
 use Rattle.tables.specs.Readings.{modules}
-use Rattle.expected_order.specs.OfProject.{expected_of}
+use Rattle.expected_visit.specs.OfProject.{expected_of}
 use Rattle.suffix_rule.specs.inner.Suffix.{AllPlanned, Settled}
 
 -- more than any place

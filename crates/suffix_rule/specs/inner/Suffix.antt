@@ -5,7 +5,7 @@ use mathlib.Core.List.{Memᴰ}
 use Rattle.lists.specs.Words.{has, keep}
 use Rattle.walk.specs.Close.{Within}
 use Rattle.tables.specs.Project.{Project}
-use Rattle.expected_order.specs.OfProject.{expected_of}
+use Rattle.expected_visit.specs.OfProject.{expected_of}
 use Rattle.sensitivity.specs.Marks.{sensitive_marks}
 use Rattle.eligibility.specs.Eligible.{eligible, eligible_marks}
 use Rattle.marks.specs.Steps.{Added}

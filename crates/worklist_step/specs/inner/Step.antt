@@ -38,7 +38,6 @@ pub record Steppable (g : EdgeColumns) (candidates eligible : List ℕ) (asked :
   pub askeds : length asked.values ≡ length list.marks
   pub room : k + 1 < asked.places
   pub ahead : k < length list.list
-  pub early : k < module_limit
 
 -- what it does, with x the module at place k: all that x leads to is met, and what the places met now give and what rule (i) asks for now is listed
 pub record Stepped (g : EdgeColumns) (candidates eligible asked : List ℕ) (met list : Listing) (k : ℕ) (met' list' : Listing) : Type 0 where

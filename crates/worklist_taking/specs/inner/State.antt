@@ -7,7 +7,7 @@ use Rattle.walk.specs.Reach.{Reach⁺}
 use Rattle.tables.specs.Project.{Project}
 use Rattle.tables.specs.Readings.{modules}
 use Rattle.chunk_cycles.specs.Cycles.{labels_of}
-use Rattle.expected_order.specs.OfProject.{expected_of}
+use Rattle.expected_visit.specs.OfProject.{expected_of}
 use Rattle.sensitivity.specs.Marks.{sensitive_marks}
 use Rattle.eligibility.specs.Eligible.{eligible_marks}
 use Rattle.wrap_rules.specs.Plan.{roots, orders_of, asked, start}

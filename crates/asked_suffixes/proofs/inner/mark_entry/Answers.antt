@@ -6,16 +6,16 @@ use Rattle.asked_suffixes.proofs.inner.mark_entry.Goals as goal
 
 pub mark_suffix-requires-clause-members : goal.mark_suffix-requires-clause-members
 mark_suffix-requires-clause-members c =
-    let s = rw c.rooted.view_is at c.rooted.invariant in
-    rw (sensitive-size _ s.sensitive_set) (rw c.rooted.view_is at c.find_expected-order.ensures.members)
+    let sets = rw c.rooted.view_is at c.rooted.inside.sets.sets in
+    rw (sensitive-size _ sets.sensitive_set) (rw c.rooted.view_is at c.find_expected-order.ensures.members)
 
 pub mark_suffix-requires-clause-rows : goal.mark_suffix-requires-clause-rows
-mark_suffix-requires-clause-rows c = c.requires.plan ∙ sym (sensitive-size _ (rw c.rooted.view_is at c.rooted.invariant).sensitive_set)
+mark_suffix-requires-clause-rows c = c.requires.plan ∙ sym (sensitive-size _ (rw c.rooted.view_is at c.rooted.inside.sets.sets).sensitive_set)
 
 pub mark_suffix-requires-clause-size : goal.mark_suffix-requires-clause-size
-mark_suffix-requires-clause-size c = c.requires.size ∙ sym (sensitive-size _ (rw c.rooted.view_is at c.rooted.invariant).sensitive_set)
+mark_suffix-requires-clause-size c = c.requires.size ∙ sym (sensitive-size _ (rw c.rooted.view_is at c.rooted.inside.sets.sets).sensitive_set)
 
 pub returns : goal.returns
 returns c =
-    let s = rw c.rooted.view_is at c.rooted.invariant in
-    rw (c.find_expected-order.ensures.order, c.rooted.view_is, s.sensitive_set) at c.mark_suffix.ensures
+    let sets = rw c.rooted.view_is at c.rooted.inside.sets.sets in
+    rw (c.find_expected-order.ensures.order, c.rooted.view_is, sets.sensitive_set) at c.mark_suffix.ensures

@@ -10,7 +10,6 @@ use Rattle.entry_run.proofs.OfProject.{hosts-length}
 use Rattle.sensitivity.proofs.Marks.{sensitive-marks, length-grounds}
 use Rattle.eligibility.specs.Eligible.{eligible}
 use Rattle.eligibility.proofs.Eligible.{eligible-marks}
-use Rattle.at_risk.specs.inner.OverTable.{Sets}
 use Rattle.at_risk.proofs.Listed.{actual-order, written-room, written-is}
 use Rattle.at_risk.proofs.inner.add_entry_order_risk.Goals as goal
 
@@ -33,8 +32,7 @@ unfolding hosts_of
 invariant_of-risk_columns c =
     let p = c.args.entry.now.current.now in
     let same = sym (hosts-length p c.args.entry.now.root) ∙ sym (ap length c.list_actual-count.ensures.hosts) in
-    let marks : Sets c.args.sets.now.current.now c.args.sets.now.sensitive.now c.args.sets.now.eligible.now = c.args.sets.now.sets in
-    let sets = rw c.requires.sets at marks in
+    let sets = rw c.requires.sets at c.args.sets.now.sets in
     record {
       host_rows = refl;
       sensitive_rows = ap length sets.sensitive_set ∙ length-grounds p ∙ same;
@@ -49,6 +47,5 @@ pub returns : goal.returns
 unfolding actual_of hosts_of
 returns c =
     let p = c.args.entry.now.current.now in
-    let marks : Sets c.args.sets.now.current.now c.args.sets.now.sensitive.now c.args.sets.now.eligible.now = c.args.sets.now.sets in
-    let sets = rw c.requires.sets at marks in
+    let sets = rw c.requires.sets at c.args.sets.now.sets in
     cc (ap has sets.sensitive_set ∙ sensitive-marks p, ap has sets.eligible_set ∙ eligible-marks p, written-is c.list_actual-count.ensures.listed)

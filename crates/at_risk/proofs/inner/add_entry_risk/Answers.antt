@@ -1,7 +1,6 @@
 -- `at_risk::inner::add_entry_risk`: the order risk of the two orders, and then the cycle risk.
 -- Assumes nothing.
 use Rattle.std.proofs.Common.{◌∙◌}
-use Rattle.at_risk.specs.inner.OverTable.{Sets}
 use Rattle.at_risk.proofs.Joined.{risk-joined}
 use Rattle.at_risk.proofs.Listed.{expected-placed}
 use Rattle.at_risk.proofs.inner.add_entry_risk.Goals as goal
@@ -11,8 +10,7 @@ add_entry_order_risk-requires-clause-placed c = expected-placed _ c.find_expecte
 
 pub add_entry_cycle_risk-requires-clause-eligibles : goal.add_entry_cycle_risk-requires-clause-eligibles
 add_entry_cycle_risk-requires-clause-eligibles c =
-    let marks : Sets c.args.sets.now.current.now c.args.sets.now.sensitive.now c.args.sets.now.eligible.now = c.args.sets.now.sets in
-    rw c.requires.sets at marks.eligible_set
+    rw c.requires.sets at c.args.sets.now.sets.eligible_set
 
 pub add_entry_cycle_risk-requires-clause-placed : goal.add_entry_cycle_risk-requires-clause-placed
 add_entry_cycle_risk-requires-clause-placed c = expected-placed _ c.find_expected-expected.ensures.few c.args.entry.now.root c.find_expected-expected.ensures.order (c.add_entry_order_risk.auto.out ∙ c.requires.places)

@@ -6,7 +6,7 @@ use Rattle.chunk_visits.proofs.ChunkVisits.{passed, between_start, falls, call_f
 use Rattle.chunk_visits.proofs.inner.+visit_actual_chunk.Goals as goal
 
 pub returns-in_default : goal.returns-in_default
-returns-in_default t c = passed _ _ _ _ _ _ _ c.requires c.in_default.ensures
+returns-in_default t c = passed _ _ c.requires c.in_default.ensures
 
 pub loop-load-init : goal.loop-load-init
 loop-load-init t c = between_start c.requires c.in-Some.ensures

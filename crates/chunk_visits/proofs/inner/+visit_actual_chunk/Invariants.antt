@@ -10,4 +10,4 @@ decreases-visit_actual_chunk l = zeros l.chunk_marks.now
 abbrev pub invariant-loop-load : goal.invariant-loop-load
 invariant-loop-load l =
     let f = l.fn in
-    Between f.ways f.starts f.triggers f.member f.member_starts f.load_starts f.loads f.c l.initial.chunk_marks f.marks f.order f.hosts f.traversal l.rows l.load-index l.traversal l.chunk_marks l.marks l.order l.hosts
+    Between f.columns f.member f.c l.initial.chunk_marks f.marks f.order f.hosts f.traversal l.rows l.load-index l.traversal l.chunk_marks l.marks l.order l.hosts

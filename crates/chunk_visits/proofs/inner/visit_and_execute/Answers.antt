@@ -7,11 +7,11 @@ pub execute_members-requires : goal.execute_members-requires
 execute_members-requires c =
     let a = c.args in
     let n = c.visit_actual_chunk.new in
-    last_fits a.ways.now a.starts.now a.triggers.now a.member.now a.member_starts.now a.load_starts.now a.loads.now a.chunk_marks.now a.marks.now a.order.now a.hosts.now a.c a.before c.requires.0 a.last.now c.requires.1 n.chunk_marks n.marks n.order n.hosts n.traversal c.visit_actual_chunk.ensures
+    last_fits a.columns.now a.member.now a.chunk_marks.now a.marks.now a.order.now a.hosts.now a.c a.before c.requires.0 a.last.now c.requires.1 n.chunk_marks n.marks n.order n.hosts n.traversal c.visit_actual_chunk.ensures
 
 pub returns : goal.returns
 returns c =
     let a = c.args in
     let n = c.visit_actual_chunk.new in
     let m = c.execute_members.new in
-    ran a.ways.now a.starts.now a.triggers.now a.member.now a.member_starts.now a.load_starts.now a.loads.now a.chunk_marks.now a.marks.now a.order.now a.hosts.now a.c a.before c.requires.0 a.last.now n.chunk_marks n.marks n.order n.hosts n.traversal c.visit_actual_chunk.ensures m.marks m.order m.hosts m.traversal c.execute_members.ensures
+    ran a.columns.now a.member.now a.chunk_marks.now a.marks.now a.order.now a.hosts.now a.c a.before c.requires.0 a.last.now n.chunk_marks n.marks n.order n.hosts n.traversal c.visit_actual_chunk.ensures m.marks m.order m.hosts m.traversal c.execute_members.ensures

@@ -3,7 +3,7 @@
 use Rattle.std.proofs.Common.{◌≤◌, length, arith}
 use Rattle.lists.specs.Words.{keep, has}
 use Rattle.tables.specs.Readings.{modules}
-use Rattle.expected_order.specs.OfProject.{expected_of}
+use Rattle.expected_visit.specs.OfProject.{expected_of}
 use Rattle.at_risk.proofs.Listed.{expected-order}
 use Rattle.entry_pages.proofs.Orders.{keep-order, keep-fits, order-members, held-is}
 use Rattle.entry_pages.proofs.inner.marked_expected.Goals as goal

@@ -37,4 +37,4 @@ visit_and_execute-all-requires c =
 pub returns : goal.returns
 returns c =
     let ran = rw (take-zeros c.args.chunks 1024 c.requires.places, take-zeros (length c.args.hosts.now) 4096 c.requires.modules, c.fill.ensures) at c.visit_and_execute-all.ensures in
-    ap (λ (s : St Filling). s.made) (ran-turns _ _ _ _ _ _ _ _ _ _ _ _ _ ran)
+    ap (λ (s : St Filling). s.made) (ran-turns _ _ _ _ _ _ _ _ ran)

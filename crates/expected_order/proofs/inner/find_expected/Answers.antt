@@ -4,8 +4,8 @@ use Rattle.std.proofs.Common.{◌≡◌, length, take, drop, sym, ap, subst, ◌
 use lib.Seq.{take_at}
 use Rattle.tables.specs.Readings.{modules}
 use Rattle.tables.specs.Accepted.{Below}
-use Rattle.expected_order.specs.OfProject.{expected_of}
-use Rattle.expected_order.proofs.Laws.{expected-below}
+use Rattle.expected_visit.specs.OfProject.{expected_of}
+use Rattle.expected_visit.proofs.Laws.{expected-below}
 use Rattle.expected_order.proofs.inner.find_expected.Goals as goal
 
 pub returns-clause-members : goal.returns-clause-members

@@ -7,12 +7,12 @@ use Rattle.plan_judgement.proofs.inner.judge_plan.Goals as goal
 
 pub lowest_lacking-wrong-requires-clause-rows : goal.lowest_lacking-wrong-requires-clause-rows
 lowest_lacking-wrong-requires-clause-rows c =
-    let marks = rw (c.labelled.view_is, c.read_labels-labelled.ensures) at c.labelled.invariant.eligible_set in
+    let marks = rw (c.labelled.view_is, c.read_labels-labelled.ensures) at c.labelled.inside.sets.sets.eligible_set in
     eligible-count _ c.args.seeds.now _ _ marks c.requires.plan.marked.size
 
 pub lacking_seed-seed-requires-clause-modules : goal.lacking_seed-seed-requires-clause-modules
 lacking_seed-seed-requires-clause-modules c =
-    let marks = rw (c.labelled.view_is, c.read_labels-labelled.ensures) at c.labelled.invariant.eligible_set in
+    let marks = rw (c.labelled.view_is, c.read_labels-labelled.ensures) at c.labelled.inside.sets.sets.eligible_set in
     eligible-count _ c.args.seeds.now _ _ marks c.requires.plan.marked.size
 
 pub returns : goal.returns
@@ -22,7 +22,7 @@ returns c =
     let same = c.read_labels-labelled.ensures in
     let joined = rw (c.sets.view_is, c.read_sets-sets.ensures, same) at c.sets.invariant in
     let size = c.requires.plan.marked.size in
-    let marks = rw (c.labelled.view_is, same) at c.labelled.invariant.eligible_set in
+    let marks = rw (c.labelled.view_is, same) at c.labelled.inside.sets.sets.eligible_set in
     let wrong = c.lowest_lacking-wrong.ensures ∙ wrong-is p c.args.seeds.now _ _ marks size in
     let seed = c.lacking_seed-seed.ensures ∙ seed-is p _ c.args.plan.now _ marks size in
     let suffix = rw joined.root_sets at c.lacking_suffix-suffix.ensures in

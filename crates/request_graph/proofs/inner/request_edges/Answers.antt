@@ -11,16 +11,16 @@ use Rattle.request_graph.proofs.inner.request_edges.Goals as goal
 pub number_chosen-requires-clause-first : goal.number_chosen-requires-clause-first
 number_chosen-requires-clause-first c =
     let n = c.modules-n.ensures in
-    sensitive-size _ c.labelled.invariant.sensitive_set ∙ sym n.count ∙ sym (part_length 4096 _ n.few)
+    sensitive-size _ c.labelled.inside.sets.sets.sensitive_set ∙ sym n.count ∙ sym (part_length 4096 _ n.few)
 
 pub number_chosen-requires-clause-second : goal.number_chosen-requires-clause-second
 number_chosen-requires-clause-second c =
     let n = c.modules-n.ensures in
-    eligible-size _ c.labelled.invariant.eligible_set ∙ sym n.count ∙ sym (part_length 4096 _ n.few)
+    eligible-size _ c.labelled.inside.sets.sets.eligible_set ∙ sym n.count ∙ sym (part_length 4096 _ n.few)
 
 pub returns : goal.returns
 returns c =
     let n = rw c.labelled.view_is at c.modules-n.ensures in
-    let s = rw c.labelled.view_is at c.labelled.invariant in
+    let sets = rw c.labelled.view_is at c.labelled.inside.sets.sets in
     let own : c.number.new.out ≡ numbered (modules c.args.labelled.now) = c.number.ensures ∙ ap numbered (part_length 4096 _ n.few ∙ n.count) in
-    requests-on _ (rw (own, c.number_chosen.ensures, s.sensitive_set, s.eligible_set) at c.add_component_edges.ensures) (rw (c.labelled.view_is, own) at c.add_import_edges.ensures) (rw c.requires.same at c.add_symbol_edges.ensures)
+    requests-on _ (rw (own, c.number_chosen.ensures, sets.sensitive_set, sets.eligible_set) at c.add_component_edges.ensures) (rw (c.labelled.view_is, own) at c.add_import_edges.ensures) (rw c.requires.same at c.add_symbol_edges.ensures)

@@ -8,7 +8,7 @@ pub extend_order-requires-clause-members : goal.extend_order-requires-clause-mem
 extend_order-requires-clause-members c = rw c.requires.plan (rw c.rooted.view_is at c.find_expected-order.ensures.members)
 
 pub extend_order-requires-clause-sensitive : goal.extend_order-requires-clause-sensitive
-extend_order-requires-clause-sensitive c = sensitive-size _ (rw c.rooted.view_is at c.rooted.invariant).sensitive_set ∙ sym c.requires.plan
+extend_order-requires-clause-sensitive c = sensitive-size _ (rw c.rooted.view_is at c.rooted.inside.sets.sets).sensitive_set ∙ sym c.requires.plan
 
 pub extend_order-requires-clause-eligible : goal.extend_order-requires-clause-eligible
-extend_order-requires-clause-eligible c = eligible-size _ (rw c.rooted.view_is at c.rooted.invariant).eligible_set ∙ sym c.requires.plan
+extend_order-requires-clause-eligible c = eligible-size _ (rw c.rooted.view_is at c.rooted.inside.sets.sets).eligible_set ∙ sym c.requires.plan

@@ -28,7 +28,7 @@ returns-then-count_marked-settled c =
     (all_settled p (roots p) (sensitive_marks p) (eligible_marks p) c.args.plan.now c.args.settled.now s.size s.settles (sym c.count_marked.ensures ∙ c.if-count_marked-settled.true))
 
 pub any_open-requires-clause-one : goal.any_open-requires-clause-one
-any_open-requires-clause-one c = sensitive-size _ (rw c.rooted.view_is at c.rooted.invariant).sensitive_set ∙ sym c.requires.plan.size
+any_open-requires-clause-one c = sensitive-size _ (rw c.rooted.view_is at c.rooted.inside.sets.sets).sensitive_set ∙ sym c.requires.plan.size
 
 pub any_open-requires-clause-two : goal.any_open-requires-clause-two
 any_open-requires-clause-two c = candidate-size _ (rw (c.reached.view_is, c.requires.same) at c.reached.invariant) ∙ sym c.requires.plan.size
@@ -37,7 +37,8 @@ pub returns-then-not-any_open : goal.returns-then-not-any_open
 returns-then-not-any_open c =
     let p = c.args.rooted.now in
     let s = rw c.rooted.view_is at c.rooted.invariant in
+    let sets = rw c.rooted.view_is at c.rooted.inside.sets.sets in
     let r = rw (c.reached.view_is, c.requires.same) at c.reached.invariant in
     quiet p _ _ c.requires.settled c.requires.plan.bits
     (none_open p (roots p) (sensitive_marks p) (eligible_marks p) c.args.plan.now (candidate_marks p) (orders-ready p s.accepted)
-    (rw (s.sensitive_set, r.candidate_set) at (c.any_open.ensures c.if-not-any_open.true)))
+    (rw (sets.sensitive_set, r.candidate_set) at (c.any_open.ensures c.if-not-any_open.true)))

@@ -9,6 +9,7 @@ use Rattle.wall_line.proofs.inner.put_whole_line.Goals as goal
 pub returns : goal.returns
 returns c =
     let a = c.args in
+    let sensitives = rw c.columns.ensures.same at c.mark_sensitive.ensures in
     put_as
-    (ap₂ (λ (s w : List ℕ). marked_line a.entry.now.current.now s w a.entry.now.root a.number) c.mark_table_sensitive.ensures c.analyze.ensures.plan ∙ marked-whole a.entry.now.current.now a.entry.now.root a.number)
-    c.put_entry_line.ensures
+    (ap₂ (λ (s w : List ℕ). marked_line a.entry.now.current.now s w a.entry.now.root a.number) sensitives c.analyze.ensures.plan ∙ marked-whole a.entry.now.current.now a.entry.now.root a.number)
+    c.put_entry_text.ensures

@@ -9,25 +9,27 @@ use Rattle.worklist.proofs.inner.take_all.Goals as goal
 
 pub list_seeds-requires-clause-seeds : goal.list_seeds-requires-clause-seeds
 list_seeds-requires-clause-seeds c =
-    let s = rw c.rooted.view_is at c.rooted.invariant in
-    λ i l. omega (arith, c.requires.seeds i l, eligible-size _ s.eligible_set)
+    let sets = rw c.rooted.view_is at c.rooted.inside.sets.sets in
+    λ i l. omega (arith, c.requires.seeds i l, eligible-size _ sets.eligible_set)
 
 pub list_seeds-requires-clause-eligible : goal.list_seeds-requires-clause-eligible
 list_seeds-requires-clause-eligible c =
-    let s = rw c.rooted.view_is at c.rooted.invariant in
-    rw c.requires.fresh.empty (length-replicate {A = ℕ} (modules c.args.rooted.now) 0) ∙ sym (eligible-size _ s.eligible_set)
+    let sets = rw c.rooted.view_is at c.rooted.inside.sets.sets in
+    rw c.requires.fresh.empty (length-replicate {A = ℕ} (modules c.args.rooted.now) 0) ∙ sym (eligible-size _ sets.eligible_set)
 
 pub loop-k-init : goal.loop-k-init
 loop-k-init c =
     let s = rw c.rooted.view_is at c.rooted.invariant in
-    let h = rw s.eligible_set at c.list_seeds.ensures in
+    let sets = rw c.rooted.view_is at c.rooted.inside.sets.sets in
+    let h = rw sets.eligible_set at c.list_seeds.ensures in
     record { running = running-start _ s.accepted _ _ c.requires.graph c.requires.fresh h; noted = noted-start _ _ _ _ }
 
 pub step-requires : goal.step-requires
 step-requires c =
     let s = rw c.rooted.view_is at c.rooted.invariant in
+    let sets = rw c.rooted.view_is at c.rooted.inside.sets.sets in
     let r = rw (c.reached.view_is, c.requires.same) at c.reached.invariant in
-    rw (r.candidate_set, s.eligible_set, c.threads.ensures) (steppable _ s.accepted _ _ c.requires.graph c.loop-k.invariant.running (rw c.len.ensures.count at c.loop-k-test.true) c.advance-end.ensures)
+    rw (r.candidate_set, sets.eligible_set, c.threads.ensures) (steppable _ s.accepted _ _ c.requires.graph c.loop-k.invariant.running (rw c.len.ensures.count at c.loop-k-test.true) c.advance-end.ensures)
 
 pub overflow_cast-lengths : goal.overflow_cast-lengths
 overflow_cast-lengths c =
@@ -44,9 +46,10 @@ loop-k-smaller c = omega (arith, c.loop-k-test.true, c.len.ensures.count, listed
 pub loop-k-preserved : goal.loop-k-preserved
 loop-k-preserved c =
     let s = rw c.rooted.view_is at c.rooted.invariant in
+    let sets = rw c.rooted.view_is at c.rooted.inside.sets.sets in
     let v = c.loop-k.invariant in
     let r = rw (c.reached.view_is, c.requires.same) at c.reached.invariant in
-    let h = rw (r.candidate_set, s.eligible_set, c.threads.ensures) at c.step.ensures in
+    let h = rw (r.candidate_set, sets.eligible_set, c.threads.ensures) at c.step.ensures in
     let ahead = rw c.len.ensures.count at c.loop-k-test.true in
     record {
       running = running-next _ s.accepted _ _ c.requires.graph v.running ahead c.advance-end.ensures h;

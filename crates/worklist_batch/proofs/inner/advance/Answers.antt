@@ -9,25 +9,26 @@ use Rattle.worklist_batch.proofs.inner.advance.Goals as goal
 
 pub any_sensitive-requires : goal.any_sensitive-requires
 any_sensitive-requires c =
-    let s = rw c.rooted.view_is at c.rooted.invariant in
+    let sets = rw c.rooted.view_is at c.rooted.inside.sets.sets in
     let list = c.args.list.now.list in
     let end = c.args.end in
     rw c.since.ensures
     (λ i l.
-    omega (arith, (c.len-count.ensures.listed.placed (end + i) (omega (arith, l, length-drop end list))).0, get_or-drop end list i 0, c.requires.batch.size, sensitive-size _ s.sensitive_set))
+    omega (arith, (c.len-count.ensures.listed.placed (end + i) (omega (arith, l, length-drop end list))).0, get_or-drop end list i 0, c.requires.batch.size, sensitive-size _ sets.sensitive_set))
 
 pub returns-then-not-any_sensitive : goal.returns-then-not-any_sensitive
 returns-then-not-any_sensitive c =
     let s = rw c.rooted.view_is at c.rooted.invariant in
+    let sets = rw c.rooted.view_is at c.rooted.inside.sets.sets in
     let b = c.requires.batch in
-    let none = rw (s.sensitive_set, c.since.ensures) at (c.any_sensitive.ensures c.if-not-any_sensitive.true) in
+    let none = rw (sets.sensitive_set, c.since.ensures) at (c.any_sensitive.ensures c.if-not-any_sensitive.true) in
     rw c.len-count.ensures.count
     record { batch = none-sensitive _ s.accepted _ _ _ _ c.len-count.ensures.listed b.batch none; before = b.ahead; within = omega arith }
 
 pub any_open-requires-clause-one : goal.any_open-requires-clause-one
 any_open-requires-clause-one c =
-    let s = rw c.rooted.view_is at c.rooted.invariant in
-    rw c.marks.ensures (sensitive-size _ s.sensitive_set ∙ sym c.requires.batch.size)
+    let sets = rw c.rooted.view_is at c.rooted.inside.sets.sets in
+    rw c.marks.ensures (sensitive-size _ sets.sensitive_set ∙ sym c.requires.batch.size)
 
 pub any_open-requires-clause-two : goal.any_open-requires-clause-two
 any_open-requires-clause-two c =
@@ -37,9 +38,10 @@ any_open-requires-clause-two c =
 pub returns-then-not-any_open : goal.returns-then-not-any_open
 returns-then-not-any_open c =
     let s = rw c.rooted.view_is at c.rooted.invariant in
+    let sets = rw c.rooted.view_is at c.rooted.inside.sets.sets in
     let r = rw (c.reached.view_is, c.requires.same) at c.reached.invariant in
     let b = c.requires.batch in
-    let shut = rw (s.sensitive_set, r.candidate_set, c.marks.ensures) at (c.any_open.ensures c.if-not-any_open.true) in
+    let shut = rw (sets.sensitive_set, r.candidate_set, c.marks.ensures) at (c.any_open.ensures c.if-not-any_open.true) in
     rw c.len-count.ensures.count
     record { batch = none_open _ s.accepted _ _ _ _ c.len-count.ensures.listed b.batch shut b.size; before = b.ahead; within = omega arith }
 

@@ -1,4 +1,4 @@
--- `worklist_run::inner::run_linked`: a run from empty arrays and a list that is emptied.
+-- `worklist_run::inner::run_linked`: a run from empty arrays.
 -- Assumes nothing.
 use Rattle.std.proofs.Common.{◌≡◌, ℕ, length, take, replicate, sym, ◌∙◌, arith}
 use Rattle.tables.specs.Readings.{modules}
@@ -12,12 +12,13 @@ slice_bounds-settled-end c = roots_fit c.rooted.invariant
 pub slice_bounds-settled-end-2 : goal.slice_bounds-settled-end-2
 slice_bounds-settled-end-2 c = sym (part_length 16384 (length c.rooted.inside.roots.now) (roots_fit c.rooted.invariant))
 
-pub take_all-requires-clause-fresh : goal.take_all-requires-clause-fresh
-take_all-requires-clause-fresh c =
-    let n = c.modules-n.result in
-    let part : length {A = ℕ} (take n (replicate 4096 0)) ≡ modules c.args.rooted.now = part_length 4096 n (omega arith) ∙ rw c.rooted.view_is at c.modules-n.ensures.count in
+pub take_all-count-requires-clause-fresh : goal.take_all-count-requires-clause-fresh
+take_all-count-requires-clause-fresh c =
+    let s = rw c.rooted.view_is at c.rooted.invariant in
+    let n = length c.args.placed.now in
+    let part : length {A = ℕ} (take n (replicate 4096 0)) ≡ modules c.args.rooted.now = part_length 4096 n (omega (arith, c.requires.size, s.accepted.sizes.normal)) ∙ c.requires.size in
     record {
       none = c.new-met.ensures;
-      empty = rw c.requires.size at c.clear.ensures;
-      batch = rw (c.clear.ensures, c.requires.size, c.new-notes.ensures, none-settled (rw c.rooted.view_is at c.rooted.invariant), part) (batch-none c.args.rooted.now);
+      empty = rw part at c.new-list.ensures;
+      batch = rw (c.new-list.ensures, c.new-notes.ensures, none-settled s, part) (batch-none c.args.rooted.now);
     }

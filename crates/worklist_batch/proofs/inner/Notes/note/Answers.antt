@@ -7,9 +7,9 @@ use Rattle.worklist_batch.proofs.inner.Notes.note.Goals as goal
 
 pub lower_entries-requires-clause-marks : goal.lower_entries-requires-clause-marks
 lower_entries-requires-clause-marks c =
-    let s = c.rooted.invariant in
+    let sets = c.rooted.inside.sets.sets in
     let n = c.fill.auto.slots ∙ (rw (← c.self.view_is, ← c.rooted.view_is) at c.requires.noting).len in
-    record { size = n; sensitives = sensitive-size _ s.sensitive_set ∙ sym n; eligibles = eligible-size _ s.eligible_set ∙ sym n }
+    record { size = n; sensitives = sensitive-size _ sets.sensitive_set ∙ sym n; eligibles = eligible-size _ sets.eligible_set ∙ sym n }
 
 pub lower_entries-requires-clause-small : goal.lower_entries-requires-clause-small
 lower_entries-requires-clause-small c = all_small _ _ c.fill.ensures
@@ -21,6 +21,7 @@ lower_entries-requires-clause-roots c =
 pub returns : goal.returns
 returns c =
     let s = rw c.rooted.view_is at c.rooted.invariant in
+    let sets = rw c.rooted.view_is at c.rooted.inside.sets.sets in
     let n = (rw (← c.self.view_is) at c.requires.noting).len in
-    let lowest = rw (c.rooted.view_is, s.root, s.sensitive_set, s.eligible_set) at c.lower_entries.ensures in
+    let lowest = rw (c.rooted.view_is, s.root, sets.sensitive_set, sets.eligible_set) at c.lower_entries.ensures in
     lowest-batch c.args.rooted.now _ _ _ _ (lowest.len ∙ c.fill.auto.slots ∙ n) (rw n at c.fill.ensures) lowest

@@ -1,0 +1,2 @@
+-- What inner contracts and proofs speak of.
+pub mod Sets

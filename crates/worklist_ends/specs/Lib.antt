@@ -1,0 +1,2 @@
+-- The ends of a worklist.
+pub mod inner

@@ -1,0 +1,2 @@
+-- What only inner contracts and proofs speak of.
+pub mod Ends
