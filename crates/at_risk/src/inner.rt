@@ -23,8 +23,8 @@ use risk_of_orders::inner::{RiskColumns, add_cycle_risk, add_order_risk};
 use table::MODULE_LIMIT;
 use visit_columns::inner::VisitColumns;
 
-// Adds to `out` the order risk of an entry, its expected order given. What is written stands beside what is read, here and below; `sets` are
-// made once for all entries, so they aren't part of one. `columns` are those that the visits read.
+// Adds the order risk of an entry whose expected order is given to a set, which stands beside what is read, here and below; sets
+// are made once for all entries, so they stay apart from one. `columns` are those that the visits read.
 pub fn add_entry_order_risk(
     entry: &AnalysedEntry,
     columns: &VisitColumns,

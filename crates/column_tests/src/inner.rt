@@ -28,8 +28,8 @@ fn under(column: &[u32], bound: u32) -> bool
     fit
 }
 
-// Whether every value is below a bound or the missing mark. Not one function with the one above: the test would be a closure, and neither body
-// shorter; each has its own definition in the scope's test 2.
+// Whether every value is below a bound or the missing mark. Beside the one above, and not one of both: the test would be a closure, and each has its
+// definition in the scope's test 2.
 #[tactic(auto, using(crate::proofs::Every::rows), unfolding(tables::specs::Refusal::below_or_missing))]
 fn under_or_missing(column: &[u32], bound: u32) -> bool
     ensures { result ≡ below_or_missing bound column.now }

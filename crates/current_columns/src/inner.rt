@@ -33,7 +33,7 @@ impl ReadSpace {
 }
 
 // The settings and columns of a table. Contracts see them as a project, and nothing is asked of it: functions over the same columns ask for different
-// facts (`Fit`, `Modules`, `Kinds`, `Records`, ..), so these are clauses, and a type with one of them would ask more of the other functions.
+// facts (`Fit`, `Modules`, `Kinds`, `Records`, ..), so these are clauses, and a type with one of them would ask more of the others.
 #[derive(Drop)]
 pub struct Columns<'a> {
     pub runtime: u32,

@@ -55,8 +55,8 @@ fn actual_order_for_root(
 }
 
 // The run of an entry of a table with the wraps that `columns` were made with: its list written to `order` from place 0, and
-// its hosts, a place a module. How many are listed. `order` and `hosts` are the caller's, here and below; a
-// value of the two would be taken apart by the one visit that writes them.
+// its hosts, a place a module. How many are listed. Both are lent by the operation, here and below; a value of the
+// two would be taken apart by the one visit that writes them.
 #[tactic(auto, unfolding(current_columns::specs::AsProject::project))]
 pub fn list_prepared(
     entry: &AnalysedEntry,

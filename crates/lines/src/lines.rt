@@ -50,8 +50,8 @@ fn digit(d: u32) -> u8
     48 + d as u8
 }
 
-// Writes n in decimal from `at` on, and answers the position behind it. By hand: a clause knows what `Display` writes only where it
-// goes to a `String`, and there is no heap here; the toolchain's `itoa` spells by a definition of its own. The slice and the place are handed on: tried, a method of the writer below that calls itself, and a line took 1.3 times as long.
+// Writes n in decimal from `at` on, and answers the position behind it. By hand: `Display` makes a `String`, there is no heap here, and no crate but the library. The slice and the place
+// are handed on: tried, a method of the writer below that calls itself, and a line took 1.3 times as long.
 fn put_digits(out: &mut [u8], at: usize, n: u32) -> usize
     requires { at + length (number n) ≤ length out.old }
     ensures { PutAt out.old at (number n) out.new result }

@@ -12,8 +12,8 @@ use table::{COLUMNS, Table};
 use tables::Refusal;
 use text_rows::inner::read_lists;
 
-// What was read of a text: how many values the columns have, and where the names begin and end in the text.
-// Numbers and no slices, since `read`'s promise is of them; `read_text` gives the slices as a `Table`.
+// What was read of a text: how many values the columns have, and where the names begin and end in the text,
+// which stays with the caller.
 #[derive(Clone, Copy)]
 pub struct Reading {
     pub values: usize,

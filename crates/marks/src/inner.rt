@@ -5,8 +5,8 @@ ghost use Rattle.tables.specs.Project.{missing};
 ghost use Rattle.tables.specs.Accepted.{Below};
 ghost use Rattle.marks.specs.Steps.{looked, Raised, Owners, Added, InAll};
 
-// The value at a place of a table, `other` where the table has no such place. The library's call, its promise as one
-// equation, which proofs take. Its like for another type, or another value for none, are in `column_tests`, `name_order`, `merge_sort`, `replacement`.
+// The value at a place of a table, `other` where the table has no such place. The library's call with its promise
+// as one equation, which proofs take; of other types and values for none there are `column_tests`, `name_order`, `merge_sort` and `replacement`.
 pub fn value_at(table: &[u32], at: u32, other: u32) -> u32
     ensures { result ≡ slice_index_or table.now at other }
 {

@@ -38,8 +38,8 @@ fn execute_actual_module<'a>(
     *traversal = leave_module(order, hosts, m, host, before);
 }
 
-// Executes those of some modules that execute in a way, in order, each its own host. Marks, order and hosts are plain slices beside
-// the counters, as the scope asks; the way is a number, since a column holds it.
+// Executes those of some modules that execute in a way, in order, each its own host. Marks, order and hosts stay plain slices beside
+// the counters; the way is a number as in the column.
 pub fn execute_members<'a>(
     ways: &'a [u32],
     starts: &'a [u32],

@@ -32,8 +32,7 @@ pub fn find_starts(names: &[u8], starts: &mut [usize])
     }
 }
 
-// Whether the line with which one text begins goes before that of another, byte by byte. By hand: slices would be
-// compared past the LF, and to cut both lines first goes over them twice.
+// Whether the line with which one text begins goes before that of another, byte by byte. By hand, since slices have an order past the LF too.
 fn line_before(text: &[u8], other: &[u8]) -> bool
     ensures { result ≡ sooner (first_line text.now) (first_line other.now) }
 {
@@ -59,7 +58,7 @@ fn turn(b: u8) -> u8
     if b == 126 { 0 } else { b }
 }
 
-// Whether the name at one place goes before that at another. By hand: a first byte is turned, so no part of `names` is the name.
+// Whether the name at one place goes before that at another.
 pub fn name_before(names: &[u8], a: usize, b: usize) -> bool
     ensures { result ≡ sooner (turned (line_at names.now a)) (turned (line_at names.now b)) }
 {

@@ -10,8 +10,7 @@ fn is_printable(b: u8) -> bool
     (33..=126).contains(&b)
 }
 
-// The length of the line at hand after a byte, from that before it; 65 once something is wrong, one more than a
-// name may have: a fold carries one number, and one test is for both.
+// The length of the line at hand after a byte, from that before it; 65 once something is wrong, so that a fold carries one number and has no branch for none.
 fn width_after(width: usize, b: u8) -> usize
     ensures { result ≡ width_after width b }
 {

@@ -11,8 +11,8 @@ use order_risk_marks::inner::mark_order_risk;
 use table::{ROW_LIMIT, Table};
 use tables::Refusal;
 
-// The order risk of an analysed entry: 0 or 1 for each module, written to `marks` from place 0. The count is that of the ones. The members
-// are those that names arrange; the cycle risk reads no members, but the chunks' labels, so the two are two functions.
+// The order risk of an analysed entry: 0 or 1 for each module, written to `marks` from place 0. The count is that of the ones. The members are those that names arrange; the
+// cycle risk reads none, but the chunks' labels, so the two are two functions.
 pub fn order_risk(table: &Table, root: u32, marks: &mut [u32]) -> Result<usize, Refusal>
     ensures { EntryOrderRisk (as_named table.now) root marks.old result marks.new }
 {

@@ -16,7 +16,7 @@ use wall_page::entry_page;
 // Room for a line of 41 bytes for each module.
 const PAGE_BYTES: usize = 167936;
 
-// Prints a refusal, as the other programs do, each by its own line: of what is printed there is no contract, and a library's function needs one.
+// Prints a refusal.
 fn refused(rt: &impl Print, refusal: Refusal) -> io::Result<()> {
     let mut out = [0u8; 64];
     let count = put_line(&mut out, b"refused", &[], &[refusal.number()]).unwrap_or(0);

@@ -42,7 +42,7 @@ fn put_none(line: &mut Writer)
     line.put_byte(b'-');
 }
 
-// Writes a place counted from 1, 0 for none, as `page_rows` writes them to slices.
+// Writes a place counted from 1, 0 for none, as the sheet's slices hold them.
 fn put_place(line: &mut Writer, place: u32)
     requires { (place ≤ 4096) × Room 8 line.old }
     ensures { Put (right (place_by place)) line.old line.new }

@@ -10,7 +10,7 @@ use tables::Target;
 use tables::inner::{is_static, resolve};
 
 // How many modules are listed, and the next number, which counts externals too. The visits of the actual order have counters of
-// their own, by the Rust's name: there the two are equal, and the contracts say so.
+// their own, by the Rust's name: there the two are equal, and every contract says so.
 #[derive(Clone, Copy)]
 pub struct Counters {
     pub placed: usize,

@@ -6,8 +6,8 @@ ghost use Rattle.text_rows.specs.inner.Steps.{Told, CellIs};
 
 use tables::ModuleIdx;
 
-// Reads the digits from `from` on, behind a number that is `first` so far: the value, and the position behind it. By hand: a parser of
-// the library takes a text that is all digits, with a `+`, zeros in front or the mark; here the end is found with the value, and the mark is refused.
+// Reads the digits from `from` on, behind a number that is `first` so far: the value, and the position behind it. By hand, since a number
+// from the mark on is refused here, where a parser of the library takes it.
 fn further_digits(s: &[u8], from: usize, first: u64) -> Option<(u32, usize)>
     requires { (from ≤ length s.now) × (0 < first) × (first < missing) }
     ensures { Told s.now (further first (drop from s.now)) result }
