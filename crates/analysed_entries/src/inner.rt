@@ -2,7 +2,7 @@
 ghost use Rattle.std.specs.Prelude.{◌≡◌, ◌≢◌, ℕ, ◌<◌, true, false, length, slice_index, MatchOption};
 ghost use Rattle.tables.specs.Project.{missing};
 ghost use Rattle.tables.specs.Readings.{flagged, values_of, first_of, is_analysed};
-ghost use Rattle.analysed_entries.specs.inner.Entries.{Entry};
+ghost use Rattle.analysed_entries.specs.inner.Entries.{Entry, ReadFrom};
 
 use current_columns::inner::Current;
 use tables::ModuleIdx;
@@ -41,6 +41,23 @@ pub struct AnalysedEntry<'a, 'c> {
     pub root: u32,
     pub chunk: u32,
     pub ghost entry: { Entry current.now root chunk },
+}
+
+impl<'a, 'c> AnalysedEntry<'a, 'c> {
+    // The same entry, of its table with other import records, dependencies and members: entries are found before a table is read and arranged.
+    #[tactic(auto, using(crate::proofs::AsRead::keeping))]
+    pub fn as_read<'b, 'd>(&self, current: &'b Current<'d>) -> AnalysedEntry<'b, 'd>
+        requires { ReadFrom self.now.current.now current.now }
+        ensures table { result.current.now ≡ current.now }
+        ensures root { result.root ≡ self.now.root }
+        ensures analysed { is_analysed current.now self.now.root ≡ is_analysed self.now.current.now self.now.root }
+    {
+        AnalysedEntry {
+            current,
+            root: self.root,
+            chunk: self.chunk,
+        }
+    }
 }
 
 // The entry chunk of a root that is an analysed entry, none for any other.

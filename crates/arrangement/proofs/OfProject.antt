@@ -8,11 +8,10 @@ use Rattle.lists.proofs.Laws.{both, length-map-up_to}
 use Rattle.tables.specs.Project.{Project}
 use Rattle.tables.specs.Readings.{modules, chunks}
 use Rattle.tables.specs.Accepted.{Accepted}
-use Rattle.refusal.specs.Reading.{Read}
 use Rattle.table.specs.declared.Table.{Table}
 use Rattle.table.specs.Table.{read, current, lent_as}
 use Rattle.table.specs.Lending.{as_lent, written}
-use Rattle.table.proofs.Laws.{read-own, lent-current, lent-names}
+use Rattle.table.proofs.Laws.{read-own, lent-accepted, lent-current, lent-names}
 use Rattle.table.proofs.Reading.{Replacing, accepted-read}
 use Rattle.sort_modules.specs.Sort.{numbers}
 use Rattle.sort_modules.specs.OfProject.{numbers_of}
@@ -113,26 +112,30 @@ module _ (bounds columns names : List ℕ) (p : Project) (accepts : (lent_as bou
   unfolding current read
   lent-fit = lent-names bounds columns names p accepts
 
--- what a lent table gives, as it is read
+-- what a lent table that nothing refuses gives, as it is read
 
-module _ (t : Table) {p : Project} (r : Read (as_lent t) p) where
-  read-accepted : Accepted p
-  read-accepted = rw r.project (lent-current t.bounds.now t.columns.now t.names.now (written t) r.passed)
+module _ (t : Table) (passed : (as_lent t).refused ≡ None) where
+  pub written_accepted : Accepted (written t)
+  written_accepted = lent-accepted t.bounds.now t.columns.now t.names.now (written t) passed
 
-  -- without names, as it is
-  pub read_unnamed : length t.names.now ≡ 0 → Read (as_named t) p
-  read_unnamed e = record { passed = r.passed; project = r.project ∙ sym (unnamed (current (written t)) t.names.now e) }
+  module _ {p : Project} (e : p ≡ current (written t)) where
+    read-accepted : Accepted p
+    read-accepted = rw e (lent-current t.bounds.now t.columns.now t.names.now (written t) passed)
 
-  module _ (some : length t.names.now ≡ 0 → ⊥) where
-    -- with names, which are of the form, its members arranged
-    pub read-names : names_fit (modules p) t.names.now ≡ true
-    read-names = in-fit (modules p) t.names.now (rw r.project (lent-fit t.bounds.now t.columns.now t.names.now (written t) r.passed)) some
+    -- without names, as it is
+    pub read_unnamed : length t.names.now ≡ 0 → p ≡ (as_named t).project
+    read_unnamed n = e ∙ sym (unnamed (current (written t)) t.names.now n)
 
-    pub read-arranged : Read (as_named t) (record p { member = arranged_of p t.names.now })
-    read-arranged = record { passed = r.passed; project = arranged-named p t.names.now some ∙ ap (λ (q : Project). named q t.names.now) r.project }
+    module _ (some : length t.names.now ≡ 0 → ⊥) where
+      -- with names, which are of the form, its members arranged
+      pub read-names : names_fit (modules p) t.names.now ≡ true
+      read-names = in-fit (modules p) t.names.now (rw e (lent-fit t.bounds.now t.columns.now t.names.now (written t) passed)) some
 
-    pub read-arranged-accepted : Accepted (record p { member = arranged_of p t.names.now })
-    read-arranged-accepted = rw (arranged-named p t.names.now some) (named-accepted p read-accepted t.names.now)
+      pub read-arranged : record p { member = arranged_of p t.names.now } ≡ (as_named t).project
+      read-arranged = arranged-named p t.names.now some ∙ ap (λ (q : Project). named q t.names.now) e
+
+      pub read-arranged-accepted : Accepted (record p { member = arranged_of p t.names.now })
+      read-arranged-accepted = rw (arranged-named p t.names.now some) (named-accepted p read-accepted t.names.now)
 
 -- all of these
-pub ruleset reading = (read_unnamed, read-names, read-arranged, read-arranged-accepted)
+pub ruleset reading = (written_accepted, read_unnamed, read-names, read-arranged, read-arranged-accepted)

@@ -1,7 +1,8 @@
 // For crates above, on tested tables and names.
-ghost use Rattle.std.specs.Prelude.{◌≡◌, ◌≤◌, true, length};
+ghost use Rattle.std.specs.Prelude.{◌≡◌, ◌≤◌, true, length, None};
 ghost use Rattle.tables.specs.Readings.{modules, chunks};
 ghost use Rattle.names.specs.Names.{names_fit};
+ghost use Rattle.table.specs.Lending.{as_lent};
 ghost use Rattle.merge_sort.specs.inner.Held.{key_at};
 ghost use Rattle.module_keys.specs.Keys.{key_of};
 ghost use Rattle.arrangement.specs.Arrangement.{arranged};
@@ -9,10 +10,10 @@ ghost use Rattle.refusal.specs.Reading.{ReadAs};
 ghost use Rattle.arrangement.specs.OfProject.{arranged_of, as_named};
 ghost use Rattle.arrangement.specs.inner.Rows.{Members, Fit};
 
-use current_columns::inner::{Columns, Current, ReadSpace};
+use current_columns::inner::{Columns, Current, ReadSpace, read_table};
 use merge_sort::inner::Keys;
 use module_keys::inner::find_keys;
-use refusal::read_tested;
+use refusal::test;
 use sort_modules::inner::sort_table;
 use table::{MODULE_LIMIT, ROW_LIMIT, Table};
 use tables::Refusal;
@@ -72,8 +73,27 @@ pub fn arrange_members(current: &Current, names: &[u8], out: &mut [u32])
     arrange(current.columns(), names, numbers, out);
 }
 
-// Tests a table with its names, and gives it as it is read, its members arranged if it has names.
+// A table that passed the tests, as it is read, its members arranged if it has names.
 #[tactic(auto, using(crate::proofs::OfProject::reading), unfolding(current_columns::specs::AsProject::project))]
+pub fn read_arranged<'a, 't: 'a>(
+    table: &Table<'t>,
+    space: &'a mut ReadSpace,
+    arranged: &'a mut [u32; ROW_LIMIT],
+) -> Current<'a>
+    requires { (as_lent table.now).refused ≡ None }
+    ensures { result ≡ (as_named table.now).project }
+{
+    let current = read_table(table, space);
+    if table.names.len() == 0 {
+        return current;
+    }
+    let columns = current.columns();
+    let members = &mut arranged[..columns.member.len()];
+    arrange_members(&current, table.names, members);
+    current.with_members(members)
+}
+
+// Tests a table with its names, and gives it as it is read, its members arranged if it has names.
 pub fn read_named<'a, 't: 'a>(
     table: &Table<'t>,
     space: &'a mut ReadSpace,
@@ -81,12 +101,6 @@ pub fn read_named<'a, 't: 'a>(
 ) -> Result<Current<'a>, Refusal>
     ensures { ReadAs (as_named table.now) result }
 {
-    let current = read_tested(table, space)?;
-    if table.names.len() == 0 {
-        return Ok(current);
-    }
-    let columns = current.columns();
-    let members = &mut arranged[..columns.member.len()];
-    arrange_members(&current, table.names, members);
-    Ok(current.with_members(members))
+    test(table)?;
+    Ok(read_arranged(table, space, arranged))
 }

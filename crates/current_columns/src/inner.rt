@@ -84,7 +84,7 @@ impl<'a> Model for Columns<'a> {
     ghost view = { project };
 }
 
-// A table that passed the tests, as it is read: record targets and dependencies through `newer`, all else as it was lent. Contracts see the project that it is.
+// A table that passed the tests, as it is read: record targets and dependencies through `newer`, all else as it was lent; or as it is written. Contracts see the project that it is.
 // The field is open, so that the columns of any accepted project can be lent as one.
 #[derive(Drop)]
 pub struct Current<'a> {
@@ -207,6 +207,16 @@ fn as_written<'t>(table: &Table<'t>) -> Columns<'t>
         entry: table.column(ENTRY),
         entry_chunk: table.column(ENTRY_CHUNK),
         seed: table.column(SEED),
+    }
+}
+
+// A table that passed the tests, as it is written: nothing is read through `newer`.
+pub fn written_table<'t>(table: &Table<'t>) -> Current<'t>
+    requires { Accepted (written table.now) }
+    ensures { result ≡ written table.now }
+{
+    Current {
+        columns: as_written(table),
     }
 }
 

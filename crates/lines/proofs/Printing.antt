@@ -5,14 +5,15 @@ use native.Mathlib.Omega.{arith}
 use native.Mathlib.Nat.{pow-zero, pow-suc, one-le-pow}
 use native.Mathlib.Numerals.{add-one}
 use mathlib.Core.Path.{◌≡◌, refl, sym, ap, ◌∙◌}
+use mathlib.Core.Logic.{⊎_elim}
 use mathlib.Core.List.{List, [], ◌∷◌, ◌++◌, append_assoc, append-nil}
 use lib.ListN.{length, take, drop, get_or, length-append, take-append-drop}
 use lib.Seq.{take-suc, take-length}
-use borrow.Author.Tests.{le-leb, lt-leb, eq-eqb, ne_eqb}
+use borrow.Author.Tests.{lt-ltb, le-ltb, le-leb, lt-leb, eq-eqb, ne_eqb}
 use Rattle.lists.proofs.Fronts.{sets-front}
 use Rattle.tables.specs.Project.{missing}
-use Rattle.form.specs.Form.{number, field, spaced, line}
-use Rattle.form.proofs.Fields.{number_short, number-long}
+use Rattle.form.specs.Form.{spell, number, field, spaced, line}
+use Rattle.form.proofs.Fields.{split, number_short, number-long}
 use Rattle.std.specs.Prelude.{Some, Ok, Err}
 use Rattle.tables.specs.Answers.{answer, after}
 use Rattle.tables.specs.declared.Refusal.TheVariants.{ShortSlice}
@@ -24,6 +25,20 @@ long-length n h = ap length (number-long n h) ∙ length-append (number (n / 10)
 
 pub short-length : (n : ℕ) → n < 10 → length (number n) ≡ 1
 short-length n h = ap length (number_short n h)
+
+-- a number has no more digits than its value and one
+spell-length : (k n : ℕ) → length (spell k n) ≤ suc k
+unfolding spell
+spell-length zero n = omega arith
+spell-length (suc k) n =
+    ⊎_elim
+    (λ h. simp (lt-ltb n 10 h) (omega arith))
+    (λ h. simp (le-ltb n 10 h) (omega (arith, spell-length k (n / 10), length-append (spell k (n / 10)) ((48 + n % 10) ∷ []))))
+    (split n 10)
+
+pub number-length : (n : ℕ) → length (number n) ≤ suc n
+unfolding number
+number-length n = spell-length n n
 
 -- a number from 10 ^ k on and below 10 ^ (k + 1) has k + 1 digits
 pub power-length : (k n : ℕ) → 10 ^ k ≤ n → n < 10 * 10 ^ k → length (number n) ≡ k + 1

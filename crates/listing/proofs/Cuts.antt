@@ -10,7 +10,7 @@ use lib.ListN.{length-append, length-map}
 use lib.Seq.{sets, drop-cons}
 use Rattle.lists.specs.Words.{up_to}
 use Rattle.lists.proofs.Laws.{length-count_from}
-use Rattle.form.proofs.Runs.{sets-append}
+use Rattle.form.proofs.Runs.{sets-append, sets-size}
 use Rattle.text_rows.specs.inner.Cells.{widths}
 use Rattle.text_rows.proofs.Names.{narrow}
 use Rattle.listing.specs.inner.Columns.{stripe, stripes, cut, Climbs, at-end, step}
@@ -75,6 +75,13 @@ module _ (rows ends values₀ bounds₀ : List ℕ) where
   cutting h = record { below = omega arith; climbs = h; back = omega arith; wide = refl; put = refl; noted = refl }
 
 module _ {rows ends values₀ bounds₀ values bounds : List ℕ} {l first to j : ℕ} (g : Cutting rows ends values₀ bounds₀ values bounds l first to j) where
+  pub cut-sizes : (length values ≡ length values₀) × (length bounds ≡ length bounds₀)
+  cut-sizes =
+      let left : List (List ℕ) = cut (drop l widths) (drop l ends) first rows in (
+        sets-size values values₀ to 0 (flatten left) (flatten (all rows ends)) g.put,
+        sets-size bounds bounds₀ (j + 1) 1 (tails to left) (tails 0 (all rows ends)) g.noted,
+      )
+
   pub cut-end : 15 ≤ l → (values ≡ sets values₀ 0 (flatten (all rows ends))) × (bounds ≡ sets bounds₀ 1 (tails 0 (all rows ends)))
   unfolding cut flatten tails
   cut-end h =

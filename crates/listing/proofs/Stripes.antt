@@ -9,7 +9,7 @@ use mathlib.Core.List.{flatten}
 use lib.Seq.{sets}
 use Rattle.lists.specs.Words.{count_from, up_to}
 use Rattle.lists.proofs.Laws.{count-step, count-end}
-use Rattle.form.proofs.Runs.{sets-append, store-more}
+use Rattle.form.proofs.Runs.{sets-append, store-more, sets-size}
 use Rattle.listing.specs.inner.Columns.{stripe, stripes}
 use Rattle.listing.specs.Reading.{tails}
 
@@ -63,6 +63,14 @@ module _ (rows values₀ bounds₀ : List ℕ) (first w n to j : ℕ) where
       }
 
 module _ {rows values₀ bounds₀ : List ℕ} {first w n to j : ℕ} {values bounds : List ℕ} {k at : ℕ} (g : Spreading rows values₀ bounds₀ first w n to j values bounds k at) where
+  pub spread-sizes : (length values ≡ length values₀) × (length bounds ≡ length bounds₀)
+  spread-sizes =
+      let all : List (List ℕ) = stripes w first n rows (up_to w) in
+      let left : List (List ℕ) = stripes w first n rows (count_from k (w - k)) in (
+        sets-size values values₀ at to (flatten left) (flatten all) g.put,
+        sets-size bounds bounds₀ (j + k + 1) (j + 1) (tails at left) (tails to all) g.noted,
+      )
+
   -- the next column has room
   pub spread-room : k < w → to + n * w ≤ 32768 → at + n ≤ 32768
   spread-room h r =

@@ -39,9 +39,9 @@ pub fn read(
     let Some(end) = read_lists(text, &mut row_values, &mut ends) else {
         return Err(Refusal::Text);
     };
-    if ends[0] != 2 {
+    let [2, ..] = ends else {
         return Err(Refusal::Text);
-    }
+    };
     let Some((from, to)) = find_names(text, end.at, (ends[1] - 2) / 8) else {
         return Err(Refusal::Text);
     };

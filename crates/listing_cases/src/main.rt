@@ -9,7 +9,7 @@
 
 use lines::{put_line, rising};
 use listing::{Reading, read};
-use parts::{first_of, part_of, split_number};
+use parts::{first_of, part_of};
 use refusal::test;
 use std::io;
 use streams::read_full;
@@ -38,12 +38,15 @@ impl<'a> List<'a> {
         self.take(1);
     }
 
-    // The number whose digits stand next, and passes the byte that ends it.
+    // The number whose digits stand next, and passes the byte that ends it. Not `split_number`, since each byte from `0` on is a digit here.
     fn number(&mut self) -> u32 {
-        let (value, rest) = split_number(self.left);
-        self.left = rest;
+        let count = self.left.iter().take_while(|b| b'0' <= **b).count();
+        let digits = self.take(count);
         self.take(1);
-        value
+        digits.iter().fold(0, |value: u32, digit| {
+            let digit = digit.saturating_sub(b'0');
+            value.saturating_mul(10).saturating_add(u32::from(digit))
+        })
     }
 }
 

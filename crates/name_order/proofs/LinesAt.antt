@@ -183,7 +183,15 @@ module _ (s word : List ℕ) (i k : ℕ) where
 
 -- names: the first byte turned, the others as they are
 
+sooner_self : (xs : List ℕ) → sooner xs xs ≡ false
+unfolding sooner
+sooner_self [] = refl
+sooner_self (x ∷ xs) = rw (eq-eqb x x refl) (sooner_self xs)
+
 module _ (s : List ℕ) (i j : ℕ) where
+  pub name-same : i ≡ j → false ≡ sooner (turned (line_at s i)) (turned (line_at s j))
+  name-same e = rw e (sym (sooner_self (turned (line_at s j))))
+
   pub name-stop : get_or s j 10 ≡ 10 → false ≡ sooner (turned (line_at s i)) (turned (line_at s j))
   unfolding sooner
   name-stop e = rw (line-stop s j e)

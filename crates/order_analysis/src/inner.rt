@@ -11,15 +11,14 @@ ghost use Rattle.order_analysis.specs.inner.Analysis.{risks_of};
 
 use analysed_entries::inner::find_entry;
 use at_risk::inner::add_entry_risk;
-use chunk_cycles::inner::label_table;
 use current_columns::inner::Current;
 use lists::inner::{count_marked, fill};
-use module_sets::inner::{ModuleSets, SetSpace, read_module_sets};
+use module_sets::inner::ModuleSets;
 use plan_rounds::inner::build_order_wrap_plan;
 use reached_modules::inner::list_roots;
-use rule_sets::inner::{LabelSpace, read_labels};
+use rule_sets::inner::{LabelSets, LabelSpace, read_labels};
 use seeds::inner::mark_table_seeds;
-use table::{CHUNK_LIMIT, MODULE_LIMIT};
+use table::MODULE_LIMIT;
 use visit_columns::inner::{VisitColumns, VisitSpace, prepare_table};
 
 // Adds the risk of each root to a set. `columns` are those that the visits read, `labels` the chunks' labels.
@@ -47,15 +46,12 @@ fn add_risks(
 
 // Marks the risks of the analysed entries, and nothing else. Its arrays are gone before the rules' are made, so that the stack is that of one of the two.
 #[inline(never)]
-fn mark_risks(current: &Current, out: &mut [u32])
-    requires { length out.old ≡ modules current.now }
-    ensures { out.new ≡ marks_of (risks_of current.now) (modules current.now) }
+fn mark_risks(labelled: &LabelSets, out: &mut [u32])
+    requires { length out.old ≡ modules labelled.now }
+    ensures { out.new ≡ marks_of (risks_of labelled.now) (modules labelled.now) }
 {
-    let mut labels = [0u32; CHUNK_LIMIT];
-    let labels = &mut labels[..current.chunks()];
-    label_table(current, labels);
-    let mut set_space = SetSpace::EMPTY;
-    let sets = read_module_sets(current, &mut set_space);
+    let LabelSets { sets, labels } = *labelled;
+    let current = sets.current;
     let mut visit_space = VisitSpace::EMPTY;
     let columns = prepare_table(current, &mut visit_space);
     let mut roots = [0u32; MODULE_LIMIT];
@@ -66,23 +62,24 @@ fn mark_risks(current: &Current, out: &mut [u32])
 
 // Adds the eligible seed rows to the marked risks, and closes them under the rules.
 #[inline(never)]
-fn plan_risks(current: &Current, plan: &mut [u32])
-    requires { plan.old ≡ marks_of (risks_of current.now) (modules current.now) }
-    ensures { plan.new ≡ whole_plan current.now }
+fn plan_risks(labelled: &LabelSets, plan: &mut [u32])
+    requires { plan.old ≡ marks_of (risks_of labelled.now) (modules labelled.now) }
+    ensures { plan.new ≡ whole_plan labelled.now }
 {
-    let mut space = LabelSpace::EMPTY;
-    let labelled = read_labels(current, &mut space);
-    mark_table_seeds(current, labelled.sets.eligible, plan);
-    build_order_wrap_plan(&labelled, plan);
+    let sets = labelled.sets;
+    mark_table_seeds(sets.current, sets.eligible, plan);
+    build_order_wrap_plan(labelled, plan);
 }
 
-// The plan of the whole analysis, as marks. How many are marked.
+// The plan of the whole analysis, as marks. How many are marked. The labels and sets are made once, for the risks and the rules.
 pub fn analyze(current: &Current, plan: &mut [u32]) -> usize
     requires places { length plan.old ≡ modules current.now }
     ensures plan { plan.new ≡ whole_plan current.now }
     ensures count { result ≡ ones (whole_plan current.now) }
 {
-    mark_risks(current, plan);
-    plan_risks(current, plan);
+    let mut space = LabelSpace::EMPTY;
+    let labelled = read_labels(current, &mut space);
+    mark_risks(&labelled, plan);
+    plan_risks(&labelled, plan);
     count_marked(plan)
 }

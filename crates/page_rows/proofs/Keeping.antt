@@ -5,9 +5,9 @@ use mathlib.Core.Path.{refl, sym, ap, ◌∙◌}
 use native.Mathlib.Numerals.{add-one}
 use native.Mathlib.Omega.{arith}
 use lib.ListN.{take-append-drop, length-append}
-use lib.Seq.{take_all}
+use lib.Seq.{take_all, length-take-le}
 use Rattle.lists.specs.Words.{keep}
-use Rattle.lists.proofs.Laws.{keep_append, front-more}
+use Rattle.lists.proofs.Laws.{keep_append, length-keep, front-more}
 use Rattle.risk_of_orders.proofs.Running.{keep-in, keep_out}
 use Rattle.page_rows.specs.inner.Steps.{Listed}
 
@@ -29,6 +29,9 @@ module _ (f : ℕ → Bool) (order old : List ℕ) where
   module _ (room : length (keep f order) ≤ length old) (k count : ℕ) (kept : List ℕ) (p : Kept f order old k count kept) where
     abbrev so_far : List ℕ
     so_far = keep f (take k order)
+
+    pub kept-few : count ≤ k
+    kept-few = omega (arith, p.counted, length-keep f (take k order), length-take-le k order p.within)
 
     pub kept_out : k < length order → f (get_or order k 0) ≡ false → Kept f order old (k + 1) count kept
     kept_out l e =

@@ -1,13 +1,13 @@
 -- Lines in turn, each of 41 bytes, and a line by its number.
 -- Assumes nothing.
-use Rattle.std.specs.Prelude.{◌≡◌, Bool, not, ℕ, zero, suc, ◌+◌, ◌*◌, ◌<◌, ◌≤◌, eqb, List, [], ◌∷◌, ◌++◌, map, length, get_or, take}
+use Rattle.std.specs.Prelude.{◌≡◌, Bool, not, ℕ, zero, suc, ◌+◌, ◌-◌, ◌*◌, ◌<◌, ◌≤◌, eqb, List, [], ◌∷◌, ◌++◌, map, length, get_or, take}
 use mathlib.Core.Path.{refl, sym, ap, ◌∙◌}
 use mathlib.Core.List.{flat_map, append_assoc, append-nil, Memᴰ}
 use native.Mathlib.Nat.{not-suc-le-zero}
 use native.Mathlib.Numerals.{add-one}
 use native.Mathlib.Omega.{arith}
-use lib.ListN.{length-append, length-map, get_or-eq_default}
-use lib.Seq.{take-suc}
+use lib.ListN.{length-append, length-map, get_or-eq_default, get_or-append}
+use lib.Seq.{take-suc, take_all, get_or-append-add}
 use borrow.Author.Tests.{eq-eqb, ne_eqb}
 use Rattle.lists.specs.Words.{is_zero}
 use Rattle.lines.specs.declared.lines.Writer.{Writer}
@@ -38,6 +38,9 @@ module _ (line : ℕ → List ℕ) where
       ∙ ap (flat_map line) (take-suc xs k 0 l)
       ∙ lines-append (take k xs) (get_or xs k 0 ∷ [])
       ∙ ap (λ (l : List ℕ). flat_map line (take k xs) ++ l) (lines-one (get_or xs k 0)))
+
+  pub lines-all : (xs : List ℕ) (k : ℕ) → length xs ≤ k → flat_map line (take k xs) ≡ flat_map line xs
+  lines-all xs k h = ap (flat_map line) (take_all k xs h)
 
   -- lines of 41 bytes
   pub lines-length : (xs : List ℕ) → ((x : ℕ) → Memᴰ x xs → length (line x) ≡ 41) → length (flat_map line xs) ≡ 41 * length xs
@@ -71,3 +74,16 @@ module _ (r : SheetRows) (s : Sheet r.expected_places r.actual_places r.plan) wh
   pub row-length : (m : ℕ) → m < length r.plan → length (line_with r m) ≡ 41
   unfolding line_with
   row-length m l = line-length m _ _ _ (omega (arith, s.few)) (s.expected_few m) (s.actual_few m)
+
+-- the line of a number, among the first, the rest, and past both
+module _ (line : ℕ → List ℕ) (xs ys : List ℕ) (k : ℕ) where
+  pub numbered-first : k < length xs → get_or (map line (xs ++ ys)) k [] ≡ line (get_or xs k 0)
+  numbered-first l = line-in line (xs ++ ys) k (omega (arith, length-append xs ys)) ∙ ap line (get_or-append xs ys 0 k l)
+
+  pub numbered-rest : length xs ≤ k → k - length xs < length ys → get_or (map line (xs ++ ys)) k [] ≡ line (get_or ys (k - length xs) 0)
+  numbered-rest h l =
+      let e : k ≡ length xs + (k - length xs) = omega arith in
+      line-in line (xs ++ ys) k (omega (arith, length-append xs ys)) ∙ ap line (ap (λ (i : ℕ). get_or (xs ++ ys) i 0) e ∙ get_or-append-add xs ys (k - length xs) 0)
+
+  pub numbered-past : length xs ≤ k → length ys ≤ k - length xs → get_or (map line (xs ++ ys)) k [] ≡ []
+  numbered-past h l = line-past line (xs ++ ys) k (omega (arith, length-append xs ys))

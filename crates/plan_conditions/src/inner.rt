@@ -11,7 +11,10 @@ use crate::Judgement;
 pub fn plan_fits(plan: &[u32], n: usize) -> bool
     ensures { result ≡ plan_fits n plan.now }
 {
-    plan.len() == n && plan.iter().all(|&mark| mark <= 1)
+    if plan.len() != n {
+        return false;
+    }
+    plan.iter().all(|&mark| mark <= 1)
 }
 
 // The lowest member of one set that is out of another, if there is one.

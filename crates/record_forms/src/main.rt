@@ -80,10 +80,11 @@ fn show(
         Ok(count) => print!(rt; "{word} {count}")?,
         Err(refusal) => print_refusal(rt, word, refusal)?,
     }
-    for number in numbers {
-        print!(rt; " {number}")?;
+    // numbers go out in one write
+    match numbers {
+        [first, second, third, fourth] => println!(rt; " {first} {second} {third} {fourth}"),
+        _ => println!(rt),
     }
-    println!(rt)
 }
 
 fn print_refusal(rt: &impl Print, word: &str, refusal: Refusal) -> io::Result<()> {

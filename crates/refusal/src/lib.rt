@@ -6,10 +6,10 @@ ghost use Rattle.table.specs.Table.{bounds_fit, table_refusal, tested_too};
 ghost use Rattle.table.specs.Lending.{as_lent, written};
 ghost use Rattle.tables.specs.Refusal.{refusal};
 ghost use Rattle.tables.specs.Answers.{tested};
-ghost use Rattle.refusal.specs.Reading.{ReadAs};
+ghost use Rattle.refusal.specs.Reading.{ReadAs, as_written};
 
 use column_tests::inner::{is_rising, newer_fits};
-use current_columns::inner::{Current, ReadSpace, read_table};
+use current_columns::inner::{Current, ReadSpace, read_table, written_table};
 use names::{names_in, names_sized};
 use size_tests::inner::{chunks_sized, code_sized, symbols_sized};
 use table::{COLUMNS, NEWER, NORMAL, Table};
@@ -88,6 +88,16 @@ pub fn test(table: &Table) -> Result<(), Refusal>
     match tested_too(refused, names_sized(names), names_in(names, modules)) {
         None => Ok(()),
         Some(refusal) => Err(refusal),
+    }
+}
+
+// Tests a table with its names, and gives it as it is written.
+pub fn test_written<'t>(table: &Table<'t>) -> Result<Current<'t>, Refusal>
+    ensures { ReadAs (as_written table.now) result }
+{
+    match test(table) {
+        Ok(()) => Ok(written_table(table)),
+        Err(refusal) => Err(refusal),
     }
 }
 

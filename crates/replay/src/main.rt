@@ -24,8 +24,8 @@ pub const PLACES: usize = 16392;
 // A call, and what the list says of its answer.
 #[derive(Drop)]
 struct Call {
-    // None where no operation has its number.
-    operation: Option<Operation>,
+    // The whole analysis where no operation has its number.
+    operation: Operation,
     argument: u32,
     // The answer, of a refusal its number; None where the list says neither.
     said: Option<Result<usize, u32>>,
@@ -34,10 +34,8 @@ struct Call {
     second: usize,
 }
 
-// The answer that a list says next: 0 and the count, or 1 and the refusal's number.
-fn read_answer(scanner: &mut Scanner) -> Option<Result<usize, u32>> {
-    let kind = scanner.number();
-    let number = scanner.number();
+// The answer that a list says: 0 and the count, or 1 and the refusal's number.
+fn said_answer(kind: u32, number: u32) -> Option<Result<usize, u32>> {
     match kind {
         0 => Some(Ok(number as usize)),
         1 => Some(Err(number)),
@@ -48,12 +46,13 @@ fn read_answer(scanner: &mut Scanner) -> Option<Result<usize, u32>> {
 impl Call {
     // The call that a list has next.
     fn read(scanner: &mut Scanner) -> Self {
+        let [operation, argument, kind, number, first, second] = scanner.values::<6>();
         Call {
-            operation: Operation::try_from(scanner.number()).ok(),
-            argument: scanner.number(),
-            said: read_answer(scanner),
-            first: scanner.number() as usize,
-            second: scanner.number() as usize,
+            operation: Operation::try_from(operation).unwrap_or(Operation::WholeAnalysis),
+            argument,
+            said: said_answer(kind, number),
+            first: first as usize,
+            second: second as usize,
         }
     }
 
@@ -67,15 +66,16 @@ impl Call {
     ) -> Option<Result<usize, Refusal>> {
         let first = first.get_mut(..self.first)?;
         let second = second.get_mut(..self.second)?;
-        self.operation?
+        self.operation
             .answer(table, self.argument, list, first, second)
     }
 
-    // Whether an answer is the one that the list says.
+    // Whether an answer is the one that the list says, which has refusal 0 for a call that can't be made.
     fn agrees(&self, answer: Option<Result<usize, Refusal>>) -> bool {
         match (answer, self.said) {
             (Some(Ok(count)), Some(Ok(said))) => count == said,
             (Some(Err(refusal)), Some(Err(said))) => refusal.number() == said,
+            (None, Some(Err(said))) => said == 0,
             _ => false,
         }
     }
@@ -105,16 +105,19 @@ fn print_answer(rt: &impl Print, answer: Option<Result<usize, Refusal>>) -> io::
             let number = refusal.number();
             print!(rt; " gives refusal {number}")
         }
-        None => print!(rt; " can't be made"),
+        None => print!(rt; " gives refusal 0"),
     }
 }
 
-// Says where an output differs first.
-fn print_difference(rt: &impl Print, output: &str, place: Option<usize>) -> io::Result<()> {
-    match place {
-        Some(place) => print!(rt; ", differs in the {output} output at {place}"),
-        None => Ok(()),
-    }
+// Says where each output differs first, its end where it doesn't.
+fn print_differences(
+    rt: &impl Print,
+    in_first: Option<usize>,
+    in_second: Option<usize>,
+) -> io::Result<()> {
+    let first = in_first.unwrap_or(PLACES);
+    let second = in_second.unwrap_or(PLACES);
+    print!(rt; ", differs in the first output at {first}, in the second at {second}")
 }
 
 // Makes the next call, and says whether it gave what the list says. One that differs is reported by its number.
@@ -138,8 +141,7 @@ fn call_agrees(
     }
     print!(rt; "\ncall {number}")?;
     print_answer(rt, answer)?;
-    print_difference(rt, "first", in_first)?;
-    print_difference(rt, "second", in_second)?;
+    print_differences(rt, in_first, in_second)?;
     Ok(false)
 }
 
@@ -173,9 +175,8 @@ fn case(
     let bounds = scanner.list(bounds);
     let columns = scanner.list(columns);
     let names = scanner.bytes(names);
-    let table = Table::new(scanner.number(), scanner.number(), bounds, columns, names);
-    let filler = scanner.number();
-    let calls = scanner.number();
+    let [runtime, dynamic, filler, calls] = scanner.values::<4>();
+    let table = Table::new(runtime, dynamic, bounds, columns, names);
     let agree = calls_agree(rt, scanner, &table, filler, calls)?;
     if agree == calls {
         println!(rt; ": ok, {calls} calls")?;

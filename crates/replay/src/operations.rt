@@ -39,7 +39,7 @@ pub enum Operation {
     EntriesOrder,
     Grounds,
     ImportCircles,
-    // The check of a plan; the argument says how many seeds stand before its marks.
+    // The check of a plan; the argument says how many seeds stand before its marks. Past the list, all of it is both.
     PlanCheck,
     ChunkModules,
     PlanByWorklist,
@@ -107,7 +107,9 @@ impl Operation {
             Operation::Grounds => grounds(table, first),
             Operation::ImportCircles => import_circles(table, first, second),
             Operation::PlanCheck => {
-                let (seeds, plan) = list.split_at_checked(argument as usize)?;
+                let (seeds, plan) = list
+                    .split_at_checked(argument as usize)
+                    .unwrap_or((list, list));
                 check_plan(table, seeds, plan).map(|judgement| judgement.number() as usize)
             }
             Operation::ChunkModules => sort_chunk_modules(table, first),

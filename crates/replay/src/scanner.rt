@@ -11,7 +11,7 @@ pub struct Scanner<'a> {
 // Values of a list that are still to be taken.
 #[derive(Clone, Copy)]
 struct Run {
-    // How many.
+    // How many. One that is taken of none leaves 2^32 - 1.
     left: u32,
     // The next of them; none where those stay that stand there.
     value: Option<u32>,
@@ -35,7 +35,7 @@ impl Run {
     // The next value, which is then taken.
     fn take(&mut self) -> Option<u32> {
         let value = self.value;
-        self.left = self.left.saturating_sub(1);
+        self.left = self.left.wrapping_sub(1);
         if 1 < self.turn {
             self.turn -= 1;
         } else {
@@ -52,9 +52,17 @@ impl<'a> Scanner<'a> {
         Scanner { text }
     }
 
+    // Passes the bytes up to the space, control characters too, which is more than `trim_ascii_start` passes.
+    fn skip(&mut self) {
+        let text = self.text;
+        let start = text.iter().position(|byte| b' ' < *byte);
+        self.text = text.split_at(start.unwrap_or(text.len())).1;
+    }
+
     // The line that begins next.
     pub(crate) fn line(&mut self) -> &'a [u8] {
-        let text = self.text.trim_ascii_start();
+        self.skip();
+        let text = self.text;
         let end = text.iter().position(|byte| *byte == b'\n');
         let (line, rest) = text.split_at(end.unwrap_or(text.len()));
         self.text = rest;
@@ -74,7 +82,7 @@ impl<'a> Scanner<'a> {
 
     // The next number; `-` is the missing mark, as a column holds it.
     pub(crate) fn number(&mut self) -> u32 {
-        self.text = self.text.trim_ascii_start();
+        self.skip();
         if self.passes(b'-') {
             return ModuleIdx::MISSING;
         }
@@ -128,10 +136,8 @@ impl<'a> Scanner<'a> {
         run.take()
     }
 
-    // Reads a list, its length first, over what stands in a room, as far as that has places.
-    pub(crate) fn list<'b>(&mut self, room: &'b mut [u32]) -> &'b [u32] {
-        let length = room.len().min(self.number() as usize);
-        let list = &mut room[..length];
+    // Reads values over all that stand in a list.
+    fn fill(&mut self, list: &mut [u32]) {
         let mut run = Run {
             left: 0,
             ..Run::ONE
@@ -139,6 +145,20 @@ impl<'a> Scanner<'a> {
         for place in list.iter_mut() {
             *place = self.value(&mut run).unwrap_or(*place);
         }
+    }
+
+    // The next values, as many as there are places; of those that stay, 0.
+    pub(crate) fn values<const N: usize>(&mut self) -> [u32; N] {
+        let mut values = [0; N];
+        self.fill(&mut values);
+        values
+    }
+
+    // Reads a list, its length first, over what stands in a room, as far as that has places.
+    pub(crate) fn list<'b>(&mut self, room: &'b mut [u32]) -> &'b [u32] {
+        let length = room.len().min(self.number() as usize);
+        let list = &mut room[..length];
+        self.fill(list);
         list
     }
 

@@ -8,7 +8,9 @@ use native.Mathlib.Omega.{arith}
 use lib.ListN.{get_or-append}
 use Rattle.std.proofs.lemmas.List.{get_or_push, length_push}
 use Rattle.tables.specs.Refusal.{row_limit}
+use Rattle.request_edges.specs.declared.inner.EdgeList.{EdgeList}
 use Rattle.request_edges.specs.inner.Edges.{RowsBelow, Rows, EdgeRows, In, Adds}
+use Rattle.request_edges.specs.inner.Lent.{Fitting, EdgesKept}
 
 -- no edges
 pub adds_none : (E : ℕ → ℕ → Type 0) → ((u v : ℕ) → E u v → ⊥) → (e : EdgeRows) → Adds E 0 e e
@@ -121,4 +123,11 @@ module _ (sources : List ℕ) (a : ℕ) (targets : List ℕ) (b : ℕ) (e : Edge
         (λ u v r. ⊎_map (λ o. o) (λ h. (h.2, h.3)) (last r))
         (adds_on g (adds-one e' same (get_or sources row 0 + a) (get_or targets row 0 + b))))
 
-pub ruleset adding_steps = (adding_start, adding_room, adding_unsourced, adding_unaimed, adding_put, adding_end)
+-- the slices stay where nothing is written, and through two calls
+pub edges_kept : (e : EdgeList) → Fitting e → EdgesKept e e
+edges_kept e h = record { from = refl; to = refl; fitting = h }
+
+pub edges-kept-on : {e e' e'' : EdgeList} → EdgesKept e e' → EdgesKept e' e'' → EdgesKept e e''
+edges-kept-on a b = record { from = b.from ∙ a.from; to = b.to ∙ a.to; fitting = b.fitting }
+
+pub ruleset adding_steps = (edges_kept, edges-kept-on, adding_start, adding_room, adding_unsourced, adding_unaimed, adding_put, adding_end)

@@ -4,9 +4,9 @@ ghost use Rattle.tables.specs.Project.{missing};
 ghost use Rattle.tables.specs.Refusal.{row_limit};
 ghost use Rattle.marks.specs.Steps.{looked};
 ghost use Rattle.request_edges.specs.inner.Edges.{numbered, choice, chosen, Rows, Room, Addable, Adds};
+ghost use Rattle.request_edges.specs.inner.Lent.{edges_of, Fitting, EdgesKept};
 
 use marks::inner::look_up;
-use std::marker::Model;
 use table::ROW_LIMIT;
 use tables::ModuleIdx;
 
@@ -54,54 +54,50 @@ fn looked_up<'a>(column: &[u32], table: &[u32], space: &'a mut [u32; ROW_LIMIT])
     numbers
 }
 
-// A list of edges that grows in two slices. Contracts see their sources and targets, and how many there is room for.
+// A list of edges that grows in two slices. Contracts see their sources and targets, and how many there is room for, by `edges_of`.
 #[derive(Drop)]
-pub struct EdgeList<'a> {
+pub struct EdgeList<'a, 'b> {
     pub from: &'a mut [u32],
-    pub to: &'a mut [u32],
+    pub to: &'b mut [u32],
     pub count: usize,
 }
 
-impl<'a> Model for EdgeList<'a> {
-    ghost use Rattle.std.specs.Prelude.{◌≡◌, ◌≤◌, length, take};
-    ghost use Rattle.request_edges.specs.inner.Edges.{EdgeRows};
-
-    ghost Value = { EdgeRows };
-
-    ghost view = { λ e. record { from = take e.count e.from.now; to = take e.count e.to.now; room = length e.from.now } };
-
-    ghost invariant = { λ e. (length e.to.now ≡ length e.from.now) × (e.count ≤ length e.from.now) };
-}
-
-impl<'a> EdgeList<'a> {
+impl<'a, 'b> EdgeList<'a, 'b> {
     // An empty one in two slices.
-    pub fn new(from: &'a mut [u32], to: &'a mut [u32]) -> EdgeList<'a>
+    pub fn new(from: &'a mut [u32], to: &'b mut [u32]) -> EdgeList<'a, 'b>
         requires { length to.old ≡ length from.old }
-        ensures { result ≡ record { from = []; to = []; room = length from.old } }
+        ensures from { result.from.ghost_name ≡ from.entry.ghost_name }
+        ensures to { result.to.ghost_name ≡ to.entry.ghost_name }
+        ensures fitting { Fitting result }
+        ensures empty { edges_of result ≡ record { from = []; to = []; room = length from.old } }
     {
         EdgeList { from, to, count: 0 }
     }
 
     // Where they come from.
-    pub fn sources<'b>(&'b self) -> &'b [u32]
-        ensures { result.now ≡ self.now.from }
+    pub fn sources<'c>(&'c self) -> &'c [u32]
+        requires { Fitting self.now }
+        ensures { result.now ≡ (edges_of self.now).from }
     {
         &self.from[..self.count]
     }
 
     // Where they lead to.
-    pub fn targets<'b>(&'b self) -> &'b [u32]
-        ensures targets { result.now ≡ self.now.to }
-        ensures same { length self.now.to ≡ length self.now.from }
+    pub fn targets<'c>(&'c self) -> &'c [u32]
+        requires { Fitting self.now }
+        ensures targets { result.now ≡ (edges_of self.now).to }
+        ensures same { length (edges_of self.now).to ≡ length (edges_of self.now).from }
     {
         &self.to[..self.count]
     }
 
     // Adds an edge from u to v.
     pub fn push(&mut self, u: u32, v: u32)
-        requires { Room 1 self.old }
-        ensures edge { self.new ≡ record { from = self.old.from ++ u ∷ []; to = self.old.to ++ v ∷ []; room = self.old.room } }
-        ensures same { length self.old.to ≡ length self.old.from }
+        requires fitting { Fitting self.old }
+        requires room { Room 1 (edges_of self.old) }
+        ensures kept { EdgesKept self.old self.new }
+        ensures edge { edges_of self.new ≡ record { from = (edges_of self.old).from ++ u ∷ []; to = (edges_of self.old).to ++ v ∷ []; room = (edges_of self.old).room } }
+        ensures same { length (edges_of self.old).to ≡ length (edges_of self.old).from }
     {
         self.from[self.count] = u;
         self.to[self.count] = v;
@@ -111,8 +107,10 @@ impl<'a> EdgeList<'a> {
     // Adds an edge for each row of two columns that both have a row number: from the first one's place after `a` to the second one's after `b`.
     #[tactic(auto, using(crate::proofs::Adding::adding_steps))]
     pub fn add(&mut self, sources: &[u32], targets: &[u32], a: u32, b: u32)
-        requires { Addable sources.now targets.now a b self.old }
-        ensures { Adds (Rows sources.now a targets.now b) (length sources.now) self.old self.new }
+        requires fitting { Fitting self.old }
+        requires rows { Addable sources.now targets.now a b (edges_of self.old) }
+        ensures kept { EdgesKept self.old self.new }
+        ensures adds { Adds (Rows sources.now a targets.now b) (length sources.now) (edges_of self.old) (edges_of self.new) }
     {
         for (&source, &target) in sources.iter().zip(targets) {
             if ROW_LIMIT <= source as usize {
@@ -127,9 +125,11 @@ impl<'a> EdgeList<'a> {
 
     // The same, where the second column's numbers are looked up in a table.
     pub fn add_to_looked(&mut self, sources: &[u32], column: &[u32], table: &[u32], a: u32, b: u32)
-        requires rows { Addable sources.now column.now a b self.old }
+        requires fitting { Fitting self.old }
+        requires rows { Addable sources.now column.now a b (edges_of self.old) }
         requires few { length column.now ≤ row_limit }
-        ensures { Adds (Rows sources.now a (looked missing table.now column.now) b) (length sources.now) self.old self.new }
+        ensures kept { EdgesKept self.old self.new }
+        ensures adds { Adds (Rows sources.now a (looked missing table.now column.now) b) (length sources.now) (edges_of self.old) (edges_of self.new) }
     {
         let mut space = [0u32; ROW_LIMIT];
         let targets = looked_up(column, table, &mut space);
@@ -145,9 +145,11 @@ impl<'a> EdgeList<'a> {
         a: u32,
         b: u32,
     )
-        requires rows { Addable column.now targets.now a b self.old }
+        requires fitting { Fitting self.old }
+        requires rows { Addable column.now targets.now a b (edges_of self.old) }
         requires few { length column.now ≤ row_limit }
-        ensures { Adds (Rows (looked missing table.now column.now) a targets.now b) (length column.now) self.old self.new }
+        ensures kept { EdgesKept self.old self.new }
+        ensures adds { Adds (Rows (looked missing table.now column.now) a targets.now b) (length column.now) (edges_of self.old) (edges_of self.new) }
     {
         let mut space = [0u32; ROW_LIMIT];
         let sources = looked_up(column, table, &mut space);
@@ -164,9 +166,11 @@ impl<'a> EdgeList<'a> {
         a: u32,
         b: u32,
     )
-        requires rows { Addable first.now second.now a b self.old }
+        requires fitting { Fitting self.old }
+        requires rows { Addable first.now second.now a b (edges_of self.old) }
         requires few { length first.now ≤ row_limit }
-        ensures { Adds (Rows (looked missing sources.now first.now) a (looked missing targets.now second.now) b) (length first.now) self.old self.new }
+        ensures kept { EdgesKept self.old self.new }
+        ensures adds { Adds (Rows (looked missing sources.now first.now) a (looked missing targets.now second.now) b) (length first.now) (edges_of self.old) (edges_of self.new) }
     {
         let mut space = [0u32; ROW_LIMIT];
         let looked = looked_up(second, targets, &mut space);

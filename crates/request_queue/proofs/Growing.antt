@@ -15,7 +15,9 @@ use lib.Seq.{get_or-set_same, get_or-set_other, length-take-le}
 use Rattle.std.proofs.lemmas.List.{get_or_push, length_push, take_more_set}
 use Rattle.lists.specs.Words.{is_zero, has, ones}
 use Rattle.lists.proofs.Laws.{mark-in, mark-out, ones-zeros, has-yes, has-not}
+use Rattle.request_queue.specs.declared.inner.Queue.{Queue}
 use Rattle.request_queue.specs.inner.Growing.{node_limit, Listing, Listed, Standing, Grew, Grown, among, given, chosen}
+use Rattle.request_queue.specs.inner.Lent.{Queued, Kept}
 
 -- a set with a place that is out has fewer members than places, and one more with that place in
 pub ones-open : (s : List ℕ) (i : ℕ) → i < length s → get_or s i 0 ≡ 0 → ones s < length s
@@ -202,3 +204,10 @@ module _ {marks queue : List ℕ} {count : ℕ} (h : Standing marks queue count)
 -- no more are listed than there are places
 pub listed-fits : {marks list : List ℕ} → Listed marks list → length list ≤ length marks
 listed-fits {marks} h = omega (arith, h.all, ones-zeros marks)
+
+-- the slices stay where nothing is written, and through two calls
+pub kept_none : (q : Queue) → Queued q → Kept q q
+kept_none q h = record { marks = refl; queue = refl; queued = h }
+
+pub kept-on : {q q' q'' : Queue} → Kept q q' → Kept q' q'' → Kept q q''
+kept-on a b = record { marks = b.marks ∙ a.marks; queue = b.queue ∙ a.queue; queued = b.queued }

@@ -2,36 +2,29 @@
 ghost use Rattle.std.specs.Prelude.{◌≡◌, ◌<◌, ◌≤◌, [], length, slice_index, replicate, drop};
 ghost use Rattle.strong_connection.specs.inner.Graph.{successors};
 ghost use Rattle.request_queue.specs.inner.Growing.{node_limit, Listed, among, Grown, Along, Reached};
+ghost use Rattle.request_queue.specs.inner.Lent.{listing, Queued, Kept};
 
-use std::marker::Model;
 use strong_connection::inner::Digraph;
 
-// A list of places that grows in a slice, each member once. Contracts see it, and the marks: a member's is one more than its place in the list, every other is 0.
+// A list of places that grows in a slice, each member once. Contracts see it, and the marks, by `listing`: a member's mark is one more than its place in the list, every other is 0.
+// Its slices are the caller's, so that what is promised of the list is promised of them too: with an `impl Model`, or one lifetime for both, the check loses them.
 // The fields are open here and in the other values that grow in slices, so that any that are right can be lent as one.
 #[derive(Drop)]
-pub struct Queue<'a> {
+pub struct Queue<'a, 'b> {
     pub marks: &'a mut [u32],
-    pub queue: &'a mut [u32],
+    pub queue: &'b mut [u32],
     pub count: usize,
 }
 
-impl<'a> Model for Queue<'a> {
-    ghost use Rattle.std.specs.Prelude.{take};
-    ghost use Rattle.request_queue.specs.inner.Growing.{Listing, Standing};
-
-    ghost Value = { Listing };
-
-    ghost view = { λ q. record { marks = q.marks.now; list = take q.count q.queue.now } };
-
-    ghost invariant = { λ q. Standing q.marks.now q.queue.now q.count };
-}
-
-impl<'a> Queue<'a> {
+impl<'a, 'b> Queue<'a, 'b> {
     // An empty one in two slices.
-    pub fn new(marks: &'a mut [u32], queue: &'a mut [u32]) -> Queue<'a>
+    pub fn new(marks: &'a mut [u32], queue: &'b mut [u32]) -> Queue<'a, 'b>
         requires room { length queue.old ≡ length marks.old }
         requires few { length marks.old ≤ node_limit }
-        ensures { result ≡ record { marks = replicate (length marks.old) 0; list = [] } }
+        ensures marks { result.marks.ghost_name ≡ marks.entry.ghost_name }
+        ensures queue { result.queue.ghost_name ≡ queue.entry.ghost_name }
+        ensures queued { Queued result }
+        ensures empty { listing result ≡ record { marks = replicate (length marks.old) 0; list = [] } }
     {
         marks.fill(0);
         Queue {
@@ -43,32 +36,35 @@ impl<'a> Queue<'a> {
 
     // How many are listed.
     pub fn len(&self) -> usize
-        ensures count { result ≡ length self.now.list }
-        ensures listed { Listed self.now.marks self.now.list }
+        requires { Queued self.now }
+        ensures count { result ≡ length (listing self.now).list }
+        ensures listed { Listed (listing self.now).marks (listing self.now).list }
     {
         self.count
     }
 
     // The marks.
-    pub fn marks<'b>(&'b self) -> &'b [u32]
-        ensures { result.now ≡ self.now.marks }
+    pub fn marks<'c>(&'c self) -> &'c [u32]
+        ensures { result.now ≡ (listing self.now).marks }
     {
         self.marks
     }
 
     // Those listed from place k on.
-    pub fn since<'b>(&'b self, k: usize) -> &'b [u32]
-        requires { k ≤ length self.now.list }
-        ensures { result.now ≡ drop k self.now.list }
+    pub fn since<'c>(&'c self, k: usize) -> &'c [u32]
+        requires queued { Queued self.now }
+        requires from { k ≤ length (listing self.now).list }
+        ensures { result.now ≡ drop k (listing self.now).list }
     {
         &self.queue[k..self.count]
     }
 
     // The one at place k.
     pub fn at(&self, k: usize) -> u32
-        requires { k < length self.now.list }
-        ensures member { result ≡ slice_index self.now.list k }
-        ensures place { result < length self.now.marks }
+        requires queued { Queued self.now }
+        requires place { k < length (listing self.now).list }
+        ensures member { result ≡ slice_index (listing self.now).list k }
+        ensures place { result < length (listing self.now).marks }
     {
         let queue = &self.queue;
         queue[k]
@@ -76,8 +72,10 @@ impl<'a> Queue<'a> {
 
     // Lists x where it isn't listed yet.
     pub fn push(&mut self, x: u32)
-        requires { x < length self.old.marks }
-        ensures { Grown (λ y. y ≡ x) self.old self.new }
+        requires queued { Queued self.old }
+        requires place { x < length (listing self.old).marks }
+        ensures kept { Kept self.old self.new }
+        ensures grown { Grown (λ y. y ≡ x) (listing self.old) (listing self.new) }
     {
         let at = x as usize;
         if self.marks[at] != 0 {
@@ -90,9 +88,11 @@ impl<'a> Queue<'a> {
 
     // Lists what x leads to.
     fn follow(&mut self, graph: &Digraph, x: u32)
-        requires size { length self.old.marks ≡ graph.now.places }
+        requires queued { Queued self.old }
+        requires size { length (listing self.old).marks ≡ graph.now.places }
         requires place { x < graph.now.places }
-        ensures { Grown (among (successors graph.now x)) self.old self.new }
+        ensures kept { Kept self.old self.new }
+        ensures grown { Grown (among (successors graph.now x)) (listing self.old) (listing self.new) }
     {
         for target in graph.targets(x) {
             self.push(target);
@@ -101,10 +101,12 @@ impl<'a> Queue<'a> {
 
     // Lists all that x leads to by one or more edges; what is listed before is closed along the edges.
     pub fn reach(&mut self, graph: &Digraph, x: u32)
-        requires size { length self.old.marks ≡ graph.now.places }
+        requires queued { Queued self.old }
+        requires size { length (listing self.old).marks ≡ graph.now.places }
         requires place { x < graph.now.places }
-        requires along { Along (successors graph.now) self.old.marks }
-        ensures { Reached (successors graph.now) x self.old self.new }
+        requires along { Along (successors graph.now) (listing self.old).marks }
+        ensures kept { Kept self.old self.new }
+        ensures reached { Reached (successors graph.now) x (listing self.old) (listing self.new) }
     {
         let mut k = self.len();
         self.follow(graph, x);

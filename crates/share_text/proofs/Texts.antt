@@ -3,13 +3,16 @@
 use mathlib.Core.Path.{◌≡◌, sym, ap, ap₂, subst, ◌∙◌}
 use mathlib.Core.Logic.{inl, inr, ⊎_elim}
 use mathlib.Core.List.{List}
-use Prim.Native.Nat.{ℕ}
+use Prim.Native.Nat.{ℕ, ◌≤◌}
+use native.Mathlib.Omega.{arith}
+use lib.ListN.{length, drop, length-append}
 use Rattle.table.specs.declared.Table.{Table}
 use Rattle.table.specs.Table.{Lent}
 use Rattle.arrangement.specs.OfProject.{as_named, named_lent}
 use Rattle.named_form.specs.NamedForm.{lent_names}
-use Rattle.listing.specs.Reading.{values_of, bounds_of}
+use Rattle.listing.specs.Reading.{values_of, bounds_of, Reads}
 use Rattle.listing.specs.AsTable.{ReadText}
+use Rattle.listing.specs.declared.Reading.{Reading}
 use Rattle.std.specs.Prelude.{Result, Ok, Err}
 use Rattle.listing.proofs.Answered.{text-lent}
 use Rattle.tables.specs.declared.Refusal.{Refusal}
@@ -18,6 +21,15 @@ use Rattle.share_totals.specs.Within.{Fits}
 use Rattle.shares.specs.Promise.{outcome_of}
 use Rattle.shares.proofs.Promise.{project-fits}
 use Rattle.share_text.specs.Texts.{TextOutcome}
+
+module _ (s settings settings' bounds bounds' columns columns' : List ℕ) (read : Reading) (a : Reads s settings settings' bounds bounds' columns columns' (Ok read)) where
+  -- the values that were read stand in the columns
+  pub text-room : read.values ≤ length columns'
+  text-room = omega (arith, a.3, ap length a.6, length-append (values_of a.0) (drop (length (values_of a.0)) columns))
+
+  -- and the names in the text
+  pub text-names : (read.from ≤ read.to) × (read.to ≤ length s)
+  text-names = (a.7.0, a.7.1)
 
 -- 7 where the text is no project's
 pub text-refused : (s : List ℕ) (e : Refusal) → ReadText s (Err e) → TextOutcome s (Err e)

@@ -46,6 +46,10 @@ module _ (dynamic : ℕ) (normal kind target : List ℕ) (row : ℕ) where
   abbrev pub led : List ℕ
   led = row_targets (is_static dynamic) any_target normal kind target row
 
+  -- another kind leads nowhere
+  pub led-kind : is_static dynamic (get_or kind row 0) ≡ false → led ≡ []
+  led-kind e = rw e
+
   -- a target that is there is the row's, and not the mark
   there : (t : ℕ) → any_target (resolved normal target row) ≡ t ∷ [] → (eqb (get_or target row 0) missing ≡ false) × (get_or target row 0 ≡ t)
   unfolding resolved

@@ -13,6 +13,7 @@ use Rattle.walk.specs.Walk.{St, everywhere, Visits}
 use Rattle.walk.proofs.Visits.{set-zeros}
 use Rattle.walk.proofs.Going.{Going, going_start, going-row, going-found, going_end, met-visited, left-visited, visited-then}
 use Rattle.tables.specs.Project.{Project, missing}
+use Rattle.tables.specs.Accepted.{BelowOrMissing}
 use Rattle.tables.specs.Lookups.{FirstRow}
 use Rattle.tables.specs.Readings.{is_static, any_target, row_targets, targets_of}
 use Rattle.tables.proofs.Rows.{run-ordered, targets-of-run}
@@ -130,6 +131,11 @@ module _ (p : Project) where
                 lists = omega (arith, k.lists, one_less, r.lists, k.sorted-len);
                 counts = omega (arith, k.counts, one_less, r.counts);
               }
+
+          pub row_in : u.row < end → (u.row < length p.record_kind) × (u.row < length p.record_target) × BelowOrMissing (length u.at.ms) p.record_target
+          row_in less =
+              let q = ready.0.fit in
+              (omega (arith, q.kinds, end_is.within), omega (arith, q.targets, end_is.within), subst (λ (n : ℕ). BelowOrMissing n p.record_target) (sym marks-len) q.within)
 
           -- a row that leads to nothing unmet
           abbrev pub skip : u.row < end → unmet_of u.at.ms (rows u.row) ≡ [] → Turn

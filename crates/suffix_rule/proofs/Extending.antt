@@ -1,14 +1,15 @@
 -- Rule (i) by orders: the suffix of one order, of several in turn, and orders that need no second look.
 -- Assumes nothing.
-use Rattle.std.specs.Prelude.{◌≡◌, ℕ, ◌+◌, ◌-◌, ◌<◌, ◌≤◌, Bool, true, false, not, ◌&&◌, ◌||◌, List, [], ◌∷◌, ◌++◌, map, length, get_or, take, drop}
+use Rattle.std.specs.Prelude.{◌≡◌, ℕ, zero, suc, ◌+◌, ◌-◌, ◌<◌, ◌≤◌, Bool, true, false, not, ◌&&◌, ◌||◌, List, [], ◌∷◌, ◌++◌, map, length, get_or, take, drop}
 use mathlib.Core.Path.{refl, sym, ap, subst, ◌∙◌, fun_ext}
 use mathlib.Core.Logic.{inl, inr, ⊎_elim}
 use mathlib.Core.Bool.{false≢true}
 use mathlib.Core.List.{map-append, Memᴰ}
+use native.Mathlib.Numerals.{add-one}
 use native.Mathlib.Omega.{arith}
 use native.Mathlib.Decide.{dec_lt}
 use lib.ListN.{length-drop, length-set}
-use lib.Seq.{get_or-drop}
+use lib.Seq.{get_or-drop, drop-cons}
 use Rattle.lists.specs.Words.{is_zero, keep, any, elem, has, ones}
 use Rattle.lists.proofs.Laws.{both, and_parts, and-join, any_append, mem-keep, keep-mem, elem_mem, mem-elem, any-mem, mem-any, take_more, ones-zeros, get_d-in}
 use Rattle.lists.proofs.Members.{mem-at, get_d-mem}
@@ -205,6 +206,22 @@ module _ (p : Project) (roots sensitive eligible S : List ℕ) where
       let k : r.0 < length settled = omega (arith, r.1) in
       let marked : has settled r.0 ≡ true = ap not (ap is_zero (get_d-in settled r.0 0 1 k) ∙ none-fresh settled r.0 (omega (arith, ones-zeros settled))) in
       s r.0 r.1 marked m (subst (λ (x : ℕ). Memᴰ m (expected_of p x)) (sym r.2) i) q g)
+
+-- the values of what is left of a list are below what the list's are
+pub below-drop : (n k : ℕ) (xs : List ℕ) → Below n xs → Below n (drop k xs)
+below-drop n k xs b i l = rw (get_or-drop k xs i 0) (b (k + i) (omega (arith, length-drop k xs)))
+
+-- the marks that are left, from place i on
+pub ones_in : (s : List ℕ) (i : ℕ) → i < length s → (get_or s i 0 ≡ 0 → ⊥) → ones (drop i s) ≡ suc (ones (drop (i + 1) s))
+ones_in s i l n = ap ones (drop-cons s i 0 l) ∙ one (get_or s i 0) n ∙ ap (λ (j : ℕ). suc (ones (drop j s))) (sym (add-one i))
+  where
+    one : (x : ℕ) → (x ≡ 0 → ⊥) → ones (x ∷ drop (suc i) s) ≡ suc (ones (drop (suc i) s))
+    one zero e = absurd (e refl)
+    one (suc x) e = refl
+
+pub ones-out : (s : List ℕ) (i : ℕ) → i < length s → get_or s i 0 ≡ 0 → ones (drop i s) ≡ ones (drop (i + 1) s)
+ones-out s i l e =
+    ap ones (drop-cons s i 0 l) ∙ ap (λ (x : ℕ). ones (x ∷ drop (suc i) s)) e ∙ ap (λ (j : ℕ). ones (drop j s)) (sym (add-one i))
 
 -- a pass over the roots: those before k are done
 module _ (p : Project) (roots sensitive eligible plan₀ : List ℕ) where

@@ -1,7 +1,7 @@
 -- What is noted for rule (i), and when nothing new has to be.
 -- Assumes nothing.
 use Rattle.std.specs.Prelude.{◌≡◌, ℕ, ◌+◌, ◌-◌, ◌<◌, ◌≤◌, true, ◌⊎◌, List, length, get_or, drop, replicate}
-use mathlib.Core.Path.{sym, ap, subst, ◌∙◌}
+use mathlib.Core.Path.{refl, sym, ap, subst, ◌∙◌}
 use mathlib.Core.Logic.{inl, ⊎_elim}
 use mathlib.Core.List.{Memᴰ}
 use native.Mathlib.Omega.{arith}
@@ -25,6 +25,8 @@ use Rattle.request_queue.specs.inner.Growing.{Listed}
 use Rattle.suffix_places.specs.inner.Places.{never, Small, Lowest, Stands}
 use Rattle.worklist_taking.specs.inner.State.{RuleNotes, Batch}
 use Rattle.worklist_taking.proofs.Places.{place}
+use Rattle.worklist_batch.specs.declared.inner.Notes.{Notes}
+use Rattle.worklist_batch.specs.inner.Lent.{NotesLed, NotesKept}
 
 -- filled with `never`
 pub all_small : (xs : List ℕ) (n : ℕ) → xs ≡ replicate n never → Small xs
@@ -74,3 +76,10 @@ module _ (p : Project) (ok : Accepted p) (placed list : List ℕ) (notes : RuleN
         let r = expected-reached p ok root m i (subst (λ (y : ℕ). Memᴰ y (expected_of p root)) s.named (get_d-mem (expected_of p root) s.at s.there)) in
         inl (shut m (omega (arith, n, has_in (eligible_marks p) m g, Rattle.lists.proofs.Laws.length-marks_of (Rattle.eligibility.specs.Eligible.eligible p) (modules p))) s.late (parts-candidate p m e r));
   }
+
+-- the slices stay where nothing is written, and through two calls
+pub kept_notes : (n : Notes) → NotesLed n → NotesKept n n
+kept_notes n h = record { settled = refl; asked = refl; heads = refl; nexts = refl; led = h }
+
+pub kept-notes-on : {n n' n'' : Notes} → NotesKept n n' → NotesKept n' n'' → NotesKept n n''
+kept-notes-on a b = record { settled = b.settled ∙ a.settled; asked = b.asked ∙ a.asked; heads = b.heads ∙ a.heads; nexts = b.nexts ∙ a.nexts; led = b.led }

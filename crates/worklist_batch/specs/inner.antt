@@ -1,2 +1,3 @@
 -- What only inner contracts and proofs speak of.
 pub mod Noting
+pub mod Lent

@@ -3,14 +3,15 @@ ghost use Rattle.std.specs.Prelude.{◌≡◌, ℕ, ◌+◌, ◌<◌, ◌≤◌,
 ghost use Rattle.lists.specs.Words.{has};
 ghost use Rattle.tables.specs.Accepted.{Below};
 ghost use Rattle.suffix_places.specs.inner.Places.{never};
+ghost use Rattle.request_queue.specs.inner.Lent.{listing, Queued};
 ghost use Rattle.worklist_taking.specs.inner.State.{Batch};
 ghost use Rattle.worklist_batch.specs.inner.Noting.{NoteRoom, Noting, Batching, Advanced};
+ghost use Rattle.worklist_batch.specs.inner.Lent.{notes_of, NotesLed, NotesKept};
 
 use lists::inner::fill;
 use marks::inner::any_open;
 use request_queue::inner::Queue;
 use rule_sets::inner::{ReachedSet, RootSets};
-use std::marker::Model;
 use suffix_places::inner::{NEVER, lower_entries};
 use threads::inner::{Threads, thread};
 
@@ -29,36 +30,30 @@ fn any_sensitive(part: &[u32], sensitive: &[u32]) -> bool
 }
 
 // What is noted for rule (i), in lent slices: the settled roots, and of each module the number of takings after which the rule asks for it, threaded.
-// Contracts see it without the threads.
+// Contracts see it without the threads, by `notes_of`.
 #[derive(Drop)]
-pub struct Notes<'a> {
+pub struct Notes<'a, 'b, 'c, 'd> {
     pub settled: &'a mut [u32],
-    pub asked: &'a mut [u32],
-    pub heads: &'a mut [u32],
-    pub nexts: &'a mut [u32],
+    pub asked: &'b mut [u32],
+    pub heads: &'c mut [u32],
+    pub nexts: &'d mut [u32],
 }
 
-impl<'a> Model for Notes<'a> {
-    ghost use Rattle.worklist_taking.specs.inner.State.{RuleNotes};
-    ghost use Rattle.worklist_batch.specs.inner.Noting.{Led};
-
-    ghost Value = { RuleNotes };
-
-    ghost view = { λ n. record { settled = n.settled.now; asked = n.asked.now } };
-
-    ghost invariant = { λ n. Led n.asked.now n.heads.now n.nexts.now };
-}
-
-impl<'a> Notes<'a> {
+impl<'a, 'b, 'c, 'd> Notes<'a, 'b, 'c, 'd> {
     // The rule asks for nothing; `settled` is as it is lent.
     pub fn new(
         settled: &'a mut [u32],
-        asked: &'a mut [u32],
-        heads: &'a mut [u32],
-        nexts: &'a mut [u32],
-    ) -> Notes<'a>
+        asked: &'b mut [u32],
+        heads: &'c mut [u32],
+        nexts: &'d mut [u32],
+    ) -> Notes<'a, 'b, 'c, 'd>
         requires { NoteRoom asked.old heads.old nexts.old }
-        ensures { result ≡ record { settled = settled.old; asked = replicate (length asked.old) never } }
+        ensures settled { result.settled.ghost_name ≡ settled.entry.ghost_name }
+        ensures asked { result.asked.ghost_name ≡ asked.entry.ghost_name }
+        ensures heads { result.heads.ghost_name ≡ heads.entry.ghost_name }
+        ensures nexts { result.nexts.ghost_name ≡ nexts.entry.ghost_name }
+        ensures led { NotesLed result }
+        ensures empty { notes_of result ≡ record { settled = settled.old; asked = replicate (length asked.old) never } }
     {
         fill(asked, NEVER);
         thread(asked, heads, nexts);
@@ -71,8 +66,9 @@ impl<'a> Notes<'a> {
     }
 
     // The modules by the number of takings.
-    pub fn threads<'b>(&'b self) -> Threads<'b>
-        ensures { result ≡ record { values = self.now.asked; places = never + 1 } }
+    pub fn threads<'e>(&'e self) -> Threads<'e>
+        requires { NotesLed self.now }
+        ensures { result ≡ record { values = (notes_of self.now).asked; places = never + 1 } }
     {
         Threads {
             column: self.asked,
@@ -83,8 +79,10 @@ impl<'a> Notes<'a> {
 
     // Notes after how many takings the rule asks for each module, for all that are listed.
     fn note(&mut self, rooted: &RootSets, placed: &[u32])
-        requires noting { Noting rooted.now placed.now self.old }
-        ensures { (end : ℕ) → Batch rooted.now placed.now self.new end }
+        requires led { NotesLed self.old }
+        requires noting { Noting rooted.now placed.now (notes_of self.old) }
+        ensures kept { NotesKept self.old self.new }
+        ensures batch { (end : ℕ) → Batch rooted.now placed.now (notes_of self.new) end }
     {
         // one by one: Rattle doesn't cover a call with two fields of `self`
         let settled = &mut *self.settled;
@@ -117,8 +115,11 @@ pub fn advance(
     end: usize,
 ) -> usize
     requires same { reached.now ≡ rooted.now }
-    requires batch { Batching rooted.now list.now notes.old k end }
-    ensures { Advanced rooted.now list.now k notes.new result }
+    requires queued { Queued list.now }
+    requires led { NotesLed notes.old }
+    requires batch { Batching rooted.now (listing list.now) (notes_of notes.old) k end }
+    ensures kept { NotesKept notes.old notes.new }
+    ensures advanced { Advanced rooted.now (listing list.now) k (notes_of notes.new) result }
 {
     if k < end {
         return end;

@@ -4,18 +4,23 @@ ghost use Rattle.lists.specs.Words.{has, marks_of};
 ghost use Rattle.tables.specs.Accepted.{Below};
 ghost use Rattle.tables.specs.Refusal.{module_limit};
 ghost use Rattle.request_queue.specs.inner.Growing.{Grown, given, chosen};
+ghost use Rattle.request_queue.specs.inner.Lent.{listing, Queued, Kept};
 ghost use Rattle.worklist_ends.specs.inner.Ends.{ListWritten};
 
 use request_queue::inner::Queue;
 
 // Lists the eligible seeds.
 pub fn list_seeds(seeds: &[u32], eligible: &[u32], list: &mut Queue)
+    requires queued { Queued list.old }
     requires seeds { Below (length eligible.now) seeds.now }
-    requires eligible { length list.old.marks ≡ length eligible.now }
-    ensures { Grown (given (chosen eligible.now) seeds.now) list.old list.new }
+    requires eligible { length (listing list.old).marks ≡ length eligible.now }
+    ensures kept { Kept list.old list.new }
+    ensures grown { Grown (given (chosen eligible.now) seeds.now) (listing list.old) (listing list.new) }
 {
     for &m in seeds {
-        if eligible[m as usize] == 0 {
+        // named, so that no answer of the proof names the test
+        let ineligible = eligible[m as usize] == 0;
+        if ineligible {
             continue;
         }
         list.push(m);

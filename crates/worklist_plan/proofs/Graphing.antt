@@ -34,6 +34,10 @@ edge_in p u v e =
     q)
     e
 
+-- added to a list that is this one
+pub requests-from : (p : Project) {e e' e'' : EdgeRows} → e' ≡ e → Requests p e' e'' → Requests p e e''
+requests-from p q a = rw q at a
+
 -- the edges that are added to none
 module _ (p : Project) (room : ℕ) (e : EdgeRows) (a : Requests p (record { from = []; to = []; room = room }) e) where
   edge_at : (i : ℕ) → i < length e.from → RequestEdge p (get_or e.from i 0) (get_or e.to i 0)

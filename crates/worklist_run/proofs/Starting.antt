@@ -12,7 +12,9 @@ use Rattle.reached_modules.proofs.Choosing.{few-roots}
 use Rattle.rule_sets.specs.inner.Sets.{Rooted}
 use Rattle.rule_sets.proofs.Blank.{blank-none}
 use Rattle.suffix_places.specs.inner.Places.{never}
-use Rattle.worklist_taking.specs.inner.State.{Batch}
+use Rattle.request_queue.specs.inner.Growing.{Listing}
+use Rattle.worklist_taking.specs.inner.State.{RuleNotes, Batch}
+use Rattle.worklist.specs.inner.Taking.{blank, Fresh}
 
 take-zeros : (n K : ℕ) → n ≤ K → take {A = ℕ} n (replicate K 0) ≡ replicate n 0
 take-zeros zero K l = refl
@@ -35,3 +37,7 @@ batch-none p = record {
   sound = λ m l e. absurd (omega (arith, e, get_or-replicate (modules p) m never 0 l));
   all = λ root x m i s c. absurd (blank-none (modules p) x c);
 }
+
+-- so nothing is met or listed, and what is noted is right
+pub fresh-run : {p : Project} {met list : Listing} {notes : RuleNotes} → met ≡ blank 49152 → list ≡ blank (modules p) → notes ≡ record { settled = replicate (length (roots p)) 0; asked = replicate (modules p) never } → Fresh p met list notes
+fresh-run {p} a b n = record { none = a; empty = b; batch = rw (b, n) (batch-none p) }

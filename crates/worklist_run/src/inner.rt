@@ -43,13 +43,9 @@ pub fn run_linked(
     let mut marks = [0u32; NODES];
     let mut queue = [0u32; NODES];
     let mut met = Queue::new(&mut marks, &mut queue);
-    let mut places = [0u32; MODULE_LIMIT];
     let mut listed = [0u32; MODULE_LIMIT];
-    let mut list = Queue::new(&mut places[..n], &mut listed[..n]);
-    let count = take_all(
+    let mut list = Queue::new(placed, &mut listed[..n]);
+    take_all(
         rooted, reached, graph, seeds, &mut met, &mut list, &mut notes, lengths,
-    );
-    // copied, since what a slice holds isn't known once a Queue has had it
-    placed.copy_from_slice(list.marks());
-    count
+    )
 }

@@ -3,6 +3,7 @@ ghost use Rattle.std.specs.Prelude.{◌≡◌, ◌<◌, ◌≤◌, length};
 ghost use Rattle.tables.specs.Readings.{rows_of};
 ghost use Rattle.tables.specs.Refusal.{module_limit};
 ghost use Rattle.request_queue.specs.inner.Growing.{Grown, given, chosen};
+ghost use Rattle.request_queue.specs.inner.Lent.{listing, Queued, Kept};
 ghost use Rattle.worklist_step.specs.inner.Step.{nodes, Half, Given, Gives, Steppable, Stepped};
 
 use request_graph::inner::{DEPENDENT, LABEL, LEAD, REQUEST};
@@ -62,8 +63,10 @@ fn module_of(v: u32, marks: &[u32], candidates: &[u32]) -> Option<u32>
 fn list_requests(part: &[u32], marks: &[u32], candidates: &[u32], list: &mut Queue)
     requires places { length marks.now ≡ nodes }
     requires few { length candidates.now ≤ module_limit }
-    requires size { length list.old.marks ≡ length candidates.now }
-    ensures { Grown (given (Gives marks.now candidates.now) part.now) list.old list.new }
+    requires queued { Queued list.old }
+    requires size { length (listing list.old).marks ≡ length candidates.now }
+    ensures kept { Kept list.old list.new }
+    ensures grown { Grown (given (Gives marks.now candidates.now) part.now) (listing list.old) (listing list.new) }
 {
     for &v in part {
         let Some(m) = module_of(v, marks, candidates) else {
@@ -78,8 +81,10 @@ fn list_asked(asked: &Threads, eligible: &[u32], list: &mut Queue, at: u32)
     requires place { at < asked.now.places }
     requires few { length asked.now.values ≤ module_limit }
     requires eligible { length eligible.now ≡ length asked.now.values }
-    requires size { length list.old.marks ≡ length asked.now.values }
-    ensures { Grown (given (chosen eligible.now) (rows_of asked.now.values at)) list.old list.new }
+    requires queued { Queued list.old }
+    requires size { length (listing list.old).marks ≡ length asked.now.values }
+    ensures kept { Kept list.old list.new }
+    ensures grown { Grown (given (chosen eligible.now) (rows_of asked.now.values at)) (listing list.old) (listing list.new) }
 {
     for m in asked.rows(at) {
         if eligible[m] == 0 {
@@ -99,8 +104,12 @@ pub fn step(
     list: &mut Queue,
     k: usize,
 )
-    requires { Steppable graph.now candidates.now eligible.now asked.now met.old list.old k }
-    ensures { Stepped graph.now candidates.now eligible.now asked.now.values met.old list.old k met.new list.new }
+    requires met { Queued met.old }
+    requires list { Queued list.old }
+    requires steppable { Steppable graph.now candidates.now eligible.now asked.now (listing met.old) (listing list.old) k }
+    ensures met { Kept met.old met.new }
+    ensures list { Kept list.old list.new }
+    ensures stepped { Stepped graph.now candidates.now eligible.now asked.now.values (listing met.old) (listing list.old) k (listing met.new) (listing list.new) }
 {
     // so k + 1 is small: no more are listed than there are modules
     prove!(k < list.len());

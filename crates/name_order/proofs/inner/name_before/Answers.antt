@@ -6,8 +6,11 @@ use lib.Seq.{take_all}
 use Rattle.names.specs.Names.{start_byte}
 use Rattle.name_order.specs.Sooner.{sooner}
 use Rattle.name_order.specs.inner.Lines.{first_line}
-use Rattle.name_order.proofs.LinesAt.{name-stop, name-short, name-less, name-more}
+use Rattle.name_order.proofs.LinesAt.{name-same, name-stop, name-short, name-less, name-more}
 use Rattle.name_order.proofs.inner.name_before.Goals as goal
+
+pub returns-then-a-b : goal.returns-then-a-b
+returns-then-a-b c = name-same c.args.names.now c.args.a c.args.b c.if-a-b.true
 
 pub returns-then-y-eq10 : goal.returns-then-y-eq10
 returns-then-y-eq10 c = name-stop c.args.names.now c.args.a c.args.b (sym c.byte_at-y.ensures ∙ c.if-y-eq10.true)
@@ -30,7 +33,7 @@ returns c =
     let x = c.turn-first.ensures ∙ ap start_byte c.byte_at-x.ensures in
     let y = c.turn-other.ensures ∙ ap start_byte c.byte_at-y.ensures in
     let whole : (at : ℕ) → first_line (take (length s - at) (drop at s)) ≡ first_line (drop at s) = λ at. ap first_line (take_all (length s - at) (drop at s) (omega (arith, length-drop at s))) in
-    c.line_before.ensures
+    c.rest_before.ensures
     ∙ ap (λ (l : List ℕ). sooner l (first_line (take (length s - (c.args.b + 1)) (drop (c.args.b + 1) s)))) (whole (c.args.a + 1))
     ∙ ap (sooner (first_line (drop (c.args.a + 1) s))) (whole (c.args.b + 1))
     ∙ name-more s c.args.a c.args.b (λ e. c.if-x-eq10.false (c.byte_at-x.ensures ∙ e)) (λ e. c.if-y-eq10.false (c.byte_at-y.ensures ∙ e)) (sym x ∙ c.if-first-other.false ∙ y)

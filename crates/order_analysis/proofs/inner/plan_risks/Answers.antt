@@ -9,18 +9,20 @@ use Rattle.order_analysis.proofs.inner.plan_risks.Goals as goal
 
 pub mark_table_seeds-requires-clause-eligible : goal.mark_table_seeds-requires-clause-eligible
 mark_table_seeds-requires-clause-eligible c =
-    let p = c.args.current.now in
-    ap length (rw (c.labelled.view_is, c.read_labels-labelled.ensures) at c.labelled.inside.sets.sets.eligible_set) ∙ length-marks_of (eligible p) (modules p)
+    let p = c.args.labelled.now in
+    rw c.labelled.view_is (ap length (rw c.labelled.view_is at c.labelled.inside.sets.sets.eligible_set) ∙ length-marks_of (eligible p) (modules p))
 
 pub mark_table_seeds-requires-clause-plan : goal.mark_table_seeds-requires-clause-plan
-mark_table_seeds-requires-clause-plan c = let p = c.args.current.now in ap length c.requires ∙ length-marks_of (risks_of p) (modules p)
+mark_table_seeds-requires-clause-plan c =
+    let p = c.args.labelled.now in
+    rw c.labelled.view_is (ap length c.requires ∙ length-marks_of (risks_of p) (modules p))
 
 pub build_order_wrap_plan-requires : goal.build_order_wrap_plan-requires
 build_order_wrap_plan-requires c =
-    let k = rw (c.labelled.view_is, c.read_labels-labelled.ensures) at c.labelled.inside.sets.sets.eligible_set in
-    rw c.read_labels-labelled.ensures (whole-marked c.args.current.now k c.requires c.mark_table_seeds.ensures)
+    let k = rw c.labelled.view_is at c.labelled.inside.sets.sets.eligible_set in
+    whole-marked c.args.labelled.now k c.requires (rw c.labelled.view_is at c.mark_table_seeds.ensures)
 
 pub returns : goal.returns
 returns c =
-    let k = rw (c.labelled.view_is, c.read_labels-labelled.ensures) at c.labelled.inside.sets.sets.eligible_set in
-    whole-planned c.args.current.now k c.requires c.mark_table_seeds.ensures (rw c.read_labels-labelled.ensures at c.build_order_wrap_plan.ensures)
+    let k = rw c.labelled.view_is at c.labelled.inside.sets.sets.eligible_set in
+    whole-planned c.args.labelled.now k c.requires (rw c.labelled.view_is at c.mark_table_seeds.ensures) c.build_order_wrap_plan.ensures

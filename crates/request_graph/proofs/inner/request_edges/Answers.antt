@@ -5,6 +5,7 @@ use Rattle.tables.specs.Readings.{modules}
 use Rattle.marks.proofs.Parts.{part_length}
 use Rattle.rule_sets.proofs.Sizes.{sensitive-size, eligible-size}
 use Rattle.request_edges.specs.inner.Edges.{numbered}
+use Rattle.request_edges.proofs.Adding.{edges-kept-on}
 use Rattle.request_graph.proofs.Edging.{requests-on}
 use Rattle.request_graph.proofs.inner.request_edges.Goals as goal
 
@@ -23,4 +24,8 @@ returns c =
     let n = rw c.labelled.view_is at c.modules-n.ensures in
     let sets = rw c.labelled.view_is at c.labelled.inside.sets.sets in
     let own : c.number.new.out ≡ numbered (modules c.args.labelled.now) = c.number.ensures ∙ ap numbered (part_length 4096 _ n.few ∙ n.count) in
-    requests-on _ (rw (own, c.number_chosen.ensures, sets.sensitive_set, sets.eligible_set) at c.add_component_edges.ensures) (rw (c.labelled.view_is, own) at c.add_import_edges.ensures) (rw c.requires.same at c.add_symbol_edges.ensures)
+    record {
+      kept = edges-kept-on c.add_component_edges.ensures.kept (edges-kept-on c.add_import_edges.ensures.kept c.add_symbol_edges.ensures.kept);
+      requests =
+          requests-on _ (rw (own, c.number_chosen.ensures, sets.sensitive_set, sets.eligible_set) at c.add_component_edges.ensures.adds) (rw (c.labelled.view_is, own) at c.add_import_edges.ensures.adds) (rw c.requires.same at c.add_symbol_edges.ensures.adds);
+    }

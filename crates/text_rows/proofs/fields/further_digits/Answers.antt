@@ -11,12 +11,12 @@ returns-then-d-lt48 c =
 pub returns-then-n : goal.returns-then-n
 returns-then-n c =
     let l = c.loop-k in
-    l.invariant.2 ∙ part-big c.args.s.now c.args.from l.k l.v c.loop-k-test.true c.if-d-lt48.false c.if-d-gt57.false c.if-n.true
+    l.invariant.2 ∙ part-big c.args.s.now c.args.from l.k l.v c.loop-k-test.true c.if-d-lt48.false c.if-d-gt57.false (omega arith)
 
 pub loop-k-preserved : goal.loop-k-preserved
 loop-k-preserved c =
     let l = c.loop-k in
-    (omega arith, c.if-n.false, l.invariant.2 ∙ part-more c.args.s.now c.args.from l.k l.v c.loop-k-test.true c.if-d-lt48.false c.if-d-gt57.false c.if-n.false)
+    (omega arith, omega arith, l.invariant.2 ∙ part-more c.args.s.now c.args.from l.k l.v c.loop-k-test.true c.if-d-lt48.false c.if-d-gt57.false (omega arith))
 
 pub returns : goal.returns
 returns c =

@@ -1,9 +1,12 @@
 -- `take_all`: it starts from the seeds, and each step is one taking more.
 -- Assumes nothing.
-use Rattle.std.proofs.Common.{ℕ, sym, ◌∙◌, arith}
+use Rattle.std.proofs.Common.{ℕ, length, ap, sym, ◌∙◌, arith}
 use lib.ListN.{length-replicate}
 use Rattle.tables.specs.Readings.{modules}
 use Rattle.rule_sets.proofs.Sizes.{eligible-size}
+use Rattle.request_queue.specs.inner.Growing.{Listing}
+use Rattle.request_queue.proofs.Growing.{kept_none, kept-on}
+use Rattle.worklist_batch.proofs.Noting.{kept_notes, kept-notes-on}
 use Rattle.worklist.proofs.Running.{running-start, noted-start, steppable, running-next, noted-next, listed_few}
 use Rattle.worklist.proofs.inner.take_all.Goals as goal
 
@@ -15,21 +18,27 @@ list_seeds-requires-clause-seeds c =
 pub list_seeds-requires-clause-eligible : goal.list_seeds-requires-clause-eligible
 list_seeds-requires-clause-eligible c =
     let sets = rw c.rooted.view_is at c.rooted.inside.sets.sets in
-    rw c.requires.fresh.empty (length-replicate {A = ℕ} (modules c.args.rooted.now) 0) ∙ sym (eligible-size _ sets.eligible_set)
+    ap (λ (l : Listing). length l.marks) c.requires.fresh.empty ∙ length-replicate {A = ℕ} (modules c.args.rooted.now) 0 ∙ sym (eligible-size _ sets.eligible_set)
 
 pub loop-k-init : goal.loop-k-init
 loop-k-init c =
     let s = rw c.rooted.view_is at c.rooted.invariant in
     let sets = rw c.rooted.view_is at c.rooted.inside.sets.sets in
-    let h = rw sets.eligible_set at c.list_seeds.ensures in
-    record { running = running-start _ s.accepted _ _ c.requires.graph c.requires.fresh h; noted = noted-start _ _ _ _ }
+    let h = rw sets.eligible_set at c.list_seeds.ensures.grown in
+    record {
+      met = kept_none _ c.requires.met;
+      list = c.list_seeds.ensures.kept;
+      notes = kept_notes _ c.requires.notes;
+      running = running-start _ s.accepted _ _ c.requires.graph c.requires.fresh h;
+      noted = noted-start _ _ _ _;
+    }
 
-pub step-requires : goal.step-requires
-step-requires c =
+pub step-requires-clause-steppable : goal.step-requires-clause-steppable
+step-requires-clause-steppable c =
     let s = rw c.rooted.view_is at c.rooted.invariant in
     let sets = rw c.rooted.view_is at c.rooted.inside.sets.sets in
     let r = rw (c.reached.view_is, c.requires.same) at c.reached.invariant in
-    rw (r.candidate_set, sets.eligible_set, c.threads.ensures) (steppable _ s.accepted _ _ c.requires.graph c.loop-k.invariant.running (rw c.len.ensures.count at c.loop-k-test.true) c.advance-end.ensures)
+    rw (r.candidate_set, sets.eligible_set, c.threads.ensures) (steppable _ s.accepted _ _ c.requires.graph c.loop-k.invariant.running (rw c.len.ensures.count at c.loop-k-test.true) c.advance-end.ensures.advanced)
 
 pub overflow_cast-lengths : goal.overflow_cast-lengths
 overflow_cast-lengths c =
@@ -49,10 +58,13 @@ loop-k-preserved c =
     let sets = rw c.rooted.view_is at c.rooted.inside.sets.sets in
     let v = c.loop-k.invariant in
     let r = rw (c.reached.view_is, c.requires.same) at c.reached.invariant in
-    let h = rw (r.candidate_set, sets.eligible_set, c.threads.ensures) at c.step.ensures in
+    let h = rw (r.candidate_set, sets.eligible_set, c.threads.ensures) at c.step.ensures.stepped in
     let ahead = rw c.len.ensures.count at c.loop-k-test.true in
     record {
-      running = running-next _ s.accepted _ _ c.requires.graph v.running ahead c.advance-end.ensures h;
+      met = kept-on v.met c.step.ensures.met;
+      list = kept-on v.list c.step.ensures.list;
+      notes = kept-notes-on v.notes c.advance-end.ensures.kept;
+      running = running-next _ s.accepted _ _ c.requires.graph v.running ahead c.advance-end.ensures.advanced h;
       noted = noted-next _ _ _ h.grown.grew c.len-listed.ensures.count v.running.takes (omega (arith, ahead, listed_few v.running.state, c.requires.room)) v.noted;
     }
 

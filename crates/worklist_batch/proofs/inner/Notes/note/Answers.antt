@@ -8,7 +8,7 @@ use Rattle.worklist_batch.proofs.inner.Notes.note.Goals as goal
 pub lower_entries-requires-clause-marks : goal.lower_entries-requires-clause-marks
 lower_entries-requires-clause-marks c =
     let sets = c.rooted.inside.sets.sets in
-    let n = c.fill.auto.slots ∙ (rw (← c.self.view_is, ← c.rooted.view_is) at c.requires.noting).len in
+    let n = c.fill.auto.slots ∙ (rw (← c.rooted.view_is) at c.requires.noting).len in
     record { size = n; sensitives = sensitive-size _ sets.sensitive_set ∙ sym n; eligibles = eligible-size _ sets.eligible_set ∙ sym n }
 
 pub lower_entries-requires-clause-small : goal.lower_entries-requires-clause-small
@@ -16,12 +16,12 @@ lower_entries-requires-clause-small c = all_small _ _ c.fill.ensures
 
 pub lower_entries-requires-clause-roots : goal.lower_entries-requires-clause-roots
 lower_entries-requires-clause-roots c =
-    rw (c.fill.auto.slots ∙ (rw (← c.self.view_is, ← c.rooted.view_is) at c.requires.noting).len) (roots-in _ c.rooted.invariant)
+    rw (c.fill.auto.slots ∙ (rw (← c.rooted.view_is) at c.requires.noting).len) (roots-in _ c.rooted.invariant)
 
-pub returns : goal.returns
-returns c =
+pub returns-clause-batch : goal.returns-clause-batch
+returns-clause-batch c =
     let s = rw c.rooted.view_is at c.rooted.invariant in
     let sets = rw c.rooted.view_is at c.rooted.inside.sets.sets in
-    let n = (rw (← c.self.view_is) at c.requires.noting).len in
+    let n = c.requires.noting.len in
     let lowest = rw (c.rooted.view_is, s.root, sets.sensitive_set, sets.eligible_set) at c.lower_entries.ensures in
     lowest-batch c.args.rooted.now _ _ _ _ (lowest.len ∙ c.fill.auto.slots ∙ n) (rw n at c.fill.ensures) lowest
