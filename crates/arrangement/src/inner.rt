@@ -11,6 +11,7 @@ ghost use Rattle.arrangement.specs.OfProject.{arranged_of, as_named};
 ghost use Rattle.arrangement.specs.inner.Rows.{Members, Fit};
 
 use current_columns::inner::{Columns, Current, ReadSpace, read_table};
+use lists::inner::copy_over;
 use merge_sort::inner::Keys;
 use module_keys::inner::find_keys;
 use refusal::test;
@@ -51,7 +52,7 @@ fn arrange(columns: &Columns, names: &[u8], numbers: &[u32], out: &mut [u32])
         places,
         names,
     };
-    out.copy_from_slice(columns.member);
+    copy_over(columns.member, out);
     sort_chunks(&keys, columns.member_chunk, out, columns.order.len());
 }
 

@@ -1,13 +1,14 @@
 -- A chunk's visit with the counters lent: what is known between the visits of the chunks that it loads.
 -- Assumes nothing.
-use Rattle.std.specs.Prelude.{◌≡◌, ℕ, suc, ◌+◌, ◌-◌, ◌<◌, ◌≤◌, List, [], ◌∷◌, length, get_or, take, drop}
+use Rattle.std.specs.Prelude.{◌≡◌, ℕ, false, suc, ◌+◌, ◌-◌, ◌<◌, ◌≤◌, List, [], ◌∷◌, length, get_or, take, drop}
 use mathlib.Core.Path.{refl, sym, ap, subst, ◌∙◌}
 use mathlib.Core.List.{foldl, flat_map}
 use native.Mathlib.Omega.{arith}
 use native.Mathlib.Nat.{le_antisymm}
 use lib.ListN.{length-set, length-drop}
 use lib.Seq.{get_or-take, get_or-drop, length-take-le}
-use Rattle.lists.specs.Words.{zeros, keep, count_from}
+use Rattle.lists.specs.Words.{is_zero, zeros, keep, count_from}
+use Rattle.lists.proofs.Laws.{get_d-in, mark-in, not-true}
 use Rattle.walk.specs.Walk.{St, everywhere, Visits}
 use Rattle.walk.proofs.Visits.{Grown, set-zeros}
 use Rattle.walk.proofs.Going.{Going, going_start, going-none, going-found, going_end, met-visited, left-visited, visited-grown, visited-keeps}
@@ -128,6 +129,14 @@ module _ {columns : VisitColumns} {member cmarks marks order hosts : List ℕ} {
       equal = d.1;
       going = going-found (loads_of columns) everywhere (ran_members columns member) (named rows) 0 _ b.going {u = record { marks = cs'; made = executing ms' os' hs' u.placed }} (named_some rows i o) d.0;
     }
+
+    -- a chunk that is loaded and was met is passed
+    pub between_met : i < length rows → (get_or rows i 0 ≡ missing → ⊥) → (get_or cs (get_or rows i 0) 0 ≡ 0 → ⊥) → Between columns member c marked marks order hosts h rows (i + 1) t cs ms os hs
+    between_met l o f =
+        let n = call_fits l o in
+        let x = get_or rows i 0 in
+        let met : is_zero (get_or cs x 1) ≡ false = ap is_zero (get_d-in cs x 1 0 n.chunk) ∙ not-true (is_zero (get_or cs x 0)) (mark-in (get_or cs x 0) f) in
+        between_more o (met-visited (loads_of columns) everywhere (ran_members columns member) _ x met, b.equal)
 
     -- past the last row, the chunk's own members can execute
     pub own-fits : Spans columns.member_starts.now (length member) (c + 1)

@@ -31,6 +31,10 @@ fn visit_actual_chunk(
         if load == ModuleIdx::MISSING {
             continue;
         }
+        // asked here too, since most rows of many chunks lead to one that was met
+        if chunk_marks[load as usize] != 0 {
+            continue;
+        }
         visit_actual_chunk(
             columns,
             member,

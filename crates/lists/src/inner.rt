@@ -1,4 +1,4 @@
-// Loops over one slice, for crates above.
+// Loops over one slice, and a copy, for crates above.
 ghost use Rattle.std.specs.Prelude.{◌≡◌, length, replicate};
 ghost use Rattle.lists.specs.Words.{ones};
 
@@ -7,6 +7,17 @@ pub fn fill(slots: &mut [u32], value: u32)
     ensures { slots.new ≡ replicate (length slots.old) value }
 {
     slots.fill(value);
+}
+
+// Copies a slice over another of its length. By a loop, since the library's method asks a controller's system for `memmove` where the compiler doesn't see
+// that the two are apart, as out of a record.
+pub fn copy_over(source: &[u32], target: &mut [u32])
+    requires { length target.old ≡ length source.now }
+    ensures { target.new ≡ source.now }
+{
+    for (place, value) in source.iter().enumerate() {
+        target[place] = *value;
+    }
 }
 
 // How many marks are not 0. Tried, slower: a chain that ends in `count`.

@@ -2,7 +2,7 @@
 -- Assumes nothing.
 use Rattle.std.proofs.Common.{arith, ◌<◌}
 use Rattle.lists.specs.Words.{zeros}
-use Rattle.chunk_visits.proofs.ChunkVisits.{passed, between_start, falls, call_fits, between_none, between_more, own-fits, run_fits, ended}
+use Rattle.chunk_visits.proofs.ChunkVisits.{passed, between_start, falls, call_fits, between_none, between_met, between_more, own-fits, run_fits, ended}
 use Rattle.chunk_visits.proofs.inner.+visit_actual_chunk.Goals as goal
 
 pub returns-in_default : goal.returns-in_default
@@ -13,6 +13,9 @@ loop-load-init t c = between_start c.requires c.in-Some.ensures
 
 pub loop-load-preserved-then-load : goal.loop-load-preserved-then-load
 loop-load-preserved-then-load t c = between_none c.requires c.in-Some.ensures c.loop-load.invariant c.if-load.true
+
+pub loop-load-preserved-then-chunk_marks-load-ne0 : goal.loop-load-preserved-then-chunk_marks-load-ne0
+loop-load-preserved-then-chunk_marks-load-ne0 t c = between_met c.requires c.in-Some.ensures c.loop-load.invariant c.loop-load-test.true c.if-load.false c.if-chunk_marks-load-ne0.true
 
 pub visit_actual_chunk-requires : goal.visit_actual_chunk-requires
 visit_actual_chunk-requires t c =
