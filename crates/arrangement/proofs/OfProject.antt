@@ -8,6 +8,7 @@ use Rattle.lists.proofs.Laws.{both, length-map-up_to}
 use Rattle.tables.specs.Project.{Project}
 use Rattle.tables.specs.Readings.{modules, chunks}
 use Rattle.tables.specs.Accepted.{Accepted}
+use Rattle.refusal.specs.Reading.{Read}
 use Rattle.table.specs.declared.Table.{Table}
 use Rattle.table.specs.Table.{read, current, lent_as}
 use Rattle.table.specs.Lending.{as_lent, written}
@@ -119,23 +120,39 @@ module _ (t : Table) (passed : (as_lent t).refused ≡ None) where
   written_accepted = lent-accepted t.bounds.now t.columns.now t.names.now (written t) passed
 
   module _ {p : Project} (e : p ≡ current (written t)) where
-    read-accepted : Accepted p
-    read-accepted = rw e (lent-current t.bounds.now t.columns.now t.names.now (written t) passed)
+    current-accepted : Accepted p
+    current-accepted = rw e (lent-current t.bounds.now t.columns.now t.names.now (written t) passed)
 
     -- without names, as it is
-    pub read_unnamed : length t.names.now ≡ 0 → p ≡ (as_named t).project
-    read_unnamed n = e ∙ sym (unnamed (current (written t)) t.names.now n)
+    pub current_unnamed : length t.names.now ≡ 0 → p ≡ (as_named t).project
+    current_unnamed n = e ∙ sym (unnamed (current (written t)) t.names.now n)
 
     module _ (some : length t.names.now ≡ 0 → ⊥) where
       -- with names, which are of the form, its members arranged
-      pub read-names : names_fit (modules p) t.names.now ≡ true
-      read-names = in-fit (modules p) t.names.now (rw e (lent-fit t.bounds.now t.columns.now t.names.now (written t) passed)) some
+      pub current-names : names_fit (modules p) t.names.now ≡ true
+      current-names = in-fit (modules p) t.names.now (rw e (lent-fit t.bounds.now t.columns.now t.names.now (written t) passed)) some
 
-      pub read-arranged : record p { member = arranged_of p t.names.now } ≡ (as_named t).project
-      read-arranged = arranged-named p t.names.now some ∙ ap (λ (q : Project). named q t.names.now) e
+      pub current-arranged : record p { member = arranged_of p t.names.now } ≡ (as_named t).project
+      current-arranged = arranged-named p t.names.now some ∙ ap (λ (q : Project). named q t.names.now) e
 
-      pub read-arranged-accepted : Accepted (record p { member = arranged_of p t.names.now })
-      read-arranged-accepted = rw (arranged-named p t.names.now some) (named-accepted p read-accepted t.names.now)
+      pub current-arranged-accepted : Accepted (record p { member = arranged_of p t.names.now })
+      current-arranged-accepted = rw (arranged-named p t.names.now some) (named-accepted p current-accepted t.names.now)
 
--- all of these
-pub ruleset reading = (written_accepted, read_unnamed, read-names, read-arranged, read-arranged-accepted)
+-- the same of a project that is read from it
+
+module _ (t : Table) {p : Project} (r : Read (as_lent t) p) where
+  pub read_unnamed : length t.names.now ≡ 0 → Read (as_named t) p
+  read_unnamed n = record { passed = r.passed; project = current_unnamed t r.passed r.project n }
+
+  module _ (some : length t.names.now ≡ 0 → ⊥) where
+    pub read-names : names_fit (modules p) t.names.now ≡ true
+    read-names = current-names t r.passed r.project some
+
+    pub read-arranged : Read (as_named t) (record p { member = arranged_of p t.names.now })
+    read-arranged = record { passed = r.passed; project = current-arranged t r.passed r.project some }
+
+    pub read-arranged-accepted : Accepted (record p { member = arranged_of p t.names.now })
+    read-arranged-accepted = current-arranged-accepted t r.passed r.project some
+
+-- what the code's proofs search with
+pub ruleset reading = (written_accepted, current_unnamed, current-names, current-arranged, current-arranged-accepted)

@@ -4,7 +4,6 @@ ghost use Rattle.tables.specs.Project.{missing};
 ghost use Rattle.tables.specs.Refusal.{row_limit};
 ghost use Rattle.marks.specs.Steps.{looked};
 ghost use Rattle.request_edges.specs.inner.Edges.{numbered, choice, chosen, Rows, Room, Addable, Adds};
-ghost use Rattle.request_edges.specs.inner.Lent.{edges_of, Fitting, EdgesKept};
 
 use marks::inner::look_up;
 use table::ROW_LIMIT;
@@ -54,15 +53,19 @@ fn looked_up<'a>(column: &[u32], table: &[u32], space: &'a mut [u32; ROW_LIMIT])
     numbers
 }
 
-// A list of edges that grows in two slices. Contracts see their sources and targets, and how many there is room for, by `edges_of`.
+// A list of edges that grows in two slices. Contracts see their sources and targets, and how many there is room for, by `edges_of`; that they fit is a fact of the type.
 #[derive(Drop)]
 pub struct EdgeList<'a, 'b> {
     pub from: &'a mut [u32],
     pub to: &'b mut [u32],
     pub count: usize,
+    pub ghost same: { length to.now ≡ length from.now },
+    pub ghost within: { count ≤ length from.now },
 }
 
 impl<'a, 'b> EdgeList<'a, 'b> {
+    ghost use Rattle.request_edges.specs.inner.Lent.{edges_of, Fitting, EdgesKept};
+
     // An empty one in two slices.
     pub fn new(from: &'a mut [u32], to: &'b mut [u32]) -> EdgeList<'a, 'b>
         requires { length to.old ≡ length from.old }
@@ -76,7 +79,6 @@ impl<'a, 'b> EdgeList<'a, 'b> {
 
     // Where they come from.
     pub fn sources<'c>(&'c self) -> &'c [u32]
-        requires { Fitting self.now }
         ensures { result.now ≡ (edges_of self.now).from }
     {
         &self.from[..self.count]
@@ -84,7 +86,6 @@ impl<'a, 'b> EdgeList<'a, 'b> {
 
     // Where they lead to.
     pub fn targets<'c>(&'c self) -> &'c [u32]
-        requires { Fitting self.now }
         ensures targets { result.now ≡ (edges_of self.now).to }
         ensures same { length (edges_of self.now).to ≡ length (edges_of self.now).from }
     {
@@ -93,7 +94,6 @@ impl<'a, 'b> EdgeList<'a, 'b> {
 
     // Adds an edge from u to v.
     pub fn push(&mut self, u: u32, v: u32)
-        requires fitting { Fitting self.old }
         requires room { Room 1 (edges_of self.old) }
         ensures kept { EdgesKept self.old self.new }
         ensures edge { edges_of self.new ≡ record { from = (edges_of self.old).from ++ u ∷ []; to = (edges_of self.old).to ++ v ∷ []; room = (edges_of self.old).room } }
@@ -107,7 +107,6 @@ impl<'a, 'b> EdgeList<'a, 'b> {
     // Adds an edge for each row of two columns that both have a row number: from the first one's place after `a` to the second one's after `b`.
     #[tactic(auto, using(crate::proofs::Adding::adding_steps))]
     pub fn add(&mut self, sources: &[u32], targets: &[u32], a: u32, b: u32)
-        requires fitting { Fitting self.old }
         requires rows { Addable sources.now targets.now a b (edges_of self.old) }
         ensures kept { EdgesKept self.old self.new }
         ensures adds { Adds (Rows sources.now a targets.now b) (length sources.now) (edges_of self.old) (edges_of self.new) }
@@ -125,7 +124,6 @@ impl<'a, 'b> EdgeList<'a, 'b> {
 
     // The same, where the second column's numbers are looked up in a table.
     pub fn add_to_looked(&mut self, sources: &[u32], column: &[u32], table: &[u32], a: u32, b: u32)
-        requires fitting { Fitting self.old }
         requires rows { Addable sources.now column.now a b (edges_of self.old) }
         requires few { length column.now ≤ row_limit }
         ensures kept { EdgesKept self.old self.new }
@@ -145,7 +143,6 @@ impl<'a, 'b> EdgeList<'a, 'b> {
         a: u32,
         b: u32,
     )
-        requires fitting { Fitting self.old }
         requires rows { Addable column.now targets.now a b (edges_of self.old) }
         requires few { length column.now ≤ row_limit }
         ensures kept { EdgesKept self.old self.new }
@@ -166,7 +163,6 @@ impl<'a, 'b> EdgeList<'a, 'b> {
         a: u32,
         b: u32,
     )
-        requires fitting { Fitting self.old }
         requires rows { Addable first.now second.now a b (edges_of self.old) }
         requires few { length first.now ≤ row_limit }
         ensures kept { EdgesKept self.old self.new }

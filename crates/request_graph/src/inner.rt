@@ -4,7 +4,7 @@ ghost use Rattle.tables.specs.Readings.{modules};
 ghost use Rattle.chunk_cycles.specs.Cycles.{labels_of};
 ghost use Rattle.wrap_rules.specs.inner.Passes.{candidate_marks};
 ghost use Rattle.request_edges.specs.inner.Edges.{Room, Adds};
-ghost use Rattle.request_edges.specs.inner.Lent.{edges_of, Fitting, EdgesKept};
+ghost use Rattle.request_edges.specs.inner.Lent.{edges_of, EdgesKept};
 ghost use Rattle.request_graph.specs.inner.Requests.{ImportRows, ComponentEdge, ImportEdge, ChainEdge, ReadEdge, readers_of, SymbolEdge, Requests};
 
 use current_columns::inner::Current;
@@ -36,7 +36,6 @@ pub const EDGES: usize = 155648;
 #[tactic(auto, unfolding(current_columns::specs::AsProject::project))]
 fn add_component_edges(labelled: &LabelSets, numbers: &[u32], asked: &[u32], edges: &mut EdgeList)
     requires modules { length numbers.now ≡ modules labelled.now }
-    requires fitting { Fitting edges.old }
     requires room { Room 20480 (edges_of edges.old) }
     ensures kept { EdgesKept edges.old edges.new }
     ensures adds { Adds (ComponentEdge labelled.now (labels_of labelled.now) numbers.now asked.now) 20480 (edges_of edges.old) (edges_of edges.new) }
@@ -59,7 +58,6 @@ fn add_import_edges(
 )
     requires imports { ImportRows current.now from.now to.now }
     requires modules { length numbers.now ≡ modules current.now }
-    requires fitting { Fitting edges.old }
     requires room { Room 36864 (edges_of edges.old) }
     ensures kept { EdgesKept edges.old edges.new }
     ensures adds { Adds (ImportEdge current.now numbers.now) 36864 (edges_of edges.old) (edges_of edges.new) }
@@ -73,7 +71,6 @@ fn add_import_edges(
 // Adds the first edges of rule (iv): from a module to the chains of its symbols, and of those with a link that it owns.
 #[tactic(auto, unfolding(current_columns::specs::AsProject::project))]
 fn add_chain_edges(current: &Current, symbols: &[u32], edges: &mut EdgeList)
-    requires fitting { Fitting edges.old }
     requires room { Room 32768 (edges_of edges.old) }
     requires symbols { length symbols.now ≡ length current.now.owner }
     ensures kept { EdgesKept edges.old edges.new }
@@ -114,7 +111,6 @@ fn find_readers(reached: &ReachedSet, readers: &mut [u32])
 // Adds the last edges of rule (iv): from the chain of a symbol, or of its canonical, to the readers of the references that name it.
 #[tactic(auto, unfolding(current_columns::specs::AsProject::project))]
 fn add_read_edges(current: &Current, readers: &[u32], edges: &mut EdgeList)
-    requires fitting { Fitting edges.old }
     requires room { Room 65536 (edges_of edges.old) }
     requires readers { length readers.now ≡ length current.now.reference_statement }
     ensures kept { EdgesKept edges.old edges.new }
@@ -134,7 +130,6 @@ fn add_read_edges(current: &Current, readers: &[u32], edges: &mut EdgeList)
 // Adds the edges of rule (iv).
 #[tactic(auto, unfolding(current_columns::specs::AsProject::project))]
 fn add_symbol_edges(reached: &ReachedSet, edges: &mut EdgeList)
-    requires fitting { Fitting edges.old }
     requires room { Room 98304 (edges_of edges.old) }
     ensures kept { EdgesKept edges.old edges.new }
     ensures adds { Adds (SymbolEdge reached.now (candidate_marks reached.now)) 98304 (edges_of edges.old) (edges_of edges.new) }
@@ -161,7 +156,6 @@ pub fn request_edges(
 )
     requires same { reached.now ≡ labelled.now }
     requires imports { ImportRows labelled.now from.now to.now }
-    requires fitting { Fitting edges.old }
     requires room { Room 155648 (edges_of edges.old) }
     ensures kept { EdgesKept edges.old edges.new }
     ensures requests { Requests labelled.now (edges_of edges.old) (edges_of edges.new) }

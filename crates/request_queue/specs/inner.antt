@@ -1,3 +1,4 @@
 -- What only inner contracts and proofs speak of.
 pub mod Growing
 pub mod Lent
+pub mod Once

@@ -1,22 +1,26 @@
 // For crates above, on tested tables.
 ghost use Rattle.std.specs.Prelude.{◌≡◌, ◌<◌, ◌≤◌, [], length, slice_index, replicate, drop};
 ghost use Rattle.strong_connection.specs.inner.Graph.{successors};
-ghost use Rattle.request_queue.specs.inner.Growing.{node_limit, Listed, among, Grown, Along, Reached};
-ghost use Rattle.request_queue.specs.inner.Lent.{listing, Queued, Kept};
+ghost use Rattle.request_queue.specs.inner.Once.{standing-once};
+ghost use Rattle.request_queue.specs.inner.Growing.{node_limit, Standing, Listed, among, Grown, Along, Reached};
 
 use strong_connection::inner::Digraph;
 
 // A list of places that grows in a slice, each member once. Contracts see it, and the marks, by `listing`: a member's mark is one more than its place in the list, every other is 0.
 // Its slices are the caller's, so that what is promised of the list is promised of them too: with an `impl Model`, or one lifetime for both, the check loses them.
+// That they hold a list is a fact of the type.
 // The fields are open here and in the other values that grow in slices, so that any that are right can be lent as one.
 #[derive(Drop)]
 pub struct Queue<'a, 'b> {
     pub marks: &'a mut [u32],
     pub queue: &'b mut [u32],
     pub count: usize,
+    pub ghost standing: { Standing marks.now queue.now count } by { standing-once marks.now queue.now count },
 }
 
 impl<'a, 'b> Queue<'a, 'b> {
+    ghost use Rattle.request_queue.specs.inner.Lent.{listing, Queued, Kept};
+
     // An empty one in two slices.
     pub fn new(marks: &'a mut [u32], queue: &'b mut [u32]) -> Queue<'a, 'b>
         requires room { length queue.old ≡ length marks.old }
@@ -36,7 +40,6 @@ impl<'a, 'b> Queue<'a, 'b> {
 
     // How many are listed.
     pub fn len(&self) -> usize
-        requires { Queued self.now }
         ensures count { result ≡ length (listing self.now).list }
         ensures listed { Listed (listing self.now).marks (listing self.now).list }
     {
@@ -52,7 +55,6 @@ impl<'a, 'b> Queue<'a, 'b> {
 
     // Those listed from place k on.
     pub fn since<'c>(&'c self, k: usize) -> &'c [u32]
-        requires queued { Queued self.now }
         requires from { k ≤ length (listing self.now).list }
         ensures { result.now ≡ drop k (listing self.now).list }
     {
@@ -61,7 +63,6 @@ impl<'a, 'b> Queue<'a, 'b> {
 
     // The one at place k.
     pub fn at(&self, k: usize) -> u32
-        requires queued { Queued self.now }
         requires place { k < length (listing self.now).list }
         ensures member { result ≡ slice_index (listing self.now).list k }
         ensures place { result < length (listing self.now).marks }
@@ -72,7 +73,6 @@ impl<'a, 'b> Queue<'a, 'b> {
 
     // Lists x where it isn't listed yet.
     pub fn push(&mut self, x: u32)
-        requires queued { Queued self.old }
         requires place { x < length (listing self.old).marks }
         ensures kept { Kept self.old self.new }
         ensures grown { Grown (λ y. y ≡ x) (listing self.old) (listing self.new) }
@@ -88,7 +88,6 @@ impl<'a, 'b> Queue<'a, 'b> {
 
     // Lists what x leads to.
     fn follow(&mut self, graph: &Digraph, x: u32)
-        requires queued { Queued self.old }
         requires size { length (listing self.old).marks ≡ graph.now.places }
         requires place { x < graph.now.places }
         ensures kept { Kept self.old self.new }
@@ -101,7 +100,6 @@ impl<'a, 'b> Queue<'a, 'b> {
 
     // Lists all that x leads to by one or more edges; what is listed before is closed along the edges.
     pub fn reach(&mut self, graph: &Digraph, x: u32)
-        requires queued { Queued self.old }
         requires size { length (listing self.old).marks ≡ graph.now.places }
         requires place { x < graph.now.places }
         requires along { Along (successors graph.now) (listing self.old).marks }

@@ -2,9 +2,9 @@
 ghost use Rattle.std.specs.Prelude.{◌≡◌, ◌≤◌, length};
 ghost use Rattle.tables.specs.Readings.{modules};
 ghost use Rattle.tables.specs.Accepted.{Below};
-ghost use Rattle.request_queue.specs.inner.Lent.{listing, Queued, Kept};
+ghost use Rattle.request_queue.specs.inner.Lent.{listing, Kept};
 ghost use Rattle.worklist_taking.specs.inner.State.{GraphOf};
-ghost use Rattle.worklist_batch.specs.inner.Lent.{notes_of, NotesLed, NotesKept};
+ghost use Rattle.worklist_batch.specs.inner.Lent.{notes_of, NotesKept};
 ghost use Rattle.worklist.specs.inner.Taking.{Fresh, TakenAll};
 
 use request_queue::inner::Queue;
@@ -29,9 +29,6 @@ pub fn take_all(
     requires same { reached.now ≡ rooted.now }
     requires graph { GraphOf rooted.now graph.now }
     requires seeds { Below (modules rooted.now) seeds.now }
-    requires met { Queued met.old }
-    requires list { Queued list.old }
-    requires notes { NotesLed notes.old }
     requires fresh { Fresh rooted.now (listing met.old) (listing list.old) (notes_of notes.old) }
     requires room { modules rooted.now ≤ length lengths.old }
     ensures met { Kept met.old met.new }

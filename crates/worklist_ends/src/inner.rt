@@ -4,14 +4,13 @@ ghost use Rattle.lists.specs.Words.{has, marks_of};
 ghost use Rattle.tables.specs.Accepted.{Below};
 ghost use Rattle.tables.specs.Refusal.{module_limit};
 ghost use Rattle.request_queue.specs.inner.Growing.{Grown, given, chosen};
-ghost use Rattle.request_queue.specs.inner.Lent.{listing, Queued, Kept};
+ghost use Rattle.request_queue.specs.inner.Lent.{listing, Kept};
 ghost use Rattle.worklist_ends.specs.inner.Ends.{ListWritten};
 
 use request_queue::inner::Queue;
 
 // Lists the eligible seeds.
 pub fn list_seeds(seeds: &[u32], eligible: &[u32], list: &mut Queue)
-    requires queued { Queued list.old }
     requires seeds { Below (length eligible.now) seeds.now }
     requires eligible { length (listing list.old).marks ≡ length eligible.now }
     ensures kept { Kept list.old list.new }

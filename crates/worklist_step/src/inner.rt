@@ -3,7 +3,7 @@ ghost use Rattle.std.specs.Prelude.{◌≡◌, ◌<◌, ◌≤◌, length};
 ghost use Rattle.tables.specs.Readings.{rows_of};
 ghost use Rattle.tables.specs.Refusal.{module_limit};
 ghost use Rattle.request_queue.specs.inner.Growing.{Grown, given, chosen};
-ghost use Rattle.request_queue.specs.inner.Lent.{listing, Queued, Kept};
+ghost use Rattle.request_queue.specs.inner.Lent.{listing, Kept};
 ghost use Rattle.worklist_step.specs.inner.Step.{nodes, Half, Given, Gives, Steppable, Stepped};
 
 use request_graph::inner::{DEPENDENT, LABEL, LEAD, REQUEST};
@@ -63,7 +63,6 @@ fn module_of(v: u32, marks: &[u32], candidates: &[u32]) -> Option<u32>
 fn list_requests(part: &[u32], marks: &[u32], candidates: &[u32], list: &mut Queue)
     requires places { length marks.now ≡ nodes }
     requires few { length candidates.now ≤ module_limit }
-    requires queued { Queued list.old }
     requires size { length (listing list.old).marks ≡ length candidates.now }
     ensures kept { Kept list.old list.new }
     ensures grown { Grown (given (Gives marks.now candidates.now) part.now) (listing list.old) (listing list.new) }
@@ -81,7 +80,6 @@ fn list_asked(asked: &Threads, eligible: &[u32], list: &mut Queue, at: u32)
     requires place { at < asked.now.places }
     requires few { length asked.now.values ≤ module_limit }
     requires eligible { length eligible.now ≡ length asked.now.values }
-    requires queued { Queued list.old }
     requires size { length (listing list.old).marks ≡ length asked.now.values }
     ensures kept { Kept list.old list.new }
     ensures grown { Grown (given (chosen eligible.now) (rows_of asked.now.values at)) (listing list.old) (listing list.new) }
@@ -104,8 +102,6 @@ pub fn step(
     list: &mut Queue,
     k: usize,
 )
-    requires met { Queued met.old }
-    requires list { Queued list.old }
     requires steppable { Steppable graph.now candidates.now eligible.now asked.now (listing met.old) (listing list.old) k }
     ensures met { Kept met.old met.new }
     ensures list { Kept list.old list.new }

@@ -26,19 +26,19 @@ loop-k-init c =
     let sets = rw c.rooted.view_is at c.rooted.inside.sets.sets in
     let h = rw sets.eligible_set at c.list_seeds.ensures.grown in
     record {
-      met = kept_none _ c.requires.met;
+      met = kept_none _ c.args.met.now.standing;
       list = c.list_seeds.ensures.kept;
-      notes = kept_notes _ c.requires.notes;
+      notes = kept_notes _ c.args.notes.now.led;
       running = running-start _ s.accepted _ _ c.requires.graph c.requires.fresh h;
       noted = noted-start _ _ _ _;
     }
 
-pub step-requires-clause-steppable : goal.step-requires-clause-steppable
-step-requires-clause-steppable c =
+pub step-requires : goal.step-requires
+step-requires c =
     let s = rw c.rooted.view_is at c.rooted.invariant in
     let sets = rw c.rooted.view_is at c.rooted.inside.sets.sets in
     let r = rw (c.reached.view_is, c.requires.same) at c.reached.invariant in
-    rw (r.candidate_set, sets.eligible_set, c.threads.ensures) (steppable _ s.accepted _ _ c.requires.graph c.loop-k.invariant.running (rw c.len.ensures.count at c.loop-k-test.true) c.advance-end.ensures.advanced)
+    rw (r.candidate_set, sets.eligible_set, c.threads.ensures) (record { steppable = steppable _ s.accepted _ _ c.requires.graph c.loop-k.invariant.running (rw c.len.ensures.count at c.loop-k-test.true) c.advance-end.ensures.advanced })
 
 pub overflow_cast-lengths : goal.overflow_cast-lengths
 overflow_cast-lengths c =

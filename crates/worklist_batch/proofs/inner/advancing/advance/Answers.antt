@@ -6,7 +6,7 @@ use lib.Seq.{get_or-drop}
 use Rattle.rule_sets.proofs.Sizes.{sensitive-size, candidate-size}
 use Rattle.request_queue.specs.inner.Lent.{listing}
 use Rattle.worklist_batch.proofs.Noting.{none-sensitive, none_open}
-use Rattle.worklist_batch.proofs.inner.advance.Goals as goal
+use Rattle.worklist_batch.proofs.inner.advancing.advance.Goals as goal
 
 pub any_sensitive-requires : goal.any_sensitive-requires
 any_sensitive-requires c =
